@@ -1,0 +1,38 @@
+use Rattle.inty.proofs.Laws as law
+use native.Mathlib.Omega.{arith}
+use borrow.Author.Needs.{needs}
+use Rattle.inty.proofs.div_ten.Statement.{statement}
+use Rattle.inty.proofs.div_ten.Tie as tie
+use Rattle.inty.proofs.div_ten.Reads as reads
+use Rattle.inty.proofs.div_ten.Lts as lts
+
+returns : tie.Need-returns
+returns c = search (needs, law.small-tenth, law.small-rest)
+
+mul-mid : tie.Need-mul-mid
+mul-mid c = search needs
+
+add-mid : tie.Need-add-mid
+add-mid c =
+    let x = c .before .before .before .before .before .args .x in
+    record { fits = law.mid10-fits (x .hi) (x .lo) (omega arith) }
+
+mul-low : tie.Need-mul-low
+mul-low c = search needs
+
+add-low : tie.Need-add-low
+add-low c = search needs
+
+mul-lo : tie.Need-mul-lo
+mul-lo c = search needs
+
+add-lo : tie.Need-add-lo
+add-lo c = search needs
+
+returns-2 : tie.Need-returns-2
+returns-2 c =
+    let x = c .before .before .before .before .before .before .args .x in
+    (law.tenth (x .hi) (x .lo), law.tenth-rest (x .hi) (x .lo))
+
+pub div-ten-spec : {M : Type 1} → statement M
+div-ten-spec = tie.close (tie.spec returns mul-mid add-mid mul-low add-low mul-lo add-lo returns-2)
