@@ -1,0 +1,3 @@
+pub mod Read
+pub mod Shown
+pub mod Marked
