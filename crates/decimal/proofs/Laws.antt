@@ -14,6 +14,7 @@ use borrow.Author.Tests.{lt-ltb, le-ltb, le-leb, lt-leb, ltb-false, eqb-true, eq
 use Rattle.words.specs.Writes.{writes, writes-snoc}
 use Rattle.decimal.specs.Digits.{decimalIn, decimal}
 use Rattle.decimal.specs.Placed.{Placed, placed}
+use Rattle.decimal.specs.declared.Written.{Written}
 use Rattle.decimal.specs.declared.Written.the-variants.{End, Short}
 
 -- any fuel above n gives the same
@@ -157,3 +158,10 @@ low-half n p out at e = e ∙ ap (λ (k : ℕ). placed out at (decimal k)) (is n
   where
     is : (n : ℕ) → 0 * 18446744073709551616 + n ≡ n
     is n = omega arith
+
+-- for a caller that has room: the answer is where the text ends
+pub has-room : (out : List ℕ) (at : ℕ) (text : List ℕ) (w : Written) (l : List ℕ) → at + length text ≤ length out → record { answer = w; bytes = l } ≡ placed out at text
+    → (w ≡ End (at + length text)) × (l ≡ writes out at text)
+has-room out at text w l h e =
+    let f : _≡_ {A = Placed} (record { answer = w; bytes = l }) (record { answer = End (at + length text); bytes = writes out at text }) = e ∙ simp (le-leb (at + length text) (length out) h) in
+    (ap (λ (p : Placed). p .answer) f, ap (λ (p : Placed). p .bytes) f)
