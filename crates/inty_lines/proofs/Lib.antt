@@ -1,2 +1,4 @@
 pub mod Short
 pub mod Laws
+pub mod Stream
+pub mod Trip
