@@ -276,6 +276,9 @@ module _ (long : Bool) (line : List ℕ) where
   pub last-room : (m : ℕ) → 2 * (length line + 1) ≤ m → 0 + length (answer (record { long = long; line = line })) ≤ m
   last-room m h = omega (arith, answer-short (record { long = long; line = line }))
 
+  pub last-within : (m n : ℕ) → 2 * (length line + 1) ≤ m → n ≡ 0 + length (answer (record { long = long; line = line })) → n ≤ m
+  last-within m n h e = rw e (last-room m h)
+
   module _ (e : long ≡ false) (f : length line ≡ 0) where
     no-last : lastLine (record { long = long; line = line }) ≡ []
     unfolding lastLine

@@ -138,7 +138,8 @@ pub fn keep(buf: &mut [u8], at: usize, end: usize, long: bool) -> Carry
 // Writes the answer to a last line without a newline to the start of out, if it has a byte, and returns where it ends.
 pub fn last_line(line: &[u8], long: bool, out: &mut [u8]) -> usize
     requires { ⌜ 2 * (length (now line) + 1) ≤ length (now out) ⌝ }
-    ensures { λ e. ⌜ (e ≡ length (lastLine (record { long = long; line = now (line .entry) }))) × (now (out .exit) ≡ writes (now (out .entry)) 0 (lastLine (record { long = long; line = now (line .entry) }))) ⌝ }
+    ensures within { λ e. ⌜ e ≤ length (now (out .entry)) ⌝ }
+    ensures answered { λ e. ⌜ (e ≡ length (lastLine (record { long = long; line = now (line .entry) }))) × (now (out .exit) ≡ writes (now (out .entry)) 0 (lastLine (record { long = long; line = now (line .entry) }))) ⌝ }
 {
     if long {
         return answer_line(line, long, out, 0);

@@ -13,7 +13,7 @@ same-length : tie.Need-same-length
 same-length c = search needs
 
 returns : tie.Need-returns
-returns c = search (needs, law.long-ends, law.long-puts)
+returns c = search (needs, law.last-within, law.long-ends, law.long-puts)
 
 returns-2 : tie.Need-returns-2
 returns-2 c = search (needs, law.last-none, law.last-stays)
@@ -25,7 +25,7 @@ same-length-2 : tie.Need-same-length-2
 same-length-2 c = search needs
 
 returns-3 : tie.Need-returns-3
-returns-3 c = search (needs, law.some-ends, law.some-puts)
+returns-3 c = search (needs, law.last-within, law.some-ends, law.some-puts)
 
 pub last-line-spec : {M : Type 1} → statement M
 last-line-spec =
