@@ -6,7 +6,7 @@ use mathlib.Core.Bool.{Bool, true, false}
 use Prim.Native.Nat.{ℕ, suc, _+_, _-_, _*_, _/_, _%_, _^_, _≤_, _<_}
 use native.Mathlib.Nat.{suc-mul, add-mul, mul-comm, mul-assoc, mul-le-mul-right, mod-lt}
 use native.Mathlib.Omega.{arith}
-use lib.Dec.{ltb, leb, eqb, lit<}
+use lib.Dec.{ltb, eqb, lit<}
 use lib.Arith.{digits-div, digits-mod, digits-lt}
 use mathlib.Core.Option.{none, some}
 use Rattle.inty.specs.Value.{bounded}

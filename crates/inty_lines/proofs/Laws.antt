@@ -2,22 +2,22 @@
 use mathlib.Core.Path.{_≡_, refl, sym, ap, _∙_}
 use mathlib.Core.Bool.{Bool, true, false}
 use mathlib.Core.List.{List, [], _∷_, _++_, append-assoc, append-nil}
-use mathlib.Core.Option.{Option, none, some}
+use mathlib.Core.Option.{Option, none}
 use mathlib.Core.Logic.{inr}
-use Prim.Native.Nat.{ℕ, zero, suc, _+_, _-_, _*_, _^_, _≤_, _<_}
+use Prim.Native.Nat.{ℕ, suc, _+_, _-_, _*_, _^_, _≤_, _<_}
 use native.Mathlib.Numerals.{add-one}
 use native.Mathlib.Nat.{add-zero, add-assoc, zero-add}
 use native.Mathlib.Omega.{arith}
 use lib.ListN.{length, getD, set, drop, take, drop-of-length-le, length-drop, length-append}
 use lib.Seq.{drop-cons, drop-drop, getD-drop, length-take-le}
-use lib.Dec.{ltb, eqb}
+use lib.Dec.{eqb}
 use mir.Syntax.{w64}
 use mir.Val.{Fits}
 use borrow.Author.Tests.{lt-ltb, le-ltb, eq-eqb, ne-eqb}
 use Rattle.words.specs.Writes.{writes, writes-snoc, writes-other, writes-take, writes-append, length-writes, run-writes}
 use Rattle.words.specs.Tab.{run-part}
 use Rattle.decimal.specs.Digits.{decimal}
-use Rattle.decimal.specs.Placed.{Placed, placed}
+use Rattle.decimal.specs.Placed.{placed}
 use Rattle.decimal.specs.declared.Written.{Written}
 use Rattle.decimal.specs.declared.Written.the-variants.{End, Short}
 use Rattle.decimal.proofs.Laws.{has-room}
@@ -154,7 +154,7 @@ module _ (s l : List ℕ) (at end : ℕ) (f : at ≤ end) (g : end ≤ length s)
       let d : length (drop at s) ≡ length s - at = length-drop at s in
       let t : length (take i (drop at s)) ≡ i = length-take-le i (drop at s) (omega arith) in
       let v : getD l (at + i) 0 ≡ getD (drop at s) i 0 =
-          ap (λ (x : List ℕ). getD x (at + i) 0) e ∙ (writes-other s 0 (take i (drop at s)) (at + i) (inr (omega arith)) ∙ sym (getD-drop at s i 0)) in
+      ap (λ (x : List ℕ). getD x (at + i) 0) e ∙ (writes-other s 0 (take i (drop at s)) (at + i) (inr (omega arith)) ∙ sym (getD-drop at s i 0)) in
       rw (v, e) (rw zero-add at (writes-take s 0 (drop at s) i (omega arith)))
 
   pub shift-end : (i : ℕ) → i ≤ end - at → end - at ≤ i → l ≡ writes s 0 (take i (drop at s)) → l ≡ writes s 0 (take (end - at) (drop at s))

@@ -3,16 +3,15 @@ use mathlib.Core.Path.{_≡_, refl, sym, ap, _∙_}
 use mathlib.Core.Bool.{Bool, true, false, _||_}
 use mathlib.Core.List.{List, [], _∷_}
 use mathlib.Core.Option.{Option, none, some}
-use Prim.Native.Nat.{ℕ, zero, suc, _+_, _-_, _*_, _^_, _≤_, _<_}
-use native.Mathlib.Nat.{le-trans, lt-of-lt-of-le, mul-le-mul-right, mul-assoc, mul-comm, one-mul, mul-one, pow-suc}
+use Prim.Native.Nat.{ℕ, suc, _+_, _-_, _*_, _^_, _≤_, _<_}
+use native.Mathlib.Nat.{lt-of-lt-of-le, mul-le-mul-right, mul-assoc, mul-comm, one-mul, mul-one, pow-suc}
 use native.Mathlib.Omega.{arith}
 use lib.ListN.{length, length-append}
-use lib.Dec.{ltb, leb, eqb}
-use borrow.Author.Tests.{leb-true}
+use lib.Dec.{ltb, eqb}
 use Rattle.inty.specs.Value.{bounded}
 use Rattle.decimal.specs.Digits.{decimal}
 use Rattle.decimal.proofs.Laws.{short}
-use Rattle.keys.specs.Read.{isK, isDigit, strip, sign, number, digits, overflow, readKey}
+use Rattle.keys.specs.Read.{isK, isDigit, strip, sign, number, digits, overflow}
 use Rattle.keys.proofs.Laws.{digit-to}
 use Rattle.inty_lines.specs.Lines.{Begun, textOf, answerOf, lineRead, answer}
 

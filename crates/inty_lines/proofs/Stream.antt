@@ -2,12 +2,12 @@
 use mathlib.Core.Path.{_≡_, refl, sym, ap, _∙_}
 use mathlib.Core.Bool.{Bool, true, false}
 use mathlib.Core.List.{List, [], _∷_, _++_, append-assoc}
-use Prim.Native.Nat.{ℕ, suc, _+_, _<_, _≤_}
+use Prim.Native.Nat.{ℕ, suc, _<_}
 use native.Mathlib.Omega.{arith}
 use lib.ListN.{length, length-append}
 use lib.Dec.{eqb, ltb}
-use borrow.Author.Tests.{lt-ltb, ltb-true, eqb-false, ne-eqb}
-use Rattle.inty_lines.specs.Lines.{Begun, fresh, answer, answerOf, lineRead, before, Run, prepend, runs, lastLine, total, kept, piecewise, concat}
+use borrow.Author.Tests.{lt-ltb, ltb-true}
+use Rattle.inty_lines.specs.Lines.{Begun, fresh, answer, lineRead, before, Run, prepend, runs, lastLine, total, kept, piecewise, concat}
 use Rattle.inty_lines.proofs.Laws.{runs-none}
 
 -- a piece, and then the rest of the stream

@@ -2,13 +2,12 @@
 use mathlib.Core.Path.{_≡_, refl, sym, ap, _∙_}
 use mathlib.Core.Bool.{Bool, true, false}
 use mathlib.Core.List.{List, [], _∷_, _++_}
-use mathlib.Core.Option.{Option, none, some}
+use mathlib.Core.Option.{none, some}
 use Prim.Native.Nat.{ℕ, zero, suc, _+_, _-_, _*_, _/_, _%_, _^_, _≤_, _<_}
 use native.Mathlib.Nat.{le-refl}
 use native.Mathlib.Omega.{arith}
 use borrow.Author.Tests.{lt-ltb, le-leb, ne-eqb}
-use Rattle.inty.specs.Value.{bounded}
-use Rattle.keys.specs.Read.{isK, isDigit, strip, sign, number, digits, overflow, readKey}
+use Rattle.keys.specs.Read.{isDigit, strip, sign, number, digits, readKey}
 use Rattle.keys.proofs.Laws.{digit-from, digit-to}
 use Rattle.decimal.specs.Digits.{decimal}
 use Rattle.decimal.proofs.Laws.{one-digit, more-digits}

@@ -8,7 +8,7 @@ ghost use Prim.Native.Nat.{_+_, _-_, _*_, _≤_};
 ghost use lib.ListN.{length, take, drop};
 ghost use Rattle.words.specs.Writes.{writes};
 ghost use Rattle.keys.specs.Shown.{shown};
-ghost use Rattle.inty_lines.specs.Lines.{Begun, textOf, answerOf, lineRead, answer, lastLine, before, runs, done, kept};
+ghost use Rattle.inty_lines.specs.Lines.{textOf, answerOf, lineRead, answer, lastLine, before, runs, done, kept};
 
 // The place in a piece where the line that has begun starts, how much of the output is used, and whether bytes of that line were dropped.
 pub struct Fed {

@@ -2,10 +2,6 @@ use Rattle.decimal.proofs.Laws as law
 use borrow.Author.Needs.{needs}
 use Rattle.decimal.proofs.write.Statement.{statement}
 use Rattle.decimal.proofs.write.Tie as tie
-use Rattle.decimal.proofs.write.Reads as reads
-use Rattle.decimal.proofs.write.Lts as lts
-use Rattle.decimal.proofs.digit_count.Reads as digit-count-reads
-use Rattle.decimal.proofs.put.Reads as put-reads
 
 returns : tie.Need-returns
 returns c = search (needs, law.placed-past)

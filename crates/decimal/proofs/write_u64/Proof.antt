@@ -2,9 +2,6 @@ use Rattle.decimal.proofs.Laws as law
 use borrow.Author.Needs.{needs}
 use Rattle.decimal.proofs.write_u64.Statement.{statement}
 use Rattle.decimal.proofs.write_u64.Tie as tie
-use Rattle.decimal.proofs.write_u64.Reads as reads
-use Rattle.decimal.proofs.write_u64.Lts as lts
-use Rattle.decimal.proofs.write.Reads as write-reads
 
 write-requires : tie.Need-write-requires
 write-requires c κs = search needs

@@ -3,8 +3,6 @@ use native.Mathlib.Omega.{arith}
 use borrow.Author.Needs.{needs}
 use Rattle.inty.proofs.div_ten.Statement.{statement}
 use Rattle.inty.proofs.div_ten.Tie as tie
-use Rattle.inty.proofs.div_ten.Reads as reads
-use Rattle.inty.proofs.div_ten.Lts as lts
 
 returns : tie.Need-returns
 returns c = search (needs, law.small-tenth, law.small-rest)

@@ -1,14 +1,11 @@
-use Rattle.inty.proofs.Laws.{ltb-same, eqb-same, hi-lt, lo-lt, lo-lt⁻¹, lo-eq, lo-eq⁻¹, hi-ne, up}
+use Rattle.inty.proofs.Laws.{eqb-same, lo-eq, lo-eq⁻¹, hi-ne}
 use Prim.Native.Nat.{_^_}
 use Rattle.inty.specs.Value.{valueOf}
-use Rattle.inty.proofs.Laws.{ltb-same, eqb-same}
-use borrow.Author.Tests.{lt-ltb, le-ltb, ne-eqb}
+use borrow.Author.Tests.{ne-eqb}
 use mathlib.Core.Path.{sym}
 use native.Mathlib.Omega.{arith}
 use Rattle.inty.proofs.eq.Statement.{statement}
 use Rattle.inty.proofs.eq.Tie as tie
-use Rattle.inty.proofs.eq.Reads as reads
-use Rattle.inty.proofs.eq.Lts as lts
 
 returns : tie.Need-returns
 returns c =

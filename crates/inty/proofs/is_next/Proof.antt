@@ -1,13 +1,7 @@
 use Rattle.inty.proofs.Laws as law
-use native.Mathlib.Omega.{arith}
 use borrow.Author.Needs.{needs}
 use Rattle.inty.proofs.is_next.Statement.{statement}
 use Rattle.inty.proofs.is_next.Tie as tie
-use Rattle.inty.proofs.is_next.Reads as reads
-use Rattle.inty.proofs.is_next.Lts as lts
-use Rattle.inty.proofs.eq.Reads as eq-reads
-use Rattle.inty.proofs.is_zero.Reads as is-zero-reads
-use Rattle.inty.proofs.pred.Reads as pred-reads
 
 is-zero-requires : tie.Need-is-zero-requires
 is-zero-requires c κs = search needs

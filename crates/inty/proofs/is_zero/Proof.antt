@@ -2,8 +2,6 @@ use Rattle.inty.proofs.Laws as law
 use borrow.Author.Needs.{needs}
 use Rattle.inty.proofs.is_zero.Statement.{statement}
 use Rattle.inty.proofs.is_zero.Tie as tie
-use Rattle.inty.proofs.is_zero.Reads as reads
-use Rattle.inty.proofs.is_zero.Lts as lts
 
 returns : tie.Need-returns
 returns c = search (needs, law.zero-hi)

@@ -1,15 +1,12 @@
 use native.Mathlib.Nat.{le-of-lt}
-use Rattle.inty.proofs.Laws.{ltb-same, eqb-same, hi-lt, lo-lt, lo-lt⁻¹, lo-eq, lo-eq⁻¹, hi-ne, up}
+use Rattle.inty.proofs.Laws.{ltb-same, hi-lt, lo-lt, lo-lt⁻¹}
 use Prim.Native.Nat.{_^_}
 use Rattle.inty.specs.Value.{valueOf}
-use Rattle.inty.proofs.Laws.{ltb-same, eqb-same}
-use borrow.Author.Tests.{lt-ltb, le-ltb, ne-eqb}
+use borrow.Author.Tests.{lt-ltb, le-ltb}
 use mathlib.Core.Path.{sym}
 use native.Mathlib.Omega.{arith}
 use Rattle.inty.proofs.lt.Statement.{statement}
 use Rattle.inty.proofs.lt.Tie as tie
-use Rattle.inty.proofs.lt.Reads as reads
-use Rattle.inty.proofs.lt.Lts as lts
 
 returns : tie.Need-returns
 returns c =

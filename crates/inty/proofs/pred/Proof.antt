@@ -1,10 +1,7 @@
 use Rattle.inty.proofs.Laws as law
-use native.Mathlib.Omega.{arith}
 use borrow.Author.Needs.{needs}
 use Rattle.inty.proofs.pred.Statement.{statement}
 use Rattle.inty.proofs.pred.Tie as tie
-use Rattle.inty.proofs.pred.Reads as reads
-use Rattle.inty.proofs.pred.Lts as lts
 
 sub-t3 : tie.Need-sub-t3
 sub-t3 c = search needs

@@ -1,10 +1,7 @@
 use Rattle.inty.proofs.Laws as law
-use native.Mathlib.Omega.{arith}
 use borrow.Author.Needs.{needs}
 use Rattle.inty.proofs.succ.Statement.{statement}
 use Rattle.inty.proofs.succ.Tie as tie
-use Rattle.inty.proofs.succ.Reads as reads
-use Rattle.inty.proofs.succ.Lts as lts
 
 add-t3 : tie.Need-add-t3
 add-t3 c = search needs

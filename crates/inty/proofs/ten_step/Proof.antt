@@ -1,13 +1,9 @@
 use Rattle.inty.proofs.Laws as law
 use Prim.Native.Nat.{_^_}
-use borrow.Author.Tests.{lt-ltb, le-ltb, ne-eqb}
-use mathlib.Core.Path.{sym}
 use native.Mathlib.Omega.{arith}
 use borrow.Author.Needs.{needs}
 use Rattle.inty.proofs.ten_step.Statement.{statement}
 use Rattle.inty.proofs.ten_step.Tie as tie
-use Rattle.inty.proofs.ten_step.Reads as reads
-use Rattle.inty.proofs.ten_step.Lts as lts
 
 mul-low : tie.Need-mul-low
 mul-low c = search needs

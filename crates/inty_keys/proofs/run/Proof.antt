@@ -4,9 +4,6 @@ use lib.ListN.{length}
 use borrow.Author.Needs.{needs}
 use Rattle.inty_keys.proofs.run.Statement.{statement}
 use Rattle.inty_keys.proofs.run.Tie as tie
-use Rattle.inty_keys.proofs.run.Reads as reads
-use Rattle.inty_keys.proofs.run.Lts as lts
-use Rattle.inty_keys.proofs.turn.Reads as turn-reads
 
 abbrev Inv-loop : tie.InvT-loop
 Inv-loop buf₀ out₀ s₀ turns₀ buf out s turns = (s .line .have ≤ 1024) × (length buf ≡ length buf₀) × (length out ≡ length out₀)

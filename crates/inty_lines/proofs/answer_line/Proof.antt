@@ -2,10 +2,6 @@ use Rattle.inty_lines.proofs.Laws as law
 use borrow.Author.Needs.{needs}
 use Rattle.inty_lines.proofs.answer_line.Statement.{statement}
 use Rattle.inty_lines.proofs.answer_line.Tie as tie
-use Rattle.inty_lines.proofs.answer_line.Reads as reads
-use Rattle.inty_lines.proofs.answer_line.Lts as lts
-use Rattle.inty_lines.proofs.put_answer.Reads as put-answer-reads
-use Rattle.inty_lines.proofs.read_line.Reads as read-line-reads
 
 read-line-requires : tie.Need-read-line-requires
 read-line-requires c κs = search needs

@@ -7,10 +7,6 @@ use Rattle.inty_lines.specs.Lines.{runs, done}
 use borrow.Author.Needs.{needs}
 use Rattle.inty_lines.proofs.feed.Statement.{statement}
 use Rattle.inty_lines.proofs.feed.Tie as tie
-use Rattle.inty_lines.proofs.feed.Reads as reads
-use Rattle.inty_lines.proofs.feed.Lts as lts
-use Rattle.inty_lines.proofs.answer_line.Reads as answer-line-reads
-use Rattle.inty_lines.proofs.line_end.Reads as line-end-reads
 
 abbrev Inv-loop : tie.InvT-loop
 Inv-loop piece long out₀ at₀ used₀ dropped₀ out at used dropped = (at ≤ length piece) × (length out ≡ length out₀) × (used + 2 * (length piece - at) ≤ length out₀) × (done out used (runs (record { long = dropped; line = [] }) (drop at piece)) ≡ done out₀ 0 (runs (record { long = long; line = [] }) piece))

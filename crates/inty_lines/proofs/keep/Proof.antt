@@ -2,9 +2,6 @@ use Rattle.inty_lines.proofs.Laws as law
 use borrow.Author.Needs.{needs}
 use Rattle.inty_lines.proofs.keep.Statement.{statement}
 use Rattle.inty_lines.proofs.keep.Tie as tie
-use Rattle.inty_lines.proofs.keep.Reads as reads
-use Rattle.inty_lines.proofs.keep.Lts as lts
-use Rattle.inty_lines.proofs.shift.Reads as shift-reads
 
 sub-have : tie.Need-sub-have
 sub-have c = search needs

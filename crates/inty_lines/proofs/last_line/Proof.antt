@@ -2,9 +2,6 @@ use Rattle.inty_lines.proofs.Laws as law
 use borrow.Author.Needs.{needs}
 use Rattle.inty_lines.proofs.last_line.Statement.{statement}
 use Rattle.inty_lines.proofs.last_line.Tie as tie
-use Rattle.inty_lines.proofs.last_line.Reads as reads
-use Rattle.inty_lines.proofs.last_line.Lts as lts
-use Rattle.inty_lines.proofs.answer_line.Reads as answer-line-reads
 
 answer-line-requires : tie.Need-answer-line-requires
 answer-line-requires c κs = search (needs, law.last-room)

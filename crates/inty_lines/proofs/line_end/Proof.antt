@@ -6,8 +6,6 @@ use Rattle.inty_lines.specs.Lines.{before}
 use borrow.Author.Needs.{needs}
 use Rattle.inty_lines.proofs.line_end.Statement.{statement}
 use Rattle.inty_lines.proofs.line_end.Tie as tie
-use Rattle.inty_lines.proofs.line_end.Reads as reads
-use Rattle.inty_lines.proofs.line_end.Lts as lts
 
 abbrev Inv-loop : tie.InvT-loop
 Inv-loop piece at i₀ i = (i ≤ length piece) × (i + before (drop i piece) ≡ at + before (drop at piece))

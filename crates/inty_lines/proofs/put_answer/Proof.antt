@@ -2,9 +2,6 @@ use Rattle.inty_lines.proofs.Laws as law
 use borrow.Author.Needs.{needs}
 use Rattle.inty_lines.proofs.put_answer.Statement.{statement}
 use Rattle.inty_lines.proofs.put_answer.Tie as tie
-use Rattle.inty_lines.proofs.put_answer.Reads as reads
-use Rattle.inty_lines.proofs.put_answer.Lts as lts
-use Rattle.inty_lines.proofs.put_text.Reads as put-text-reads
 
 put-text-requires : tie.Need-put-text-requires
 put-text-requires c κs = search (needs, law.text-room)

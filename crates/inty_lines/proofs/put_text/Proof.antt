@@ -2,9 +2,6 @@ use Rattle.inty_lines.proofs.Laws as law
 use borrow.Author.Needs.{needs}
 use Rattle.inty_lines.proofs.put_text.Statement.{statement}
 use Rattle.inty_lines.proofs.put_text.Tie as tie
-use Rattle.inty_lines.proofs.put_text.Reads as reads
-use Rattle.inty_lines.proofs.put_text.Lts as lts
-use Rattle.decimal.proofs.write.Reads as write-reads
 
 enum-known-r : tie.Need-enum-known-r
 enum-known-r c = search needs

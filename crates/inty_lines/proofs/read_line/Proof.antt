@@ -2,9 +2,6 @@ use Rattle.inty_lines.proofs.Laws as law
 use borrow.Author.Needs.{needs}
 use Rattle.inty_lines.proofs.read_line.Statement.{statement}
 use Rattle.inty_lines.proofs.read_line.Tie as tie
-use Rattle.inty_lines.proofs.read_line.Reads as reads
-use Rattle.inty_lines.proofs.read_line.Lts as lts
-use Rattle.keys.proofs.key_to_inty.Reads as key-to-inty-reads
 
 returns : tie.Need-returns
 returns c = search (needs, law.read-long)

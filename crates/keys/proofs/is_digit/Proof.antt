@@ -2,8 +2,6 @@ use borrow.Author.Needs.{needs}
 use Rattle.keys.proofs.Laws as law
 use Rattle.keys.proofs.is_digit.Statement.{statement}
 use Rattle.keys.proofs.is_digit.Tie as tie
-use Rattle.keys.proofs.is_digit.Reads as reads
-use Rattle.keys.proofs.is_digit.Lts as lts
 
 returns : tie.Need-returns
 returns c = search (needs, law.digit-below)

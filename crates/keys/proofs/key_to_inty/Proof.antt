@@ -2,11 +2,6 @@ use Rattle.keys.proofs.Laws as law
 use borrow.Author.Needs.{needs}
 use Rattle.keys.proofs.key_to_inty.Statement.{statement}
 use Rattle.keys.proofs.key_to_inty.Tie as tie
-use Rattle.keys.proofs.key_to_inty.Reads as reads
-use Rattle.keys.proofs.key_to_inty.Lts as lts
-use Rattle.keys.proofs.read_digits.Reads as read-digits-reads
-use Rattle.keys.proofs.skip_ks.Reads as skip-ks-reads
-use Rattle.keys.proofs.skip_sign.Reads as skip-sign-reads
 
 skip-ks-requires : tie.Need-skip-ks-requires
 skip-ks-requires c κs = search needs

@@ -6,11 +6,6 @@ use lib.ListN.{length, drop}
 use borrow.Author.Needs.{needs}
 use Rattle.keys.proofs.read_digits.Statement.{statement}
 use Rattle.keys.proofs.read_digits.Tie as tie
-use Rattle.keys.proofs.read_digits.Reads as reads
-use Rattle.keys.proofs.read_digits.Lts as lts
-use Rattle.keys.proofs.is_digit.Reads as is-digit-reads
-use Rattle.keys.proofs.read_long.Reads as read-long-reads
-use Rattle.words.proofs.wide.Reads as wide-reads
 
 abbrev Inv-loop : tie.InvT-loop
 Inv-loop key from acc₀ i₀ acc i = (i ≤ length key) × (acc < 2 ^ 64) × (overflow (number acc (drop i key)) ≡ overflow (number 0 (drop from key)))

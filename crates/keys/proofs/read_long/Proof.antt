@@ -7,10 +7,6 @@ use lib.ListN.{length, drop}
 use borrow.Author.Needs.{needs}
 use Rattle.keys.proofs.read_long.Statement.{statement}
 use Rattle.keys.proofs.read_long.Tie as tie
-use Rattle.keys.proofs.read_long.Reads as reads
-use Rattle.keys.proofs.read_long.Lts as lts
-use Rattle.inty.proofs.ten_step.Reads as ten-step-reads
-use Rattle.keys.proofs.is_digit.Reads as is-digit-reads
 
 abbrev Inv-loop : tie.InvT-loop
 Inv-loop key from acc x₀ i₀ x i = (i ≤ length key) × (x .hi < 2 ^ 64) × (x .lo < 2 ^ 64) × (overflow (number (valueOf x) (drop i key)) ≡ overflow (number acc (drop from key)))

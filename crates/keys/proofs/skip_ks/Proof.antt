@@ -6,9 +6,6 @@ use lib.ListN.{length, drop}
 use borrow.Author.Needs.{needs}
 use Rattle.keys.proofs.skip_ks.Statement.{statement}
 use Rattle.keys.proofs.skip_ks.Tie as tie
-use Rattle.keys.proofs.skip_ks.Reads as reads
-use Rattle.keys.proofs.skip_ks.Lts as lts
-use Rattle.keys.proofs.is_k.Reads as is-k-reads
 
 abbrev Inv-loop : tie.InvT-loop
 Inv-loop key i₀ i = (i ≤ length key) × (strip (drop i key) ≡ strip key)

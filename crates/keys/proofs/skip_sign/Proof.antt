@@ -2,8 +2,6 @@ use Rattle.keys.proofs.Laws as law
 use borrow.Author.Needs.{needs}
 use Rattle.keys.proofs.skip_sign.Statement.{statement}
 use Rattle.keys.proofs.skip_sign.Tie as tie
-use Rattle.keys.proofs.skip_sign.Reads as reads
-use Rattle.keys.proofs.skip_sign.Lts as lts
 
 shared-slice-read-if2 : tie.Need-shared-slice-read-if2
 shared-slice-read-if2 c = search needs
