@@ -7,10 +7,10 @@ use native.Mathlib.Nat.{le-of-eq, div-eq-of-lt, div-lt-iff-lt-mul, lt-of-lt-of-l
 use native.Mathlib.Omega.{arith}
 use lib.ListN.{length, set, length-append}
 use lib.Dec.{ltb, eqb, lit<, lit≤}
-use lib.Arith.{digits-lt}
 use mir.Syntax.{w64}
 use mir.Val.{Fits}
 use borrow.Author.Tests.{lt-ltb, le-ltb, le-leb, lt-leb, ltb-false, eqb-true, eqb-false}
+use Rattle.inty.proofs.Laws.{below-top}
 use Rattle.words.specs.Writes.{writes, writes-snoc}
 use Rattle.decimal.specs.Digits.{decimalIn, decimal}
 use Rattle.decimal.specs.Placed.{Placed, placed}
@@ -75,7 +75,7 @@ mod-ten r n e = omega arith
 
 pub count-fits : (h l r : ℕ) → h < 2 ^ 64 → l < 2 ^ 64 → r ≡ length (decimal (h * 18446744073709551616 + l)) → Fits w64 (r + 1)
 count-fits h l r f g e =
-    let b : r ≤ 39 = rw e (short-128 _ (digits-lt {q = h} {m = 18446744073709551616} {r = l} {c = 18446744073709551616} f g)) in
+    let b : r ≤ 39 = rw e (short-128 _ (below-top h l f g)) in
     record { fits = small r b }
   where
     small : (r : ℕ) → r ≤ 39 → r + 1 < 2 ^ 64

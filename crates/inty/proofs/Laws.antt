@@ -4,7 +4,7 @@
 use mathlib.Core.Path.{_≡_, refl, sym, ap, _∙_}
 use mathlib.Core.Bool.{Bool, true, false}
 use Prim.Native.Nat.{ℕ, suc, _+_, _-_, _*_, _/_, _%_, _^_, _≤_, _<_}
-use native.Mathlib.Nat.{suc-mul, add-mul, mul-comm, mul-assoc, mul-le-mul-right, mod-lt}
+use native.Mathlib.Nat.{le-of-lt, suc-mul, add-mul, mul-comm, mul-assoc, mul-le-mul-right, mod-lt}
 use native.Mathlib.Omega.{arith}
 use lib.Dec.{ltb, eqb, lit<}
 use lib.Arith.{digits-div, digits-mod, digits-lt}
@@ -152,6 +152,38 @@ zero-hi h l e = eqb-same l 0 (h * 18446744073709551616 + l) 0 (λ f. both h l e 
 
 pub not-zero-hi : (h l : ℕ) → (h ≡ 0 → ⊥) → false ≡ eqb (h * 18446744073709551616 + l) 0
 not-zero-hi h l e = sym (ne-eqb (h * 18446744073709551616 + l) 0 (λ f. e (halves-zero h l f .0)))
+
+-- ---- two numbers by their halves, as the code tests them
+module _ (h l k m : ℕ) where
+  pub lt-high : l < 2 ^ 64 → h < k → true ≡ ltb (h * 18446744073709551616 + l) (k * 18446744073709551616 + m)
+  lt-high f g = sym (lt-ltb _ _ (hi-lt (2 ^ 64) h l k m f g))
+
+  pub gt-high : m < 2 ^ 64 → k < h → false ≡ ltb (h * 18446744073709551616 + l) (k * 18446744073709551616 + m)
+  gt-high f g = sym (le-ltb _ _ (le-of-lt (hi-lt (2 ^ 64) k m h l f g)))
+
+  pub lt-low : k ≤ h → h ≤ k → ltb l m ≡ ltb (h * 18446744073709551616 + l) (k * 18446744073709551616 + m)
+  lt-low f g = let e : h ≡ k = omega arith in ltb-same l m _ _ (lo-lt (2 ^ 64) h l k m e) (lo-lt⁻¹ (2 ^ 64) h l k m e)
+
+  pub eq-low : h ≡ k → eqb l m ≡ eqb (h * 18446744073709551616 + l) (k * 18446744073709551616 + m)
+  eq-low e = eqb-same l m _ _ (lo-eq (2 ^ 64) h l k m e) (lo-eq⁻¹ (2 ^ 64) h l k m e)
+
+  pub ne-high : l < 2 ^ 64 → m < 2 ^ 64 → (h ≡ k → ⊥) → false ≡ eqb (h * 18446744073709551616 + l) (k * 18446744073709551616 + m)
+  ne-high f g n = sym (ne-eqb _ _ (hi-ne (2 ^ 64) h l k m f g n))
+
+-- ---- ten times and a digit, by the code's test of the upper half
+module _ (h l d : ℕ) (f : l < 2 ^ 64) (g : d < 256) where
+  pub carry-fits : carry l d ≤ 18446744073709551615
+  carry-fits = omega (arith, carry-small l d f g)
+
+  pub ten-past : (18446744073709551615 - carry l d) / 10 < h → none ≡ bounded (10 * (h * 18446744073709551616 + l) + d)
+  ten-past k = past-bounds _ (ten-over (2 ^ 64) h l d (carry l d) (rest l d) (low-step l d) (upper-over h (carry l d) (carry-small l d f g) k))
+
+  module _ (k : h ≤ (18446744073709551615 - carry l d) / 10) where
+    pub upper-fits : h * 10 + carry l d < 2 ^ 64
+    upper-fits = upper-in h (carry l d) (carry-small l d f g) k
+
+    pub ten-within : some ((h * 10 + carry l d) * 18446744073709551616 + rest l d) ≡ bounded (10 * (h * 18446744073709551616 + l) + d)
+    ten-within = in-bounds _ _ (ten-is (2 ^ 64) h l d (carry l d) (rest l d) (low-step l d)) (ten-below (2 ^ 64) h l d (carry l d) (rest l d) (low-step l d) (rest-fits l d) upper-fits)
 
 -- ---- one more, one less, a tenth of a small number: the halves and the tests as the code has them
 

@@ -9,9 +9,9 @@ use native.Mathlib.Nat.{le-trans, lt-of-lt-of-le}
 use native.Mathlib.Omega.{arith}
 use lib.ListN.{length, getD, drop, drop-of-length-le}
 use lib.Seq.{drop-cons}
-use lib.Arith.{digits-lt}
 use lib.Dec.{ltb, leb, eqb, lit≤}
 use borrow.Author.Tests.{lt-ltb, le-ltb, le-leb, lt-leb, leb-true, eq-eqb, ne-eqb, ltb-false}
+use Rattle.inty.proofs.Laws.{below-top}
 use Rattle.inty.specs.Value.{valueOf, checked, bounded}
 use Rattle.inty.specs.declared.Inty.{Inty}
 use Rattle.inty.specs.declared.Checked.{Checked}
@@ -133,7 +133,7 @@ module _ (s : List ℕ) (i a : ℕ) (k : Option ℕ) where
 
 module _ (s : List ℕ) (i : ℕ) (k : Option ℕ) (e : length s ≤ i) where
   pub long-end : (h l : ℕ) → h < 2 ^ 64 → l < 2 ^ 64 → overflow (number (h * 18446744073709551616 + l) (drop i s)) ≡ k → some (h * 18446744073709551616 + l) ≡ k
-  long-end h l f g = all-read s i (h * 18446744073709551616 + l) k e (digits-lt {q = h} {m = 18446744073709551616} {r = l} {c = 18446744073709551616} f g)
+  long-end h l f g = all-read s i (h * 18446744073709551616 + l) k e (below-top h l f g)
 
   pub word-end : (l : ℕ) → l < 2 ^ 64 → overflow (number l (drop i s)) ≡ k → some (0 * 18446744073709551616 + l) ≡ k
   word-end l f g = rw (low l) (all-read s i l k e (lt-of-lt-of-le f (lit≤ tt)) g)

@@ -1,5 +1,4 @@
 use Rattle.inty.proofs.Laws as law
-use native.Mathlib.Omega.{arith}
 use borrow.Author.Needs.{needs}
 use Rattle.inty.proofs.div_ten.Statement.{statement}
 use Rattle.inty.proofs.div_ten.Tie as tie
@@ -11,9 +10,7 @@ mul-mid : tie.Need-mul-mid
 mul-mid c = search needs
 
 add-mid : tie.Need-add-mid
-add-mid c =
-    let x = c .before .before .before .before .before .args .x in
-    record { fits = law.mid10-fits (x .hi) (x .lo) (omega arith) }
+add-mid c = record { fits = search (needs, law.mid10-fits) }
 
 mul-low : tie.Need-mul-low
 mul-low c = search needs
@@ -28,9 +25,7 @@ add-lo : tie.Need-add-lo
 add-lo c = search needs
 
 returns-2 : tie.Need-returns-2
-returns-2 c =
-    let x = c .before .before .before .before .before .before .args .x in
-    (law.tenth (x .hi) (x .lo), law.tenth-rest (x .hi) (x .lo))
+returns-2 c = search (needs, law.tenth, law.tenth-rest)
 
 pub div-ten-spec : {M : Type 1} → statement M
 div-ten-spec = tie.close (tie.spec returns mul-mid add-mid mul-low add-low mul-lo add-lo returns-2)
