@@ -28,7 +28,7 @@ same-in (suc f) (suc g) n a b = go (λ p q. same-in f g (n / 10) p q) (ltb n 10)
     go ih true e = simp e
     go ih false e =
         let ten : 10 ≤ n = ltb-false n 10 e in
-        simp e (ap (λ (l : List ℕ). l ++ ((48 + n % 10) ∷ [])) (ih (omega arith) (omega arith)))
+        simp (e, ih (omega arith) (omega arith))
 
 pub one-digit : (n : ℕ) → n / 10 ≡ 0 → decimal n ≡ (48 + n % 10) ∷ []
 unfolding decimal decimalIn
@@ -41,7 +41,7 @@ pub more-digits : (n : ℕ) → (n / 10 ≡ 0 → ⊥) → decimal n ≡ decimal
 unfolding decimal decimalIn
 more-digits n e =
     let ten : 10 ≤ n = omega arith in
-    simp (le-ltb n 10 ten) (ap (λ (l : List ℕ). l ++ ((48 + n % 10) ∷ [])) (same-in n (suc (n / 10)) (n / 10) (omega arith) (omega arith)))
+    simp (le-ltb n 10 ten, same-in n (suc (n / 10)) (n / 10) (omega arith) (omega arith))
 
 length-one : (n : ℕ) → n / 10 ≡ 0 → length (decimal n) ≡ 1
 length-one n e = ap length (one-digit n e)
