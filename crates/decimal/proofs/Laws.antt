@@ -10,7 +10,7 @@ use lib.Dec.{ltb, eqb, lit<, lit≤}
 use mir.Syntax.{w64}
 use mir.Val.{Fits}
 use borrow.Author.Tests.{lt-ltb, le-ltb, le-leb, lt-leb, ltb-false, eqb-true, eqb-false}
-use Rattle.inty.proofs.Laws.{below-top}
+use Rattle.inty.proofs.Laws.{below-top, low-only}
 use Rattle.words.specs.Writes.{writes, writes-snoc}
 use Rattle.decimal.specs.Digits.{decimalIn, decimal}
 use Rattle.decimal.specs.Placed.{Placed, placed}
@@ -49,7 +49,7 @@ length-one n e = ap length (one-digit n e)
 length-more : (n : ℕ) → (n / 10 ≡ 0 → ⊥) → length (decimal n) ≡ length (decimal (n / 10)) + 1
 length-more n e = ap length (more-digits n e) ∙ length-append (decimal (n / 10)) ((48 + n % 10) ∷ [])
 
--- a number below 10 ^ k has at most k digits
+-- a number below 10 ^ k has at most k digits, for k from 1 on
 pub short : (k n : ℕ) → n < 10 ^ suc k → length (decimal n) ≤ suc k
 short zero n h = le-of-eq (length-one n (div-eq-of-lt h))
 short (suc k) n h = go (short k (n / 10)) (n / 10) refl
@@ -154,10 +154,7 @@ module _ (out : List ℕ) (at : ℕ) (text : List ℕ) where
   placed-end r e l f g h k m = simp (le-leb (at + length text) (length out) (omega arith), k, m)
 
 pub low-half : (n : ℕ) (p : Placed) (out : List ℕ) (at : ℕ) → p ≡ placed out at (decimal (0 * 18446744073709551616 + n)) → p ≡ placed out at (decimal n)
-low-half n p out at e = e ∙ ap (λ (k : ℕ). placed out at (decimal k)) (is n)
-  where
-    is : (n : ℕ) → 0 * 18446744073709551616 + n ≡ n
-    is n = omega arith
+low-half n p out at e = e ∙ ap (λ (k : ℕ). placed out at (decimal k)) (low-only n)
 
 -- for a caller that has room: the answer is where the text ends
 pub has-room : (out : List ℕ) (at : ℕ) (text : List ℕ) (w : Written) (l : List ℕ) → at + length text ≤ length out → record { answer = w; bytes = l } ≡ placed out at text

@@ -92,6 +92,28 @@ below-top h l f g = digits-lt {q = h} {m = 18446744073709551616} {r = l} {c = 18
 pub past-bounds : (y : ℕ) → 2 ^ 128 ≤ y → none ≡ bounded y
 past-bounds y f = simp (le-ltb y (2 ^ 128) f)
 
+-- what a bounded number was
+pub was-in : (n v : ℕ) → some n ≡ bounded v → n ≡ v
+was-in n v e = go (ltb v (2 ^ 128)) refl
+  where
+    go : (t : Bool) → ltb v (2 ^ 128) ≡ t → n ≡ v
+    go true p = let q : some n ≡ some v = e ∙ simp p in cc
+    go false p = let q : some n ≡ none = e ∙ simp p in cc
+
+pub was-out : (v : ℕ) → none ≡ bounded v → 2 ^ 128 ≤ v
+was-out v e = go (ltb v (2 ^ 128)) refl
+  where
+    zero-one : _≡_ {A = ℕ} 0 1 → ⊥
+    zero-one e = omega arith
+
+    go : (t : Bool) → ltb v (2 ^ 128) ≡ t → 2 ^ 128 ≤ v
+    go true p = let q : some v ≡ none = sym (e ∙ simp p) in let z : _≡_ {A = ℕ} 0 1 = cc in absurd (zero-one z)
+    go false p = ltb-false v (2 ^ 128) p
+
+-- a number of the lower half alone
+pub low-only : (l : ℕ) → 0 * 18446744073709551616 + l ≡ l
+low-only l = omega arith
+
 -- the parts of the lower half, ten times and a digit: from the low 32 bits, from the high, and the carry
 abbrev low : ℕ → ℕ → ℕ
 low l d = l % 4294967296 * 10 + d

@@ -5,11 +5,10 @@ use mathlib.Core.List.{List, [], _∷_, _++_, append-assoc, append-nil}
 use mathlib.Core.Option.{Option, none}
 use mathlib.Core.Logic.{inr}
 use Prim.Native.Nat.{ℕ, suc, _+_, _-_, _*_, _^_, _≤_, _<_}
-use native.Mathlib.Numerals.{add-one}
 use native.Mathlib.Nat.{add-zero, add-assoc, zero-add}
 use native.Mathlib.Omega.{arith}
 use lib.ListN.{length, getD, set, drop, take, drop-of-length-le, length-drop, length-append}
-use lib.Seq.{drop-cons, drop-drop, getD-drop, length-take-le}
+use lib.Seq.{drop-drop, getD-drop, length-take-le}
 use lib.Dec.{eqb}
 use mir.Syntax.{w64}
 use mir.Val.{Fits}
@@ -23,6 +22,7 @@ use Rattle.decimal.specs.declared.Written.the-variants.{End, Short}
 use Rattle.decimal.proofs.Laws.{has-room}
 use Rattle.inty.specs.Value.{valueOf}
 use Rattle.inty.specs.declared.Inty.{Inty}
+use Rattle.keys.proofs.Laws.{uncons}
 use Rattle.keys.specs.Shown.{shown}
 use Rattle.keys.specs.Read.{readKey}
 use Rattle.keys.specs.declared.KeyRead.{KeyRead}
@@ -125,9 +125,6 @@ module _ (long : Bool) (line : List ℕ) where
     answer-put s l at f = rw is-answer at f
 
 -- ---- the end of a line
-uncons : (s : List ℕ) (i : ℕ) → i < length s → drop i s ≡ getD s i 0 ∷ drop (i + 1) s
-uncons s i h = rw (add-one, drop-cons s i 0)
-
 module _ (s : List ℕ) (i k : ℕ) (e : i + before (drop i s) ≡ k) where
   pub before-newline : i < length s → getD s i 0 ≡ 10 → i ≡ k
   before-newline h f =

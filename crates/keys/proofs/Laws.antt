@@ -9,9 +9,9 @@ use native.Mathlib.Nat.{le-trans, lt-of-lt-of-le}
 use native.Mathlib.Omega.{arith}
 use lib.ListN.{length, getD, drop, drop-of-length-le}
 use lib.Seq.{drop-cons}
-use lib.Dec.{ltb, leb, eqb, lit≤}
-use borrow.Author.Tests.{lt-ltb, le-ltb, le-leb, lt-leb, leb-true, eq-eqb, ne-eqb, ltb-false}
-use Rattle.inty.proofs.Laws.{below-top}
+use lib.Dec.{leb, eqb, lit≤}
+use borrow.Author.Tests.{lt-ltb, le-ltb, le-leb, lt-leb, leb-true, eq-eqb, ne-eqb}
+use Rattle.inty.proofs.Laws.{below-top, low-only, was-in, was-out}
 use Rattle.inty.specs.Value.{valueOf, checked, bounded}
 use Rattle.inty.specs.declared.Inty.{Inty}
 use Rattle.inty.specs.declared.Checked.{Checked}
@@ -19,7 +19,7 @@ use Rattle.inty.specs.declared.Checked.the-variants.{Number, Overflow}
 use Rattle.keys.specs.Read.{isK, isDigit, strip, sign, number, digits, overflow, readKey}
 
 -- a suffix that is not empty is a byte and the next suffix
-uncons : (s : List ℕ) (i : ℕ) → i < length s → drop i s ≡ getD s i 0 ∷ drop (i + 1) s
+pub uncons : (s : List ℕ) (i : ℕ) → i < length s → drop i s ≡ getD s i 0 ∷ drop (i + 1) s
 uncons s i h = rw (add-one, drop-cons s i 0)
 
 -- ---- the tests on a byte
@@ -77,24 +77,6 @@ module _ (s : List ℕ) (i : ℕ) where
 
 -- ---- digits and overflow
 
--- what a bounded number was
-was-in : (n v : ℕ) → some n ≡ bounded v → n ≡ v
-was-in n v e = go (ltb v (2 ^ 128)) refl
-  where
-    go : (t : Bool) → ltb v (2 ^ 128) ≡ t → n ≡ v
-    go true p = let q : some n ≡ some v = e ∙ simp p in cc
-    go false p = let q : some n ≡ none = e ∙ simp p in cc
-
-was-out : (v : ℕ) → none ≡ bounded v → 2 ^ 128 ≤ v
-was-out v e = go (ltb v (2 ^ 128)) refl
-  where
-    zero-one : _≡_ {A = ℕ} 0 1 → ⊥
-    zero-one e = omega arith
-
-    go : (t : Bool) → ltb v (2 ^ 128) ≡ t → 2 ^ 128 ≤ v
-    go true p = let q : some v ≡ none = sym (e ∙ simp p) in let z : _≡_ {A = ℕ} 0 1 = cc in absurd (zero-one z)
-    go false p = ltb-false v (2 ^ 128) p
-
 -- digits only make a number larger, so one that is past 128 bits stays so
 past : (a : ℕ) (s : List ℕ) → 2 ^ 128 ≤ a → overflow (number a s) ≡ none
 past a [] f = simp (le-ltb a (2 ^ 128) f)
@@ -136,16 +118,10 @@ module _ (s : List ℕ) (i : ℕ) (k : Option ℕ) (e : length s ≤ i) where
   long-end h l f g = all-read s i (h * 18446744073709551616 + l) k e (below-top h l f g)
 
   pub word-end : (l : ℕ) → l < 2 ^ 64 → overflow (number l (drop i s)) ≡ k → some (0 * 18446744073709551616 + l) ≡ k
-  word-end l f g = rw (low l) (all-read s i l k e (lt-of-lt-of-le f (lit≤ tt)) g)
-    where
-      low : (l : ℕ) → 0 * 18446744073709551616 + l ≡ l
-      low l = omega arith
+  word-end l f g = rw (low-only l) (all-read s i l k e (lt-of-lt-of-le f (lit≤ tt)) g)
 
 pub long-start : (s : List ℕ) (i l : ℕ) → overflow (number (0 * 18446744073709551616 + l) (drop i s)) ≡ overflow (number l (drop i s))
-long-start s i l = rw (low l)
-  where
-    low : (l : ℕ) → 0 * 18446744073709551616 + l ≡ l
-    low l = omega arith
+long-start s i l = rw (low-only l)
 
 -- ---- the four steps together; j is where the key begins after strip, i where the digits do
 module _ (s : List ℕ) (j i : ℕ) (e : drop j s ≡ strip s) (f : drop i s ≡ sign (drop j s)) where
