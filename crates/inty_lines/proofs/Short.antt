@@ -11,7 +11,7 @@ use lib.Dec.{ltb, eqb}
 use Rattle.inty.specs.Value.{bounded}
 use Rattle.decimal.specs.Digits.{decimal}
 use Rattle.decimal.proofs.Laws.{short}
-use Rattle.keys.specs.Read.{isK, isDigit, strip, sign, number, digits, overflow}
+use Rattle.keys.specs.Read.{isK, isDigit, strip, sign, number, digits, overflow, readKey}
 use Rattle.keys.proofs.Laws.{digit-to}
 use Rattle.inty_lines.specs.Lines.{Begun, textOf, answerOf, lineRead, answer}
 
@@ -61,7 +61,7 @@ text-short line (some v) e = go (ltb v (2 ^ 128)) refl
     go false p = simp p (omega arith)
 
 read-short : (long : Bool) (line : List ℕ) → length (textOf (lineRead long line)) ≤ suc (length line)
-unfolding lineRead textOf
+unfolding lineRead textOf readKey
 read-short long line = go (long || ltb 1024 (length line)) refl
   where
     go : (t : Bool) → (long || ltb 1024 (length line)) ≡ t → length (textOf (lineRead long line)) ≤ suc (length line)

@@ -70,4 +70,5 @@ some-digit n e = go (n / 10) refl
     go (suc q) p = snoc (decimal (n / 10)) _ (sym (more-digits n (λ z. omega (arith, p))) ∙ e)
 
 pub read-back : (n : ℕ) → n < 2 ^ 128 → readKey (decimal n) ≡ some n
+unfolding readKey
 read-back n h = rw (plain (decimal n) n (number-is (suc n) n (le-refl (suc n))) (some-digit n)) (simp (lt-ltb n (2 ^ 128) h))

@@ -126,6 +126,7 @@ long-start s i l = rw (low-only l)
 -- ---- the four steps together; j is where the key begins after strip, i where the digits do
 module _ (s : List ℕ) (j i : ℕ) (e : drop j s ≡ strip s) (f : drop i s ≡ sign (drop j s)) where
   from-start : overflow (digits (drop i s)) ≡ readKey s
+  unfolding readKey
   from-start = ap (λ (l : List ℕ). overflow (digits l)) (f ∙ ap sign e)
 
   pub key-read : (r : Option ℕ) → i < length s → r ≡ overflow (number 0 (drop i s)) → r ≡ readKey s

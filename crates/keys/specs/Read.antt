@@ -38,5 +38,5 @@ digits (c ∷ s) = number 0 (c ∷ s)
 abbrev pub overflow : Option ℕ → Option ℕ
 overflow n = ifNone n then none else bounded
 
-abbrev pub readKey : List ℕ → Option ℕ
+unfoldable pub readKey : List ℕ → Option ℕ
 readKey key = overflow (digits (sign (strip key)))
