@@ -1,7 +1,7 @@
 -- Tables of key ranges, each with a mask: what the crate rangemap's documentation says of `RangeInclusiveMap`. Assumes nothing: these are definitions.
 use Prim.Native.Nat.{ℕ, _+_, _-_}
-use mathlib.Core.Bool.{Bool, true, false, _&&_}
-use mathlib.Core.List.{List, [], _∷_, _++_, map}
+use mathlib.Core.Bool.{Bool, _&&_}
+use mathlib.Core.List.{List, [], _∷_, _++_}
 use mathlib.Core.Option.{Option, none, some}
 use lib.Dec.{ltb, leb, eqb}
 use Rattle.words.specs.Choice.{if_then_else_, ifNone_then_else_}
