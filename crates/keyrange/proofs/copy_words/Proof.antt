@@ -1,0 +1,62 @@
+use Rattle.keyrange.proofs.Laws as law
+use native.Mathlib.Omega.{arith}
+use borrow.Author.Needs.{needs}
+use mathlib.Core.Path.{_≡_, refl}
+use Prim.Native.Nat.{_-_, _≤_}
+use lib.ListN.{length, take}
+use Rattle.words.specs.Writes.{writes}
+use Rattle.keyrange.proofs.copy_words.Statement.{statement}
+use Rattle.keyrange.proofs.copy_words.Tie as tie
+
+abbrev Inv-loop : tie.InvT-loop
+Inv-loop to₀ from n i₀ to i = (i ≤ n) × (length to ≡ length to₀) × (to ≡ writes to₀ 0 (take i from))
+
+abbrev μ-loop : tie.MeasureT-loop
+μ-loop to₀ from n i₀ to i = n - i
+
+loop-holds : tie.Need-loop-holds Inv-loop μ-loop
+loop-holds c = (omega arith, refl, refl)
+
+mul-to : tie.Need-mul-to Inv-loop μ-loop
+mul-to c = search needs
+
+shared-slice-read-to : tie.Need-shared-slice-read-to Inv-loop μ-loop
+shared-slice-read-to c = search needs
+
+mul-to-2 : tie.Need-mul-to-2 Inv-loop μ-loop
+mul-to-2 c = search needs
+
+slice-write-to : tie.Need-slice-write-to Inv-loop μ-loop
+slice-write-to c = search needs
+
+add-i : tie.Need-add-i Inv-loop μ-loop
+add-i c = search needs
+
+loop-less : tie.Need-loop-less Inv-loop μ-loop
+loop-less c = search needs
+
+loop-again : tie.Need-loop-again Inv-loop μ-loop
+loop-again c = (omega arith, search needs, search (needs, law.copy-step))
+
+same-length : tie.Need-same-length Inv-loop μ-loop
+same-length c = search needs
+
+returns : tie.Need-returns Inv-loop μ-loop
+returns c = search (needs, law.copied)
+
+pub copy-words-spec : {M : Type 1} → statement M
+copy-words-spec =
+    tie.close
+    (tie.spec
+    Inv-loop
+    μ-loop
+    loop-holds
+    mul-to
+    shared-slice-read-to
+    mul-to-2
+    slice-write-to
+    add-i
+    loop-less
+    loop-again
+    same-length
+    returns)
