@@ -1,0 +1,53 @@
+use Rattle.responders.proofs.Laws as law
+use borrow.Author.Needs.{needs}
+use Rattle.responders.proofs.RespondersConf.set_full.Statement.{statement}
+use Rattle.responders.proofs.RespondersConf.set_full.Tie as tie
+
+is-ready-requires : tie.Need-is-ready-requires
+is-ready-requires c κs = search needs
+
+returns : tie.Need-returns
+returns c = search (needs, law.unready)
+
+fits-requires : tie.Need-fits-requires
+fits-requires c κs = search needs
+
+returns-2 : tie.Need-returns-2
+returns-2 c = search (needs, law.full-4)
+
+set-requires : tie.Need-set-requires
+set-requires c κs = search (needs, law.ready-few, law.ready-long)
+
+enum-known-n : tie.Need-enum-known-n
+enum-known-n c = search needs
+
+enum-told : tie.Need-enum-told
+enum-told c = search needs
+
+same-length : tie.Need-same-length
+same-length c = search needs
+
+returns-3 : tie.Need-returns-3
+returns-3 c = search (needs, law.full-17)
+
+same-length-2 : tie.Need-same-length-2
+same-length-2 c = search needs
+
+returns-4 : tie.Need-returns-4
+returns-4 c = search (needs, law.full-set)
+
+pub set-full-spec : {M : Type 1} → statement M
+set-full-spec =
+    tie.close
+    (tie.spec
+    is-ready-requires
+    returns
+    fits-requires
+    returns-2
+    set-requires
+    enum-known-n
+    enum-told
+    same-length
+    returns-3
+    same-length-2
+    returns-4)

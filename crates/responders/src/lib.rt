@@ -1,0 +1,273 @@
+// `RespondersConf` of keyrange.rs: a roster. Its ranges are rows in lent words; the short part goes by value.
+use ids::Leader;
+use ids::Replica;
+use inty::Inty;
+use items::Item;
+use keyrange::Row;
+use keyrange::Stored;
+use keys::KeyRead;
+ghost use mathlib.Core.Path.{_≡_};
+ghost use mathlib.Core.Bool.{_&&_};
+ghost use mathlib.Core.List.{List};
+ghost use Prim.Native.Nat.{ℕ, _+_, _*_, _≤_};
+ghost use lib.ListN.{length};
+ghost use Rattle.words.specs.Writes.{writes};
+ghost use Rattle.ids.specs.Leader.{leaderOf};
+ghost use Rattle.responders.specs.Conf.{empty, leaderWithout};
+ghost use Rattle.responders.specs.Edit.{SetLeader, SetResponders, SetFull, IntoFiltered, ResetFull};
+ghost use Rattle.items.specs.Item.{itemOf, encode, places};
+ghost use Rattle.keyrange.specs.Rows.{rangeAt, rangesOf};
+ghost use Rattle.responders.specs.Show.{spanOf, spansOf, Listing, listing};
+ghost use Rattle.responders.specs.Edits.{view, holdsRows, inRange, Edits, lookup};
+
+pub struct RespondersConf {
+    pub leader: Leader,
+    pub count: usize,
+    pub default: u64,
+}
+
+// A refused edit leaves the roster as it was.
+pub enum Edited {
+    Taken(RespondersConf),
+    Refused(u64),
+}
+
+pub enum Responders {
+    Mask(u64),
+    NoRoster,
+    Refused(u64),
+}
+
+pub enum Shown {
+    Items(usize),
+    Refused(u64),
+}
+
+fn is_whole(len: usize, count: usize) -> bool
+    ensures { λ r. ⌜ r ≡ holdsRows len count ⌝ }
+{
+    if len < RespondersConf::WORDS {
+        return false;
+    }
+    count <= RespondersConf::RANGES
+}
+
+fn is_ready(len: usize, count: usize, population: u8) -> bool
+    ensures { λ r. ⌜ r ≡ holdsRows len count && inRange population ⌝ }
+{
+    if !is_whole(len, count) {
+        return false;
+    }
+    if population < 1 {
+        return false;
+    }
+    population <= 64
+}
+
+// No leader where id is it.
+fn leader_without(leader: Leader, id: Replica) -> Leader
+    ensures { λ r. ⌜ leaderOf r ≡ leaderWithout (id .0) (leaderOf leader) ⌝ }
+{
+    let Leader::Some(l) = leader else {
+        return Leader::None;
+    };
+    if l.0 == id.0 {
+        return Leader::None;
+    }
+    Leader::Some(l)
+}
+
+fn span(rows: &[u64], i: usize) -> Item
+    requires { ⌜ i * 5 + 5 ≤ length (now rows) ⌝ }
+    ensures { λ x. ⌜ itemOf x ≡ spanOf (rangeAt (now (rows .entry)) (i * 5)) ⌝ }
+{
+    let row = keyrange::get_row(rows, i);
+    let start = row.start;
+    let end = row.end;
+    Item::Span {
+        start,
+        end,
+        mask: row.mask,
+    }
+}
+
+fn put_spans(rows: &[u64], count: usize, area: &mut [u64])
+    requires { ⌜ (count * 5 ≤ length (now rows)) × (count ≤ places (now area)) ⌝ }
+    ensures { λ _. ⌜ now (area .exit) ≡ writes (now (area .entry)) 0 (encode (spansOf (rangesOf (now (rows .entry)) count))) ⌝ }
+{
+    let mut i = 0;
+    while i < count {
+        items::put_item(area, i, span(rows, i));
+        i += 1;
+    }
+}
+
+impl RespondersConf {
+    // Ranges stored at most, and the words that hold them.
+    pub const RANGES: usize = 64;
+
+    pub const WORDS: usize = 320;
+
+    pub fn empty() -> RespondersConf
+        ensures { λ r. ⌜ ((rows : List ℕ) → view r rows ≡ empty) × (r .count ≤ 64) ⌝ }
+    {
+        RespondersConf {
+            leader: Leader::None,
+            count: 0,
+            default: 0,
+        }
+    }
+
+    pub fn set_leader(self, rows: &[u64], population: u8, leader: Replica) -> Edited
+        ensures { λ r. ⌜ Edits (SetLeader (leader .0)) population self (now (rows .entry)) r (now (rows .entry)) ⌝ }
+    {
+        if !is_ready(rows.len(), self.count, population) {
+            return Edited::Refused(2);
+        }
+        if population <= leader.0 {
+            return Edited::Refused(3);
+        }
+        Edited::Taken(RespondersConf {
+            leader: Leader::Some(leader),
+            count: self.count,
+            default: self.default,
+        })
+    }
+
+    // For the keys from start to end.
+    pub fn set_responders(
+        self,
+        rows: &mut [u64],
+        population: u8,
+        start: &[u8],
+        end: &[u8],
+        mask: u64,
+    ) -> Edited
+        ensures { λ r. ⌜ Edits (SetResponders (now (start .entry)) (now (end .entry)) mask) population self (now (rows .entry)) r (now (rows .exit)) ⌝ }
+    {
+        if !is_ready(rows.len(), self.count, population) {
+            return Edited::Refused(2);
+        }
+        if !bitmap::fits(mask, population) {
+            return Edited::Refused(4);
+        }
+        if 48 < start.len() {
+            return Edited::Refused(5);
+        }
+        if 48 < end.len() {
+            return Edited::Refused(5);
+        }
+        let KeyRead::Number(a) = keys::key_to_inty(start) else {
+            return Edited::Refused(6);
+        };
+        let KeyRead::Number(b) = keys::key_to_inty(end) else {
+            return Edited::Refused(6);
+        };
+        if inty::lt(b, a) {
+            return Edited::Refused(7);
+        }
+        let w = Row {
+            start: a,
+            end: b,
+            mask,
+        };
+        let Stored::Rows(n) = keyrange::set(rows, self.count, w) else {
+            return Edited::Refused(17);
+        };
+        let leader = self.leader;
+        Edited::Taken(RespondersConf {
+            leader,
+            count: n,
+            default: self.default,
+        })
+    }
+
+    // For all keys.
+    pub fn set_full(self, rows: &mut [u64], population: u8, mask: u64) -> Edited
+        ensures { λ r. ⌜ Edits (SetFull mask) population self (now (rows .entry)) r (now (rows .exit)) ⌝ }
+    {
+        if !is_ready(rows.len(), self.count, population) {
+            return Edited::Refused(2);
+        }
+        if !bitmap::fits(mask, population) {
+            return Edited::Refused(4);
+        }
+        let a = Inty { hi: 0, lo: 0 };
+        let b = Inty {
+            hi: 0xffff_ffff_ffff_ffff,
+            lo: 0xffff_ffff_ffff_ffff,
+        };
+        let w = Row {
+            start: a,
+            end: b,
+            mask,
+        };
+        let Stored::Rows(n) = keyrange::set(rows, self.count, w) else {
+            return Edited::Refused(17);
+        };
+        let leader = self.leader;
+        Edited::Taken(RespondersConf {
+            leader,
+            count: n,
+            default: self.default,
+        })
+    }
+
+    pub fn into_filtered(self, rows: &mut [u64], population: u8, id: Replica) -> Edited
+        ensures { λ r. ⌜ Edits (IntoFiltered (id .0)) population self (now (rows .entry)) r (now (rows .exit)) ⌝ }
+    {
+        if !is_ready(rows.len(), self.count, population) {
+            return Edited::Refused(2);
+        }
+        if population <= id.0 {
+            return Edited::Refused(3);
+        }
+        let n = keyrange::filter(rows, self.count, id);
+        let leader = self.leader;
+        Edited::Taken(RespondersConf {
+            leader: leader_without(leader, id),
+            count: n,
+            default: bitmap::set(self.default, id, false),
+        })
+    }
+
+    pub fn reset_full(self, rows: &[u64], population: u8) -> Edited
+        ensures { λ r. ⌜ Edits ResetFull population self (now (rows .entry)) r (now (rows .entry)) ⌝ }
+    {
+        if !is_ready(rows.len(), self.count, population) {
+            return Edited::Refused(2);
+        }
+        Edited::Taken(RespondersConf {
+            leader: Leader::None,
+            count: 0,
+            default: self.default,
+        })
+    }
+
+    pub fn get_responders_by_key(self, rows: &[u64], key: &[u8]) -> Responders
+        ensures { λ r. ⌜ r ≡ lookup self (now (rows .entry)) (now (key .entry)) ⌝ }
+    {
+        if !is_whole(rows.len(), self.count) {
+            return Responders::Refused(2);
+        }
+        let KeyRead::Number(n) = keys::key_to_inty(key) else {
+            return Responders::NoRoster;
+        };
+        Responders::Mask(keyrange::get(rows, self.count, self.default, n))
+    }
+
+    // The stored ranges ascending, then the default.
+    pub fn show(self, rows: &[u64], area: &mut [u64]) -> Shown
+        ensures { λ r. ⌜ _≡_ {A = Listing} (record { answer = r; area = now (area .exit) }) (listing self (now (rows .entry)) (now (area .entry))) ⌝ }
+    {
+        if !is_whole(rows.len(), self.count) {
+            return Shown::Refused(2);
+        }
+        if area.len() / 6 <= self.count {
+            return Shown::Refused(20);
+        }
+        put_spans(rows, self.count, area);
+        items::put_item(area, self.count, Item::Rest(self.default));
+        Shown::Items(self.count + 1)
+    }
+}
