@@ -1,3 +1,2 @@
 pub mod Read
 pub mod Shown
-pub mod Marked

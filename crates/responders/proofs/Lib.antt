@@ -1,4 +1,4 @@
 pub mod Laws
 pub mod Listing
+pub mod Grounds
 pub mod Rosters
-pub mod Marked

@@ -1,7 +1,6 @@
--- What holds of every roster that edits make: one list for what it stores, at most 64 ranges; and a refusal is the lowest ground that applies. Assumes nothing.
+-- What holds of every roster that edits make: one list for what it stores, at most 64 ranges. Assumes nothing.
 use mathlib.Core.Path.{_≡_, refl, sym, _∙_}
-use mathlib.Core.Bool.{Bool, true, false}
-use mathlib.Core.Logic.{inl, inr, ⊎-elim}
+use mathlib.Core.Bool.{true, false}
 use mathlib.Core.List.{List, _∷_, []}
 use mathlib.Core.Option.{Option, none, some}
 use Prim.Native.Nat.{ℕ, _≤_, _<_}
@@ -15,36 +14,13 @@ use Rattle.keys.specs.Read.{readKey}
 use Rattle.ranges.specs.Range.{Range, at, overwrite}
 use Rattle.ranges.specs.Canon.{Canon, Says, Sorted, mapped}
 use Rattle.ranges.proofs.Meaning.{overwrite-canon, overwrite-at, remasked-canon, remasked-at, remasked-length, canon-sorted, too-many, not-too-many}
+use Rattle.responders.proofs.Grounds.{zero-one, none-apply}
 use Rattle.responders.specs.Conf.{Conf, empty, setResponders, setFull, intoFiltered}
-use Rattle.responders.specs.Ground.{Ground, refusal, Above, Ascends}
+use Rattle.responders.specs.Ground.{refusal, Ascends}
 use Rattle.responders.specs.Edit.{Edit, SetLeader, SetResponders, SetFull, IntoFiltered, ResetFull, edit, grounds, crossed, tooMany, Answer, refused, taken, answer}
-use Rattle.responders.specs.Run.{left, run, Applies}
+use Rattle.responders.specs.Run.{left, run}
 
-zero-one : _≡_ {A = ℕ} 0 1 → ⊥
-zero-one e = omega arith
-
--- ---- the first ground is the lowest
-
-above-all : (n k : ℕ) (gs : List Ground) → Above n gs → Ascends gs → Applies k gs → n < k
-above-all n k [] a s w = absurd w
-above-all n k (g ∷ gs) a s v = ⊎-elim (λ w. omega (arith, w .0)) (λ w. omega (arith, above-all (g .number) k gs (s .0) (s .1) w)) v
-
-pub lowest : (gs : List Ground) (n : ℕ) → Ascends gs → refusal gs ≡ some n → Applies n gs × ((k : ℕ) → Applies k gs → n ≤ k)
-lowest [] n s e = let z : _≡_ {A = ℕ} 0 1 = cc in absurd (zero-one z)
-lowest (g ∷ gs) n s e = go (g .applies) refl (lowest gs n (s .1))
-  where
-    go : (b : Bool) → g .applies ≡ b → (refusal gs ≡ some n → Applies n gs × ((k : ℕ) → Applies k gs → n ≤ k)) → Applies n (g ∷ gs) × ((k : ℕ) → Applies k (g ∷ gs) → n ≤ k)
-    go true f ih =
-        let q : some (g .number) ≡ some n = sym (simp f) ∙ e in
-        let is : g .number ≡ n = cc in
-        (inl (is, f), λ k. ⊎-elim (λ w. omega (arith, is, w .0)) (λ w. omega (arith, is, above-all (g .number) k gs (s .0) (s .1) w)))
-    go false f ih =
-        let q : refusal gs ≡ some n = sym (simp f) ∙ e in
-        let r = ih q in
-        (inr (r .0), λ k. ⊎-elim (λ w. absurd (never (sym f ∙ w .1))) (λ w. r .1 k w))
-      where
-        never : false ≡ true → ⊥
-        never x = let z : _≡_ {A = ℕ} 0 1 = cc in zero-one z
+-- ---- the grounds ascend, so that the first that applies is the lowest
 
 pub ascends : (p : ℕ) (c : Conf) (e : Edit) → Ascends (grounds p c e)
 unfolding grounds
@@ -55,18 +31,6 @@ ascends p c (IntoFiltered r) = (tt, tt)
 ascends p c ResetFull = tt
 
 -- ---- an edit that is taken
-
-abbrev Clear : List Ground → Type 0
-Clear [] = Unit {0}
-Clear (g ∷ gs) = (g .applies ≡ false) × Clear gs
-
-clear : (gs : List Ground) → refusal gs ≡ none → Clear gs
-clear [] e = tt
-clear (g ∷ gs) e = go (g .applies) refl (clear gs)
-  where
-    go : (b : Bool) → g .applies ≡ b → (refusal gs ≡ none → Clear gs) → (g .applies ≡ false) × Clear gs
-    go true f ih = let q : some (g .number) ≡ none = sym (simp f) ∙ e in let z : _≡_ {A = ℕ} 0 1 = cc in absurd (zero-one z)
-    go false f ih = (f, ih (sym (simp f) ∙ e))
 
 answer-taken : (p : ℕ) (c d : Conf) (e : Edit) → answer p c e ≡ taken d → (refusal (grounds p c e) ≡ none) × (edit c e ≡ d)
 unfolding answer
@@ -84,12 +48,12 @@ range-clear : (p mask : ℕ) (c : Conf) (start end : List ℕ) → refusal (grou
     → (crossed (readKey start) (readKey end) ≡ false) × (tooMany (edit c (SetResponders start end mask)) ≡ false)
 unfolding grounds
 range-clear p mask c start end e =
-    let k = clear (grounds p c (SetResponders start end mask)) e in
+    let k = none-apply (grounds p c (SetResponders start end mask)) e in
     (k .1 .1 .1 .0, k .1 .1 .1 .1 .0)
 
 full-clear : (p mask : ℕ) (c : Conf) → refusal (grounds p c (SetFull mask)) ≡ none → tooMany (edit c (SetFull mask)) ≡ false
 unfolding grounds
-full-clear p mask c e = clear (grounds p c (SetFull mask)) e .1 .0
+full-clear p mask c e = none-apply (grounds p c (SetFull mask)) e .1 .0
 
 -- the keys that a range edit covers
 module _ (c : Conf) (start end : List ℕ) (mask a b : ℕ) (f : readKey start ≡ some a) (g : readKey end ≡ some b) where

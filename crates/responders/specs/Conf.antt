@@ -1,7 +1,7 @@
 -- keyrange.rs: `RespondersConf`, a roster. Assumes nothing: these are definitions.
 use Prim.Native.Nat.{ℕ, _-_, _^_}
-use mathlib.Core.Bool.{false}
-use mathlib.Core.List.{List, []}
+use mathlib.Core.Bool.{Bool, true, false, _&&_}
+use mathlib.Core.List.{List, [], _∷_}
 use mathlib.Core.Option.{Option, none, some}
 use lib.Dec.{eqb}
 use Rattle.words.specs.Choice.{if_then_else_, ifNone_then_else_}
@@ -18,6 +18,10 @@ pub record Conf : Type 0 where
 -- `empty`
 abbrev pub empty : Conf
 empty = record { leader = none; ranges = []; default = 0 }
+
+-- `is_leader`
+abbrev pub leads : Conf → ℕ → Bool
+leads c id = ifNone c .leader then false else λ l. eqb l id
 
 -- `get_responders_by_key`. "A key that does not read has no roster at all"
 unfoldable pub getRespondersByKey : Conf → List ℕ → Option ℕ
@@ -50,3 +54,22 @@ intoFiltered id c =
 -- `reset_full`: "no leader, no ranges, default unchanged"
 abbrev pub resetFull : Conf → Conf
 resetFull c = record { leader = none; ranges = []; default = c .default }
+
+-- `==`: rosters are compared as they are stored, and not key by key
+abbrev pub sameLeader : Option ℕ → Option ℕ → Bool
+sameLeader none none = true
+sameLeader none (some y) = false
+sameLeader (some x) none = false
+sameLeader (some x) (some y) = eqb x y
+
+abbrev pub sameRange : Range → Range → Bool
+sameRange x y = eqb (x .from) (y .from) && eqb (x .to) (y .to) && eqb (x .mask) (y .mask)
+
+abbrev pub sameRanges : List Range → List Range → Bool
+sameRanges [] [] = true
+sameRanges [] (y ∷ ys) = false
+sameRanges (x ∷ xs) [] = false
+sameRanges (x ∷ xs) (y ∷ ys) = sameRange x y && sameRanges xs ys
+
+unfoldable pub same : Conf → Conf → Bool
+same c d = sameLeader (c .leader) (d .leader) && sameRanges (c .ranges) (d .ranges) && eqb (c .default) (d .default)

@@ -1,7 +1,9 @@
 -- Document 01, "Why a call is turned away": grounds by number, ascending, and the first that applies. Assumes nothing: these are definitions.
 use Prim.Native.Nat.{ℕ, _<_}
-use mathlib.Core.Bool.{Bool}
+use mathlib.Core.Bool.{Bool, true}
 use mathlib.Core.List.{List, _∷_, []}
+use mathlib.Core.Path.{_≡_}
+use mathlib.Core.Logic.{_⊎_}
 use mathlib.Core.Option.{Option, none, some}
 use Rattle.words.specs.Choice.{if_then_else_}
 
@@ -25,3 +27,8 @@ Above n (g ∷ gs) = n < g .number
 abbrev pub Ascends : List Ground → Type 0
 Ascends [] = Unit {0}
 Ascends (g ∷ gs) = Above (g .number) gs × Ascends gs
+
+-- a ground of this number applies
+abbrev pub Applies : ℕ → List Ground → Type 0
+Applies n [] = ⊥
+Applies n (g ∷ gs) = ((g .number ≡ n) × (g .applies ≡ true)) ⊎ Applies n gs
