@@ -1,0 +1,4 @@
+pub mod Choices
+pub mod Computes
+pub mod Taken
+pub mod Examples

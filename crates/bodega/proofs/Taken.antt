@@ -1,0 +1,38 @@
+-- A call that is taken meets none of its grounds; one that is refused is refused by the lowest. Assumes nothing.
+use Prim.Native.Nat.{ℕ, _≤_}
+use mathlib.Core.Bool.{true}
+use mathlib.Core.Option.{Option, none, some}
+use mathlib.Core.Path.{_≡_, refl}
+use native.Mathlib.Omega.{arith}
+use Rattle.responders.specs.Ground.{Ascends, Applies}
+use Rattle.responders.proofs.Grounds.{zero-one, lowest, NoneApply, none-apply, none-before}
+use Rattle.bodega.specs.Replica.{Replica, Call, Heartbeat, Guard, Prepared, Record, Reply, Notice, CommitNotice, Bars, Read, Release, Done}
+use Rattle.bodega.specs.Grounds.{grounds}
+use Rattle.bodega.specs.Step.{effect, allGrounds, turnedAway, step, stepBy, isTaken}
+
+is-none : (o : Option ℕ) (d : Done) → isTaken (stepBy o d) ≡ true → o ≡ none
+is-none none d h = refl
+is-none (some n) d h = let z : _≡_ {A = ℕ} 0 1 = cc in absurd (zero-one z)
+
+pub taken-none : (r : Replica) (c : Call) (places : ℕ) → isTaken (step r c places) ≡ true → NoneApply (grounds r c)
+unfolding step turnedAway
+taken-none r c places h = none-before (grounds r c) _ (none-apply (allGrounds r c places) (is-none (turnedAway r c places) (effect r c) h))
+
+-- the numbers ascend
+ascends : (r : Replica) (c : Call) (places : ℕ) → Ascends (allGrounds r c places)
+unfolding grounds
+ascends r (Heartbeat peer ballot conf commit exec snap) places = (omega arith, (omega arith, (omega arith, (omega arith, (omega arith, (tt, tt))))))
+ascends r (Guard peer number bar) places = (omega arith, (omega arith, (omega arith, (tt, tt))))
+ascends r (Prepared ballot) places = (omega arith, (tt, tt))
+ascends r (Record slot ballot reqs) places = (omega arith, (omega arith, (omega arith, (omega arith, (omega arith, (omega arith, (omega arith, (tt, tt))))))))
+ascends r (Reply peer slot ballot) places = (omega arith, (omega arith, (omega arith, (tt, tt))))
+ascends r (Notice peer slot ballot) places = (omega arith, (omega arith, (omega arith, (tt, tt))))
+ascends r (CommitNotice peer ballot bar) places = (omega arith, (omega arith, (tt, tt)))
+ascends r (Bars start accept commit exec) places = (omega arith, (omega arith, (tt, tt)))
+ascends r (Read leases q) places = (omega arith, (omega arith, (tt, tt)))
+ascends r (Release slot) places = (omega arith, (omega arith, (tt, tt)))
+
+-- the number of a refusal is the lowest that applies
+pub lowest-first : (r : Replica) (c : Call) (places n : ℕ) → turnedAway r c places ≡ some n → Applies n (allGrounds r c places) × ((k : ℕ) → Applies k (allGrounds r c places) → n ≤ k)
+unfolding turnedAway
+lowest-first r c places n e = lowest (allGrounds r c places) n (ascends r c places) e

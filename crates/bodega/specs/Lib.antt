@@ -1,0 +1,13 @@
+pub mod Limits
+pub mod Replica
+pub mod Localread
+pub mod Request
+pub mod Conflease
+pub mod Heartbeat
+pub mod Messages
+pub mod Events
+pub mod Grounds
+pub mod Step
+pub mod Text
+pub mod Marked
+pub mod Worked

@@ -1,0 +1,1 @@
+// The replica as definitions (specs/) and what follows from them by computing (proofs/).

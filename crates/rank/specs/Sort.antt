@@ -1,0 +1,14 @@
+-- A list of numbers in ascending order, equal ones each kept. Assumes nothing: these are definitions.
+use Prim.Native.Nat.{ℕ}
+use mathlib.Core.List.{List, [], _∷_}
+use lib.Dec.{leb}
+use Rattle.words.specs.Choice.{if_then_else_}
+
+-- x before the first element that is at least x
+unfoldable pub insert : ℕ → List ℕ → List ℕ
+insert x [] = x ∷ []
+insert x (y ∷ ys) = if leb x y then x ∷ y ∷ ys else (y ∷ insert x ys)
+
+unfoldable pub sort : List ℕ → List ℕ
+sort [] = []
+sort (x ∷ xs) = insert x (sort xs)

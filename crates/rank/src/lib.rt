@@ -1,0 +1,1 @@
+// The order of bars: definitions in specs/.
