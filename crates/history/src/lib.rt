@@ -1,0 +1,1 @@
+// Theorems over all lists of calls: definitions in specs/, proofs in proofs/.
