@@ -6,6 +6,7 @@ use Rattle.bodega.specs.Replica.{fresh}
 use Rattle.bodega.specs.Worked.{lines, worked, workedLines, draft, draftEdits, lastEdit}
 use Rattle.responders.specs.Edit.{edit, grounds}
 use mathlib.Core.Option.{some}
+use Rattle.bodega.specs.Scripts.{AllPlay, scripts}
 use Rattle.bodega.proofs.Computes.{computes}
 
 -- P1 to P12
@@ -20,3 +21,7 @@ worked-answers = refl
 pub worked-draft : (draftEdits ≡ draft) × (lastEdit ≡ some 7)
 unfolding computes edit grounds
 worked-draft = (refl, refl)
+
+pub scripts-play : AllPlay scripts
+unfolding computes edit
+scripts-play = (refl, (refl, (refl, (refl, (refl, (refl, (refl, (refl, (refl, (refl, (refl, (refl, (refl, (refl, (refl, tt)))))))))))))))

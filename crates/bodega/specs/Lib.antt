@@ -11,3 +11,5 @@ pub mod Step
 pub mod Text
 pub mod Marked
 pub mod Worked
+pub mod Scripts
+pub mod Answers

@@ -6,3 +6,4 @@ pub mod Guards
 pub mod OrderFree
 pub mod Reach
 pub mod Slots
+pub mod Made

@@ -1,3 +1,4 @@
 pub mod Table
 pub mod History
 pub mod Invariant
+pub mod Made
