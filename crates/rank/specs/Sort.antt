@@ -1,5 +1,5 @@
 -- A list of numbers in ascending order, equal ones each kept. Assumes nothing: these are definitions.
-use Prim.Native.Nat.{ℕ}
+use Prim.Native.Nat.{ℕ, _+_}
 use mathlib.Core.List.{List, [], _∷_}
 use lib.Dec.{leb}
 use Rattle.words.specs.Choice.{if_then_else_}
@@ -12,3 +12,8 @@ insert x (y ∷ ys) = if leb x y then x ∷ y ∷ ys else (y ∷ insert x ys)
 unfoldable pub sort : List ℕ → List ℕ
 sort [] = []
 sort (x ∷ xs) = insert x (sort xs)
+
+-- how many elements are at most v
+unfoldable pub countLe : ℕ → List ℕ → ℕ
+countLe v [] = 0
+countLe v (x ∷ xs) = (if leb x v then 1 else 0) + countLe v xs
