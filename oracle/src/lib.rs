@@ -1,0 +1,15 @@
+//! The judge: the original Rust files of `Bodega`, compiled unchanged, behind
+//! the event program of document 01.
+
+#[macro_use]
+mod macros;
+
+mod bodega;
+mod client;
+mod manager;
+mod server;
+mod time;
+mod utils;
+
+pub mod item;
+pub mod replay;
