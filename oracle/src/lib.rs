@@ -11,5 +11,7 @@ mod server;
 mod time;
 mod utils;
 
+pub mod generate;
 pub mod item;
 pub mod replay;
+pub mod rng;

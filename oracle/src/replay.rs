@@ -1,7 +1,7 @@
 //! The event program: lines in, answers out. Refusals are a layer of their
 //! own, written from document 01; effects are the replica's.
 
-use crate::bodega::{BodegaReplica, ReqBatch, Status, key_string};
+use crate::bodega::{BodegaReplica, ReqBatch, Status, key_bytes, key_string};
 use crate::item::{Item, write_u64};
 use crate::server::{ApiRequest, Command};
 use crate::utils::{Bitmap, RespondersConf};
@@ -257,6 +257,108 @@ impl Replay {
         }
     }
 
+    /// Appends what stands behind the answers: `state` with the reading bar,
+    /// the ballots and the bars, and `pairs` with each replica's guard pair.
+    /// Nothing before an accepted node line.
+    pub fn write_state(&self, out: &mut Vec<u8>) {
+        let Some(host) = &self.host else { return };
+        let node = &host.node;
+        let bars = [
+            node.peer_accept_max,
+            node.start_slot,
+            node.accept_bar,
+            node.commit_bar,
+            node.exec_bar,
+            node.snap_bar,
+            node.end(),
+        ]
+        .map(|bar| bar as u64);
+        write_numbers(
+            out,
+            b"state",
+            [
+                bars[0],
+                node.bal_max_seen,
+                node.bal_prep_sent,
+                node.bal_prepared,
+            ]
+            .into_iter()
+            .chain(bars[1..].iter().copied()),
+        );
+        write_numbers(
+            out,
+            b"pairs",
+            (0..node.population).flat_map(|replica| {
+                let (number, bar) = node.peer_accept_bar[&replica];
+                [number, bar as u64]
+            }),
+        );
+    }
+
+    /// Appends the rest of the node: peers' exec bars, roster, slots, held
+    /// reads and written keys. Bytes of keys are written as they are.
+    pub fn write_node(&self, out: &mut Vec<u8>) {
+        let Some(host) = &self.host else { return };
+        let node = &host.node;
+        write_numbers(
+            out,
+            b"execs",
+            (0..node.population)
+                .filter_map(|replica| node.peer_exec_bar.get(&replica))
+                .map(|&bar| bar as u64),
+        );
+        out.extend_from_slice(b"roster,");
+        match node.bodega_conf.leader {
+            Some(leader) => write_u64(out, u64::from(leader)),
+            None => out.push(b'-'),
+        }
+        out.push(b'\n');
+        for item in spans(&node.bodega_conf) {
+            item.write(out);
+        }
+        for (at, inst) in node.insts.iter().enumerate() {
+            let optional = |number: Option<u64>, out: &mut Vec<u8>| match number {
+                Some(number) => {
+                    out.push(b',');
+                    write_u64(out, number);
+                }
+                None => out.extend_from_slice(b",-"),
+            };
+            write_numbers(
+                out,
+                b"slot",
+                [
+                    (node.start_slot + at) as u64,
+                    inst.status as u64,
+                    inst.bal,
+                    inst.reqs.len() as u64,
+                ],
+            );
+            out.pop();
+            let acks = inst.leader_bk.as_ref().map(|bk| mask_of(&bk.accept_acks));
+            let book = inst.replica_bk.as_ref();
+            optional(acks, out);
+            optional(book.map(|book| book.accept_notices_bal), out);
+            optional(book.map(|book| mask_of(&book.accept_notices)), out);
+            out.push(b'\n');
+            for (client, req) in &inst.reqs {
+                write_request(out, b"request", *client, req);
+            }
+            for (client, req) in book.iter().flat_map(|book| &book.holding_reads) {
+                write_request(out, b"held", *client, req);
+            }
+        }
+        let mut written: Vec<_> = node.highest_slot.iter().collect();
+        written.sort_unstable();
+        for (key, slot) in written {
+            out.extend_from_slice(b"written,");
+            write_u64(out, *slot as u64);
+            out.push(b',');
+            out.extend_from_slice(&key_bytes(key));
+            out.push(b'\n');
+        }
+    }
+
     fn apply(&mut self, line: &[u8]) -> (usize, Verdict) {
         self.items.clear();
         let mut fields = Fields { rest: Some(line) };
@@ -356,7 +458,7 @@ impl Host {
                     .expect("drop");
             }
             Line::Reset => self.draft.reset_full(),
-            Line::Show => self.show(items),
+            Line::Show => items.extend(spans(&self.draft)),
 
             Line::Heard {
                 peer,
@@ -526,21 +628,55 @@ impl Host {
         Ok(())
     }
 
-    fn show(&self, items: &mut Vec<Item>) {
-        for (&start, &end, (responders, _)) in self.draft.responders.iter() {
-            let mask = mask_of(responders);
-            items.push(Item::Span { start, end, mask });
-        }
-        // the default is what every key has once no range is stored
-        let mut bare = self.draft.clone();
-        bare.reset_full();
-        let (default, _) = bare
-            .get_responders_by_key(&"0".to_string())
-            .expect("0 reads");
-        items.push(Item::Rest {
-            mask: mask_of(default),
-        });
+}
+
+/// A roster's spans, ascending, and the rest.
+fn spans(conf: &RespondersConf<()>) -> Vec<Item> {
+    let mut items: Vec<Item> = conf
+        .responders
+        .iter()
+        .map(|(&start, &end, (responders, _))| Item::Span {
+            start,
+            end,
+            mask: mask_of(responders),
+        })
+        .collect();
+    // the default is what every key has once no range is stored
+    let mut bare = conf.clone();
+    bare.reset_full();
+    let (default, _) = bare
+        .get_responders_by_key(&"0".to_string())
+        .expect("0 reads");
+    items.push(Item::Rest {
+        mask: mask_of(default),
+    });
+    items
+}
+
+fn write_numbers(out: &mut Vec<u8>, name: &[u8], numbers: impl IntoIterator<Item = u64>) {
+    out.extend_from_slice(name);
+    for number in numbers {
+        out.push(b',');
+        write_u64(out, number);
     }
+    out.push(b'\n');
+}
+
+fn write_request(out: &mut Vec<u8>, name: &[u8], client: u64, req: &ApiRequest) {
+    let ApiRequest::Req { id, cmd } = req else {
+        unreachable!("no line makes a configuration change");
+    };
+    let (key, value) = match cmd {
+        Command::Get { key } => (key, ""),
+        Command::Put { key, value } => (key, value.as_str()),
+    };
+    write_numbers(out, name, [client, *id]);
+    out.pop();
+    out.push(b',');
+    out.extend_from_slice(&key_bytes(key));
+    out.push(b',');
+    out.extend_from_slice(value.as_bytes());
+    out.push(b'\n');
 }
 
 pub(crate) fn mask_of(bitmap: &Bitmap) -> u64 {

@@ -18,6 +18,14 @@ pub(crate) fn key_string(key: &[u8]) -> String {
     }
 }
 
+/// The scripted bytes of a `key_string`.
+pub(crate) fn key_bytes(key: &str) -> Vec<u8> {
+    match key.strip_prefix(',') {
+        Some(bytes) => bytes.chars().map(|c| c as u8).collect(),
+        None => key.as_bytes().to_vec(),
+    }
+}
+
 impl BodegaReplica {
     /// A fresh node, as the original's `new_and_setup` leaves it.
     pub(crate) fn fresh(id: ReplicaId, population: u8, quorum_cnt: u8) -> Self {

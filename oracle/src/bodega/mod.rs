@@ -18,7 +18,7 @@ use crate::server::{
 use crate::time::{self, Duration, Instant};
 use crate::utils::{Bitmap, RespondersConf, SummersetError, Timer};
 
-pub(crate) use events::key_string;
+pub(crate) use events::{key_bytes, key_string};
 
 /// Of the original's parameters those that its files read.
 pub(crate) struct ReplicaConfigBodega {
