@@ -7,13 +7,7 @@ use std::fs;
 use std::path::{Path, PathBuf};
 use std::process;
 
-const BODEGA: [&str; 5] = [
-    "conflease",
-    "heartbeat",
-    "localread",
-    "messages",
-    "request",
-];
+const BODEGA: [&str; 5] = ["conflease", "heartbeat", "localread", "messages", "request"];
 const UTILS: [&str; 2] = ["bitmap", "keyrange"];
 
 fn main() {

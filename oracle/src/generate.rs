@@ -160,11 +160,8 @@ impl Generator {
 
     fn before_node(&mut self) -> Vec<u8> {
         if self.lines <= self.node_after {
-            let scratch = BodegaReplica::fresh(
-                self.id as u8,
-                self.population as u8,
-                self.quorum as u8,
-            );
+            let scratch =
+                BodegaReplica::fresh(self.id as u8, self.population as u8, self.quorum as u8);
             return match self.rng.below(4) {
                 0 => {
                     let population = self.rng.pick(&[0, 65, 3, self.population]);
@@ -241,7 +238,7 @@ impl Generator {
             2 => 1 << self.id,
             3 => 1 << self.rng.below(self.population),
             4 => (1 << self.rng.below(self.population)) | (1 << self.rng.below(self.population)),
-            _ => self.rng.next() & self.rng.next() & all,
+            _ => self.rng.draw() & self.rng.draw() & all,
         };
         let own = match self.mood {
             Mood::Follower | Mood::Holds => 85,
@@ -300,12 +297,15 @@ impl Generator {
             3..=6 => node.commit_bar as u64,
             7 => node.exec_bar as u64,
             8..=10 => node.end() as u64,
-            _ => self.rng.between(node.start_slot as u64, node.end() as u64 + 1),
+            _ => self
+                .rng
+                .between(node.start_slot as u64, node.end() as u64 + 1),
         }
     }
 
     fn key_number(&mut self) -> u128 {
-        self.base.saturating_add(u128::from(self.rng.below(self.keys)))
+        self.base
+            .saturating_add(u128::from(self.rng.below(self.keys)))
     }
 
     fn spelled(&mut self, number: u128) -> Vec<u8> {
@@ -568,7 +568,8 @@ impl Generator {
                 line.extend(
                     format!(
                         "k{}",
-                        self.base.saturating_add(u128::from(self.rng.below(self.keys)))
+                        self.base
+                            .saturating_add(u128::from(self.rng.below(self.keys)))
                     )
                     .into_bytes(),
                 );
@@ -593,12 +594,18 @@ impl Generator {
         }
         if node.accept_bar > node.commit_bar && self.rng.chance(60) {
             // else the own pair bars every read
-            lines.insert(0, fields("bars", &[
-                node.start_slot as u64,
-                node.commit_bar as u64,
-                node.commit_bar as u64,
-                node.exec_bar as u64,
-            ]));
+            lines.insert(
+                0,
+                fields(
+                    "bars",
+                    &[
+                        node.start_slot as u64,
+                        node.commit_bar as u64,
+                        node.commit_bar as u64,
+                        node.exec_bar as u64,
+                    ],
+                ),
+            );
         }
         lines.reverse();
         self.ahead = lines;
@@ -613,7 +620,11 @@ impl Generator {
             2 => (node.exec_bar as u64).saturating_sub(self.rng.below(3)),
             _ => node.exec_bar as u64,
         };
-        let snap = if self.rng.one_in(4) { self.bar(node) } else { 0 };
+        let snap = if self.rng.one_in(4) {
+            self.bar(node)
+        } else {
+            0
+        };
         [commit, exec, snap]
     }
 
@@ -992,8 +1003,8 @@ impl Generator {
             10 => {
                 // longer than a line may be, by zeros in the last field
                 let at = commas.last().map_or(line.len(), |&c| c + 1);
-                let zeros = (MAX_LINE + 1).saturating_sub(line.len())
-                    + self.rng.below(3) as usize * 40;
+                let zeros =
+                    (MAX_LINE + 1).saturating_sub(line.len()) + self.rng.below(3) as usize * 40;
                 line.splice(at..at, vec![b'0'; zeros]);
             }
             11 => line = b"heard,0,0,2,0,0,0".to_vec(),
@@ -1143,7 +1154,10 @@ impl Coverage {
                     }),
             );
             deep(2, node.highest_slot.len() == MAX_WRITTEN);
-            deep(3, name == "range" && host.draft.responders.iter().count() == MAX_RANGES);
+            deep(
+                3,
+                name == "range" && host.draft.responders.iter().count() == MAX_RANGES,
+            );
         }
         if name == "heard" && taken {
             let stepped = matches!(items.first(), Some(Item::Lead { step_up: true }));
@@ -1151,8 +1165,7 @@ impl Coverage {
             deep(5, stepped && before.leader);
             deep(
                 6,
-                after.ballot == before.ballot
-                    && (after.own_pair != before.own_pair || stepped),
+                after.ballot == before.ballot && (after.own_pair != before.own_pair || stepped),
             );
             deep(
                 7,
@@ -1161,10 +1174,7 @@ impl Coverage {
         }
         if name == "notice" && taken {
             deep(8, after.ballot > before.ballot);
-            deep(
-                9,
-                after.end > before.end && after.ballot == before.ballot,
-            );
+            deep(9, after.end > before.end && after.ballot == before.ballot);
             deep(10, items.len() >= 2);
             deep(11, of("value") > 0 && of("retry") > 0);
         }

@@ -11,7 +11,9 @@ mod server;
 mod time;
 mod utils;
 
+pub mod compare;
 pub mod generate;
 pub mod item;
 pub mod replay;
 pub mod rng;
+pub mod script;

@@ -3,7 +3,9 @@
 use std::io::{self, BufRead, Write};
 use std::ops::Range;
 use std::process::ExitCode;
+use std::time::{Duration, Instant};
 
+use bodega_oracle::compare::{self, Difference, Program};
 use bodega_oracle::generate::{self, Coverage};
 use bodega_oracle::replay::Replay;
 
@@ -13,6 +15,10 @@ usage: oracle                              event lines on standard input, answer
        oracle --node                       after each answer also the whole node
        oracle generate SEED [LINES]        write the script of a seed
        oracle coverage [SEEDS [LINES]]     table over the scripts of seeds 0 to SEEDS - 1
+       oracle compare [--from SEED] [--seeds COUNT] [--lines LINES] [--state]
+                      [--script FILE] PROGRAM [ARG ...]
+                                           run PROGRAM on the scripts of many seeds (or on
+                                           FILE) and shrink the first difference
 ";
 
 fn main() -> ExitCode {
@@ -24,6 +30,7 @@ fn main() -> ExitCode {
         ["--node"] => replay(true, true),
         ["generate", rest @ ..] if !rest.is_empty() => generate_script(rest),
         ["coverage", rest @ ..] => coverage(rest),
+        ["compare", rest @ ..] => return compare_with(rest),
         _ => {
             eprint!("{USAGE}");
             return ExitCode::from(2);
@@ -95,4 +102,86 @@ fn coverage(args: &[&str]) -> io::Result<()> {
     }
     print!("{}", coverage.table());
     Ok(())
+}
+
+fn compare_with(args: &[&str]) -> ExitCode {
+    match compare_args(args) {
+        Ok(None) => ExitCode::SUCCESS,
+        Ok(Some(difference)) => {
+            if let Some(seed) = difference.seed {
+                println!("differs at seed {seed}; smallest script:");
+            } else {
+                println!("differs; smallest script:");
+            }
+            let mut out = io::stdout().lock();
+            let shown = out
+                .write_all(&difference.script.bytes())
+                .and_then(|()| out.write_all(b"oracle:\n"))
+                .and_then(|()| out.write_all(&difference.oracle))
+                .and_then(|()| out.write_all(b"program:\n"))
+                .and_then(|()| out.write_all(&difference.program));
+            drop(shown);
+            ExitCode::FAILURE
+        }
+        Err(e) => {
+            eprintln!("oracle: {e}");
+            ExitCode::from(2)
+        }
+    }
+}
+
+fn compare_args(args: &[&str]) -> io::Result<Option<Difference>> {
+    let (mut from, mut seeds, mut lines) = (0, 1000, 1000);
+    let (mut state, mut file) = (false, None);
+    let mut at = 0;
+    while let Some(&option) = args.get(at) {
+        let value = args.get(at + 1);
+        let needed = || io::Error::other(format!("{option} needs a value"));
+        at += 2;
+        match option {
+            "--from" => from = number(args, at - 1, from)?,
+            "--seeds" => seeds = number(args, at - 1, seeds)?,
+            "--lines" => lines = number(args, at - 1, lines)?,
+            "--script" => file = Some(*value.ok_or_else(needed)?),
+            "--state" => {
+                state = true;
+                at -= 1;
+            }
+            _ => {
+                at -= 2;
+                break;
+            }
+        }
+    }
+    let program = Program {
+        command: args[at.min(args.len())..]
+            .iter()
+            .map(ToString::to_string)
+            .collect(),
+        timeout: Duration::from_secs(60),
+    };
+    if program.command.is_empty() {
+        return Err(io::Error::other(format!("no program\n{USAGE}")));
+    }
+    if let Some(file) = file {
+        let difference = compare::script(&program, &std::fs::read(file)?, state)?;
+        if difference.is_none() {
+            println!("no difference");
+        }
+        return Ok(difference);
+    }
+    let begun = Instant::now();
+    let done = compare::seeds(&program, from..from.saturating_add(seeds), lines, state)?;
+    println!(
+        "{} scripts, {} lines in {:.1} s{}",
+        done.scripts,
+        done.lines,
+        begun.elapsed().as_secs_f64(),
+        if done.difference.is_none() {
+            ": no difference"
+        } else {
+            ""
+        }
+    );
+    Ok(done.difference)
 }

@@ -49,7 +49,6 @@ enum Line<'a> {
     Record {
         slot: u64,
         ballot: u64,
-        batch: [Request<'a>; MAX_BATCH],
         requests: usize,
         long_key: bool,
     },
@@ -128,7 +127,13 @@ fn kind_of(name: &[u8]) -> usize {
         .unwrap_or(KINDS.len() - 1)
 }
 
-fn parse<'a>(kind: usize, mut fields: Fields<'a>) -> Option<Line<'a>> {
+/// Reads a line's fields; the requests of a *record* go to `batch`, as many as
+/// it takes.
+fn parse<'a>(
+    kind: usize,
+    mut fields: Fields<'a>,
+    batch: &mut [Request<'a>; MAX_BATCH],
+) -> Option<Line<'a>> {
     let f = &mut fields;
     let line = match KINDS[kind] {
         "node" => Line::Node(f.numbers()?),
@@ -152,7 +157,6 @@ fn parse<'a>(kind: usize, mut fields: Fields<'a>) -> Option<Line<'a>> {
         "prepared" => Line::Prepared(f.number()?),
         "record" => {
             let (slot, ballot) = (f.number()?, f.number()?);
-            let mut batch = [Request::default(); MAX_BATCH];
             let mut requests = 0;
             let mut long_key = false;
             while f.rest.is_some() {
@@ -174,7 +178,6 @@ fn parse<'a>(kind: usize, mut fields: Fields<'a>) -> Option<Line<'a>> {
             Line::Record {
                 slot,
                 ballot,
-                batch,
                 requests,
                 long_key,
             }
@@ -366,7 +369,8 @@ impl Replay {
         if line.len() > MAX_LINE {
             return (kind, Err(1));
         }
-        let Some(line) = parse(kind, fields) else {
+        let mut batch = [Request::default(); MAX_BATCH];
+        let Some(line) = parse(kind, fields, &mut batch) else {
             return (kind, Err(1));
         };
         let verdict = match (line, &mut self.host) {
@@ -386,7 +390,7 @@ impl Replay {
             }
             (Line::Node(_), Some(_)) | (_, None) => Err(2),
             (line, Some(host)) => {
-                let verdict = host.apply(line, &mut self.items);
+                let verdict = host.apply(line, &batch, &mut self.items);
                 host.node.sent.drain_into(&mut self.items);
                 verdict
             }
@@ -417,7 +421,7 @@ impl Host {
     }
 
     #[allow(clippy::too_many_lines)]
-    fn apply(&mut self, line: Line, items: &mut Vec<Item>) -> Verdict {
+    fn apply(&mut self, line: Line, batch: &[Request], items: &mut Vec<Item>) -> Verdict {
         match line {
             Line::Node(_) => unreachable!("a node line needs no host"),
 
@@ -508,7 +512,6 @@ impl Host {
             Line::Record {
                 slot,
                 ballot,
-                batch,
                 requests,
                 long_key,
             } => {
@@ -627,7 +630,6 @@ impl Host {
         self.node.record(slot, ballot, reqs);
         Ok(())
     }
-
 }
 
 /// A roster's spans, ascending, and the rest.

@@ -372,10 +372,7 @@ impl LeaseManager {
         panic!("there is no lease to wait for")
     }
 
-    pub(crate) fn attempt_refresh(
-        &mut self,
-        _: Option<&Bitmap>,
-    ) -> Result<Bitmap, SummersetError> {
+    pub(crate) fn attempt_refresh(&mut self, _: Option<&Bitmap>) -> Result<Bitmap, SummersetError> {
         Ok(Bitmap::new(self.population, false))
     }
 }

@@ -102,8 +102,10 @@ impl BodegaReplica {
     }
 
     pub(crate) fn guard(&mut self, peer: ReplicaId, number: Ballot, accept_bar: usize) {
-        block_on(self.handle_lease_action(number, LeaseAction::GuardAcceptBar { peer, accept_bar }))
-            .expect("guard");
+        block_on(
+            self.handle_lease_action(number, LeaseAction::GuardAcceptBar { peer, accept_bar }),
+        )
+        .expect("guard");
     }
 
     pub(crate) fn reply(&mut self, peer: ReplicaId, slot: usize, ballot: Ballot) {
