@@ -1257,7 +1257,7 @@ pub fn script(
         }
         input.extend_from_slice(&line);
         // the last line may lack its newline, if it has a byte
-        if i + 1 < lines || line.is_empty() || seed % 5 != 0 {
+        if i + 1 < lines || line.is_empty() || !seed.is_multiple_of(5) {
             input.push(b'\n');
         }
     }

@@ -13,6 +13,7 @@ mod utils;
 
 pub mod compare;
 pub mod generate;
+pub mod hand;
 pub mod item;
 pub mod replay;
 pub mod rng;
