@@ -19,6 +19,7 @@ fn main() {
         Some(folder) => package.parent().unwrap().join(folder),
         None => package.join("../../shared/docs/src"),
     };
+    println!("cargo::rustc-env=BODEGA_FOLDER={}", folder.display());
     let out = PathBuf::from(env::var_os("OUT_DIR").unwrap());
     declare(
         &folder.join("src/protocols/bodega"),

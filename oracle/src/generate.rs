@@ -2,10 +2,10 @@
 //! knows the node's state and aims each line at it.
 
 use crate::bodega::{BodegaReplica, Status};
-use crate::item::{Item, write_u64};
+use crate::coverage::{Coverage, Watch};
+use crate::item::write_u64;
 use crate::replay::{
-    KINDS, MAX_BATCH, MAX_HELD, MAX_KEY, MAX_LINE, MAX_RANGES, MAX_SLOT, MAX_SLOTS, MAX_WRITTEN,
-    Replay,
+    MAX_BATCH, MAX_HELD, MAX_KEY, MAX_LINE, MAX_RANGES, MAX_SLOT, MAX_SLOTS, MAX_WRITTEN, Replay,
 };
 use crate::rng::Rng;
 
@@ -224,7 +224,7 @@ impl Generator {
         } else {
             (1 << self.population) - 1
         };
-        if self.rng.one_in(50) {
+        if self.rng.one_in(25) {
             return match self.rng.below(4) {
                 0 if self.population < 64 => 1 << self.population,
                 1 => u64::MAX,
@@ -507,7 +507,7 @@ impl Generator {
         } else {
             (self.key_number(), self.key_number())
         };
-        if (start > end) != self.rng.one_in(25) {
+        if (start > end) != self.rng.one_in(15) {
             (start, end) = (end, start);
         }
         let mut line = b"range,".to_vec();
@@ -644,7 +644,7 @@ impl Generator {
             _ => self.peer(),
         };
         let with = u64::from(if ballot > node.bal_max_seen {
-            self.rng.chance(65)
+            self.rng.chance(55)
         } else {
             self.rng.chance(40)
         });
@@ -1059,201 +1059,24 @@ impl Generator {
     }
 }
 
-/// How often each line kind was taken or refused, each item kind was sent and
-/// some deep states were met.
-pub struct Coverage {
-    pub lines: u64,
-    pub kinds: [[u64; 20]; KINDS.len()],
-    pub items: [u64; Item::KINDS.len()],
-    pub deep: [u64; DEEP.len()],
-}
-
-pub const DEEP: [&str; 16] = [
-    "32 slots held",
-    "16 reads held by a slot",
-    "256 written keys",
-    "64 stored ranges",
-    "step-up that releases reads",
-    "step-up while leader already",
-    "adoption at the present ballot",
-    "adoption without step-up by a leader",
-    "notice that raises the ballot",
-    "notice before its record (null slot)",
-    "notice that releases two reads or more",
-    "release by notice with value and retry",
-    "reply with two resends or more",
-    "reply with resend and commit",
-    "bars that drops slots",
-    "walk of heard or commit over two slots or more",
-];
-
-impl Default for Coverage {
-    fn default() -> Self {
-        Coverage {
-            lines: 0,
-            kinds: [[0; 20]; KINDS.len()],
-            items: [0; Item::KINDS.len()],
-            deep: [0; DEEP.len()],
-        }
-    }
-}
-
-/// What of a node the deep states compare across a line.
-#[derive(Clone, Copy, Default)]
-struct Before {
-    ballot: u64,
-    leader: bool,
-    own_pair: (u64, usize),
-    start: usize,
-    end: usize,
-    reading: usize,
-}
-
-impl Before {
-    fn of(replay: &Replay) -> Self {
-        replay.host().map_or_else(Before::default, |host| {
-            let node = &host.node;
-            Before {
-                ballot: node.bal_max_seen,
-                leader: node.is_leader(),
-                own_pair: node.peer_accept_bar[&node.id],
-                start: node.start_slot,
-                end: node.end(),
-                reading: node.peer_accept_max,
-            }
-        })
-    }
-}
-
-impl Coverage {
-    fn count(&mut self, kind: usize, refusal: u8, before: Before, replay: &Replay) {
-        self.lines += 1;
-        self.kinds[kind][refusal as usize] += 1;
-        let items = replay.items();
-        let of = |name: &str| {
-            let kind = Item::KINDS.iter().position(|k| *k == name);
-            items.iter().filter(|i| Some(i.kind()) == kind).count()
-        };
-        for item in items {
-            self.items[item.kind()] += 1;
-        }
-        let Some(host) = replay.host() else { return };
-        let (node, after) = (&host.node, Before::of(replay));
-        let name = KINDS[kind];
-        let taken = refusal == 0;
-        let mut deep = |at: usize, met: bool| self.deep[at] += u64::from(met);
-        if taken {
-            deep(0, node.insts.len() == MAX_SLOTS);
-            deep(
-                1,
-                name == "read"
-                    && node.insts.iter().any(|i| {
-                        i.replica_bk
-                            .as_ref()
-                            .is_some_and(|bk| bk.holding_reads.len() == MAX_HELD)
-                    }),
-            );
-            deep(2, node.highest_slot.len() == MAX_WRITTEN);
-            deep(
-                3,
-                name == "range" && host.draft.responders.iter().count() == MAX_RANGES,
-            );
-        }
-        if name == "heard" && taken {
-            let stepped = matches!(items.first(), Some(Item::Lead { step_up: true }));
-            deep(4, stepped && of("retry") > 0);
-            deep(5, stepped && before.leader);
-            deep(
-                6,
-                after.ballot == before.ballot && (after.own_pair != before.own_pair || stepped),
-            );
-            deep(
-                7,
-                before.leader && after.own_pair.0 != before.own_pair.0 && !stepped,
-            );
-        }
-        if name == "notice" && taken {
-            deep(8, after.ballot > before.ballot);
-            deep(9, after.end > before.end && after.ballot == before.ballot);
-            deep(10, items.len() >= 2);
-            deep(11, of("value") > 0 && of("retry") > 0);
-        }
-        if name == "reply" && taken {
-            deep(12, of("resend") >= 2);
-            deep(13, of("resend") > 0 && of("commit") > 0);
-        }
-        deep(14, after.start > before.start);
-        deep(
-            15,
-            (name == "heard" || name == "commit") && of("commit") >= 2,
-        );
-        let _ = before.reading;
-    }
-
-    /// The table: a line per kind with taken and each refusal, then items,
-    /// then deep states.
-    #[must_use]
-    pub fn table(&self) -> String {
-        use std::fmt::Write as _;
-        let mut text = String::new();
-        writeln!(text, "{} lines", self.lines).unwrap();
-        write!(text, "{:>9} {:>8}", "line", "taken").unwrap();
-        for ground in 1..20 {
-            write!(text, " {ground:>7}").unwrap();
-        }
-        text.push('\n');
-        for (kind, row) in KINDS.iter().zip(&self.kinds) {
-            write!(text, "{kind:>9} {:>8}", row[0]).unwrap();
-            for count in &row[1..] {
-                if *count == 0 {
-                    write!(text, " {:>7}", ".").unwrap();
-                } else {
-                    write!(text, " {count:>7}").unwrap();
-                }
-            }
-            text.push('\n');
-        }
-        write!(text, "{:>9}", "all").unwrap();
-        for ground in 0..20 {
-            let sum: u64 = self.kinds.iter().map(|row| row[ground]).sum();
-            if ground == 0 {
-                write!(text, " {sum:>8}").unwrap();
-            } else {
-                write!(text, " {sum:>7}").unwrap();
-            }
-        }
-        text.push('\n');
-        for (kind, count) in Item::KINDS.iter().zip(&self.items) {
-            writeln!(text, "{count:>10} {kind}").unwrap();
-        }
-        for (state, count) in DEEP.iter().zip(&self.deep) {
-            writeln!(text, "{count:>10} {state}").unwrap();
-        }
-        text
-    }
-}
-
 /// The script of a seed and the oracle's answer to it, both appended.
 pub fn script(
     seed: u64,
     lines: u64,
     input: &mut Vec<u8>,
     output: &mut Vec<u8>,
-    coverage: Option<&mut Coverage>,
+    mut coverage: Option<&mut Coverage>,
 ) {
     let mut generator = Generator::new(seed);
     let mut replay = Replay::new();
-    let mut coverage = coverage;
     for i in 0..lines {
         let line = generator.next_line(&replay);
-        let before = if coverage.is_some() {
-            Before::of(&replay)
-        } else {
-            Before::default()
-        };
-        let (kind, refusal) = replay.line(&line, output);
         if let Some(coverage) = coverage.as_deref_mut() {
-            coverage.count(kind, refusal, before, &replay);
+            let watch = Watch::new(&replay);
+            let (kind, refusal) = replay.line(&line, output);
+            coverage.count(kind, refusal, &watch.met(kind, refusal, &replay), &replay);
+        } else {
+            replay.line(&line, output);
         }
         input.extend_from_slice(&line);
         // the last line may lack its newline, if it has a byte

@@ -12,9 +12,12 @@ mod time;
 mod utils;
 
 pub mod compare;
+pub mod coverage;
 pub mod generate;
 pub mod hand;
 pub mod item;
+pub mod mutants;
+pub mod recorded;
 pub mod replay;
 pub mod rng;
 pub mod script;

@@ -2,11 +2,15 @@
 
 use std::io::{self, BufRead, Write};
 use std::ops::Range;
+use std::path::Path;
 use std::process::ExitCode;
 use std::time::{Duration, Instant};
 
 use bodega_oracle::compare::{self, Difference, Program};
-use bodega_oracle::generate::{self, Coverage};
+use bodega_oracle::coverage::Coverage;
+use bodega_oracle::generate;
+use bodega_oracle::mutants;
+use bodega_oracle::recorded::{self, Recorded};
 use bodega_oracle::replay::Replay;
 
 const USAGE: &str = "\
@@ -15,6 +19,13 @@ usage: oracle                              event lines on standard input, answer
        oracle --node                       after each answer also the whole node
        oracle generate SEED [LINES]        write the script of a seed
        oracle coverage [SEEDS [LINES]]     table over the scripts of seeds 0 to SEEDS - 1
+       oracle record FILE                  make the recorded answers anew
+       oracle extract FILE FOLDER          write them as NAME.in and NAME.out
+       oracle recorded FILE PROGRAM [ARG ...]
+                                           run PROGRAM on them, name those that differ
+       oracle mutants LIST FILE WORK [SEEDS]
+                                           build each mutant of LIST in the folder WORK and
+                                           tell whether the recorded answers in FILE show it
        oracle compare [--from SEED] [--seeds COUNT] [--lines LINES] [--state]
                       [--script FILE] PROGRAM [ARG ...]
                                            run PROGRAM on the scripts of many seeds (or on
@@ -30,6 +41,10 @@ fn main() -> ExitCode {
         ["--node"] => replay(true, true),
         ["generate", rest @ ..] if !rest.is_empty() => generate_script(rest),
         ["coverage", rest @ ..] => coverage(rest),
+        ["record", file] => std::fs::write(file, recorded::write(&recorded::make())),
+        ["extract", file, folder] => extract(file, folder),
+        ["recorded", file, program @ ..] if !program.is_empty() => run_recorded(file, program),
+        ["mutants", list, file, work, rest @ ..] => run_mutants(list, file, work, rest),
         ["compare", rest @ ..] => return compare_with(rest),
         _ => {
             eprint!("{USAGE}");
@@ -102,6 +117,52 @@ fn coverage(args: &[&str]) -> io::Result<()> {
     }
     print!("{}", coverage.table());
     Ok(())
+}
+
+fn read_recorded(file: &str) -> io::Result<Vec<Recorded>> {
+    recorded::read(&std::fs::read(file)?)
+        .ok_or_else(|| io::Error::other(format!("{file} has no recorded answers")))
+}
+
+fn extract(file: &str, folder: &str) -> io::Result<()> {
+    std::fs::create_dir_all(folder)?;
+    for script in read_recorded(file)? {
+        let path = |kind| format!("{folder}/{}.{kind}", script.name);
+        std::fs::write(path("in"), &script.input)?;
+        std::fs::write(path("out"), &script.output)?;
+    }
+    Ok(())
+}
+
+fn run_recorded(file: &str, program: &[&str]) -> io::Result<()> {
+    let program = Program {
+        command: program.iter().map(ToString::to_string).collect(),
+        timeout: Duration::from_secs(60),
+    };
+    let scripts = read_recorded(file)?;
+    let mut wrong = 0;
+    for script in &scripts {
+        if program.answer(script.input.clone())? != script.output {
+            println!("{}", script.name);
+            wrong += 1;
+        }
+    }
+    println!("{wrong} of {} scripts differ", scripts.len());
+    if wrong > 0 {
+        return Err(io::Error::other("the program differs"));
+    }
+    Ok(())
+}
+
+fn run_mutants(list: &str, file: &str, work: &str, rest: &[&str]) -> io::Result<()> {
+    mutants::run(
+        &std::fs::read_to_string(list)?,
+        Path::new(env!("CARGO_MANIFEST_DIR")),
+        Path::new(env!("BODEGA_FOLDER")),
+        Path::new(work),
+        &read_recorded(file)?,
+        number(rest, 0, 300)?,
+    )
 }
 
 fn compare_with(args: &[&str]) -> ExitCode {

@@ -44,10 +44,18 @@ pub fn answer(input: &[u8], state: bool) -> Vec<u8> {
     out
 }
 
+/// Trials after which shrinking is content with what it has.
+const TRIALS: u32 = 20_000;
+
 /// Makes a script as small as it gets while `keeps` holds of it: fewer lines
 /// first, then plainer fields. `keeps` must hold of the script given.
 pub fn shrink(script: Script, keeps: &mut dyn FnMut(&Script) -> bool) -> Script {
     let mut script = script;
+    let mut trials = 0;
+    let keeps: &mut dyn FnMut(&Script) -> bool = &mut |smaller| {
+        trials += 1;
+        trials <= TRIALS && keeps(smaller)
+    };
     if !script.newline {
         let whole = Script {
             newline: true,
@@ -136,29 +144,37 @@ fn plainer_numbers(script: &mut Script, keeps: &mut dyn FnMut(&Script) -> bool) 
     numbers.dedup();
     for old in numbers.into_iter().rev() {
         let low = old & 0xff;
-        for new in [0, 1, 2, 256 | low, 512 | low, 768 | low, old / 2, old - 1] {
-            if new >= old {
-                continue;
-            }
-            let mut smaller = script.clone();
-            for line in &mut smaller.lines {
-                let fields: Vec<Vec<u8>> = line
-                    .split(|&b| b == b',')
-                    .map(|field| {
-                        if number(field) == Some(old) {
-                            new.to_string().into_bytes()
-                        } else {
-                            field.to_vec()
-                        }
-                    })
-                    .collect();
-                *line = fields.join(&b',');
-            }
-            if attempt(script, smaller, keeps) {
-                break;
+        let mut plain = [0, 1, 2, 256 | low, 512 | low, 768 | low].into_iter();
+        let found =
+            plain.any(|new| new < old && attempt(script, with_number(script, old, new), keeps));
+        if !found {
+            // the smallest one by halving steps
+            let mut now = old;
+            for step in (0..64).rev().map(|bit| 1 << bit) {
+                if step <= now && attempt(script, with_number(script, now, now - step), keeps) {
+                    now -= step;
+                }
             }
         }
     }
+}
+
+fn with_number(script: &Script, old: u64, new: u64) -> Script {
+    let mut smaller = script.clone();
+    for line in &mut smaller.lines {
+        let fields: Vec<Vec<u8>> = line
+            .split(|&b| b == b',')
+            .map(|field| {
+                if number(field) == Some(old) {
+                    new.to_string().into_bytes()
+                } else {
+                    field.to_vec()
+                }
+            })
+            .collect();
+        *line = fields.join(&b',');
+    }
+    smaller
 }
 
 /// Puts a plain key in place of one key wherever it stands.
@@ -203,7 +219,8 @@ fn plainer_fields(script: &mut Script, keeps: &mut dyn FnMut(&Script) -> bool) {
             let old = &fields[place];
             let mut candidates: Vec<Vec<u8>> = Vec::new();
             if let Some(n) = number(old) {
-                for new in [0, 1, 2, n / 2, n.saturating_sub(1)] {
+                let less = if n <= 64 { n.saturating_sub(1) } else { n / 2 };
+                for new in [0, 1, 2, n / 2, less] {
                     let new = new.to_string().into_bytes();
                     if new.len() < old.len() || (new.len() == old.len() && new < *old) {
                         candidates.push(new);

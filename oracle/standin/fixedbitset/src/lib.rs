@@ -135,3 +135,47 @@ impl Index<usize> for FixedBitSet {
         if self.contains(bit) { &true } else { &false }
     }
 }
+
+#[cfg(test)]
+mod tests {
+    use super::*;
+
+    #[test]
+    fn agrees_with_a_list_of_bools() {
+        for length in [1, 2, 63, 64, 65, 127, 128, 200, 255, 256] {
+            let mut set = FixedBitSet::with_capacity(length);
+            let mut bools = vec![false; length];
+            let mut seed = length;
+            for _ in 0..500 {
+                seed = seed.wrapping_mul(6_364_136_223_846_793_005).wrapping_add(1);
+                let (bit, enabled) = ((seed >> 33) % length, seed >> 62 & 1 == 1);
+                set.set(bit, enabled);
+                bools[bit] = enabled;
+                assert_eq!(set[bit], enabled);
+            }
+            assert_eq!(set.len(), length);
+            assert_eq!(set.count_ones(..), bools.iter().filter(|b| **b).count());
+            for (bit, enabled) in bools.iter().enumerate() {
+                assert_eq!(set.contains(bit), *enabled);
+            }
+            assert!(!set.contains(length) && !set[length]);
+            let old = set.clone();
+            set.toggle_range(..);
+            assert_eq!(set.count_ones(..), length - old.count_ones(..));
+            set.union_with(&old);
+            assert_eq!(set.count_ones(..), length);
+            assert!(set.is_superset(&old));
+            assert!(!FixedBitSet::with_capacity(length).is_superset(&set));
+            set.clear();
+            assert_eq!((set.len(), set.count_ones(..)), (length, 0));
+            set.set_range(.., true);
+            assert_eq!(set.count_ones(..), length);
+        }
+    }
+
+    #[test]
+    #[should_panic(expected = "exceeds fixedbitset size")]
+    fn set_out_of_bounds_panics() {
+        FixedBitSet::with_capacity(3).set(3, true);
+    }
+}
