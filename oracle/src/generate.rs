@@ -721,14 +721,14 @@ impl Generator {
                         .is_some_and(|bk| bk.holding_reads.len() > 2)
             })
             .map(|i| (node.start_slot + i) as u64);
-        let slot = match (self.rng.below(12), open) {
-            (0, _) => self.odd_slot(node),
-            (1, _) if let Some(holding) = holding => holding,
-            (1 | 2, _) => self.held_slot(node),
-            (3..=6, Some(open)) => open,
-            (7..=11, Some(open)) if node.insts.len() == MAX_SLOTS && self.rng.chance(80) => open,
-            (7, _) if self.mood == Mood::Full => (node.start_slot + MAX_SLOTS) as u64 - 1,
-            (7, _) => node.end() as u64 + self.rng.below(3),
+        let slot = match (self.rng.below(12), open, holding) {
+            (0, _, _) => self.odd_slot(node),
+            (1, _, Some(holding)) => holding,
+            (1 | 2, _, _) => self.held_slot(node),
+            (3..=6, Some(open), _) => open,
+            (7..=11, Some(open), _) if node.insts.len() == MAX_SLOTS && self.rng.chance(80) => open,
+            (7, _, _) if self.mood == Mood::Full => (node.start_slot + MAX_SLOTS) as u64 - 1,
+            (7, _, _) => node.end() as u64 + self.rng.below(3),
             _ => node.end() as u64,
         };
         let mut line = fields("record", &[slot, ballot]);
@@ -824,12 +824,12 @@ impl Generator {
                     .is_some_and(|bk| !bk.holding_reads.is_empty())
         });
         let mut peer = self.peer();
-        let slot = match self.rng.below(12) {
-            0 => self.odd_slot(node),
+        let slot = match (self.rng.below(12), holding) {
+            (0, _) => self.odd_slot(node),
             // early: at the end or a little above
-            1 | 2 => node.end() as u64 + self.rng.below(2),
-            3 => (node.end() as u64).saturating_sub(1),
-            4..=7 if let Some(at) = holding => {
+            (1 | 2, _) => node.end() as u64 + self.rng.below(2),
+            (3, _) => (node.end() as u64).saturating_sub(1),
+            (4..=7, Some(at)) => {
                 // one that has not noticed yet, so that reads are released
                 if let Some(book) = &node.insts[at].replica_bk
                     && peer < self.population

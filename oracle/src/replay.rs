@@ -687,3 +687,37 @@ pub(crate) fn mask_of(bitmap: &Bitmap) -> u64 {
         .filter(|(_, flag)| *flag)
         .fold(0, |mask, (replica, _)| mask | 1 << replica)
 }
+
+#[cfg(test)]
+mod tests {
+    use super::*;
+
+    /// No script gets there line by line: start rises by 32 at most at a time.
+    #[test]
+    fn step_up_at_the_last_slot_and_above() {
+        let mut replay = Replay::new();
+        let feed = |replay: &mut Replay, line: &str| {
+            let mut out = Vec::new();
+            replay.line(line.as_bytes(), &mut out);
+            String::from_utf8(out).unwrap()
+        };
+        feed(&mut replay, "node,0,1,1");
+        feed(&mut replay, "lead,0");
+        let node = &mut replay.host.as_mut().unwrap().node;
+        let last = MAX_SLOT as usize;
+        (node.start_slot, node.commit_bar, node.exec_bar) = (last, last, last);
+        assert_eq!(
+            feed(&mut replay, "heard,0,257,1,0,0,0"),
+            format!("3,taken,3\nlead,1\nprelog,{last}\nprepare,{last},257\n")
+        );
+        feed(&mut replay, "prepared,257");
+        feed(&mut replay, &format!("record,{last},257"));
+        assert_eq!(
+            feed(&mut replay, &format!("reply,0,{last},257")),
+            format!("6,taken,1\ncommit,{last}\n")
+        );
+        assert_eq!(feed(&mut replay, "heard,0,513,1,0,0,0"), "7,refused,15\n");
+        let bars = format!("bars,{last},{last},{},{last}", last + 1);
+        assert_eq!(feed(&mut replay, &bars), "8,refused,8\n");
+    }
+}

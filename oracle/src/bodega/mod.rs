@@ -3,6 +3,10 @@
 //! in the original.
 
 mod events;
+#[cfg(test)]
+mod invariants;
+#[cfg(test)]
+mod tests;
 
 include!(concat!(env!("OUT_DIR"), "/bodega.rs"));
 
