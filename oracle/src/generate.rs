@@ -915,8 +915,7 @@ impl Generator {
         // a key written in a held slot, or any
         let mut key = None;
         if !node.insts.is_empty() && self.rng.chance(60) {
-            let tries = if self.mood == Mood::Holds { 1 } else { 0 };
-            let at = if tries == 1 {
+            let at = if self.mood == Mood::Holds {
                 // keep to one slot for a while, so that it fills up
                 node.insts
                     .iter()
