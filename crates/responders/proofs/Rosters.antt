@@ -18,7 +18,7 @@ use Rattle.responders.proofs.Grounds.{zero-one, none-apply}
 use Rattle.responders.specs.Conf.{Conf, empty, setResponders, setFull, intoFiltered}
 use Rattle.responders.specs.Ground.{refusal, Ascends}
 use Rattle.responders.specs.Edit.{Edit, SetLeader, SetResponders, SetFull, IntoFiltered, ResetFull, edit, grounds, crossed, tooMany, Answer, refused, taken, answer}
-use Rattle.responders.specs.Run.{left, run}
+use Rattle.responders.specs.Run.{left, run, Good}
 
 -- ---- the grounds ascend, so that the first that applies is the lowest
 
@@ -83,8 +83,10 @@ filter-means c r n h = remasked-at (λ m. setTo m r false) (c .ranges) n (canon-
 
 -- ---- every roster that edits make
 
-abbrev pub Good : Conf → Type 0
-Good c = Canon (c .ranges) × (length (c .ranges) ≤ 64)
+pub good-filtered : (r : ℕ) (c : Conf) → Good c → Good (intoFiltered r c)
+unfolding intoFiltered
+good-filtered r c h =
+    (remasked-canon (λ m. setTo m r false) (c .ranges) (canon-sorted (c .ranges) (h .0)), le-trans (remasked-length (λ m. setTo m r false) (c .ranges)) (h .1))
 
 good-range : (p mask : ℕ) (c : Conf) (start end : List ℕ) → Good c → refusal (grounds p c (SetResponders start end mask)) ≡ none → Good (edit c (SetResponders start end mask))
 unfolding edit
@@ -106,13 +108,12 @@ good-range p mask c start end h e =
         range-canon c start end mask a b f g (h .0) (ltb-false b a q)
 
 good-edit : (p : ℕ) (c : Conf) (e : Edit) → Good c → refusal (grounds p c e) ≡ none → Good (edit c e)
-unfolding edit intoFiltered setResponders
+unfolding edit setResponders
 good-edit p c (SetLeader r) h e = h
 good-edit p c (SetResponders start end mask) h e = good-range p mask c start end h e
 good-edit p c (SetFull mask) h e =
     (overwrite-canon (c .ranges) (range 0 340282366920938463463374607431768211455 mask) (h .0) (lit≤ tt), ltb-false 64 (length (setFull mask c .ranges)) (full-clear p mask c e))
-good-edit p c (IntoFiltered r) h e =
-    (remasked-canon (λ m. setTo m r false) (c .ranges) (canon-sorted (c .ranges) (h .0)), le-trans (remasked-length (λ m. setTo m r false) (c .ranges)) (h .1))
+good-edit p c (IntoFiltered r) h e = good-filtered r c h
 good-edit p c ResetFull h e = (tt, omega arith)
 
 good-left : (p : ℕ) (c : Conf) (e : Edit) → Good c → Good (left c (answer p c e))

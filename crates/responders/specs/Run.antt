@@ -1,6 +1,8 @@
 -- A list of edits, refused ones included. Assumes nothing: these are definitions.
-use Prim.Native.Nat.{ℕ}
+use Prim.Native.Nat.{ℕ, _≤_}
 use mathlib.Core.List.{List, _∷_, []}
+use lib.ListN.{length}
+use Rattle.ranges.specs.Canon.{Canon}
 use Rattle.responders.specs.Conf.{Conf}
 use Rattle.responders.specs.Edit.{Edit, Answer, refused, taken, answer}
 
@@ -12,3 +14,7 @@ left c (taken d) = d
 abbrev pub run : ℕ → Conf → List Edit → Conf
 run population c [] = c
 run population c (e ∷ es) = run population (left c (answer population c e)) es
+
+-- what holds of every roster that edits make: ascending, disjoint and joined, at most 64 ranges
+abbrev pub Good : Conf → Type 0
+Good c = Canon (c .ranges) × (length (c .ranges) ≤ 64)
