@@ -7,3 +7,4 @@ pub mod OrderFree
 pub mod Reach
 pub mod Slots
 pub mod Made
+pub mod Capacity

@@ -104,7 +104,7 @@ guard-core r peer number bar = of-if (λ (s : Replica). core s ≡ core r) (newe
 -- ---- step-up
 
 -- the slots, with one appended where none is open
-appended : List Instance → List Instance
+abbrev pub appended : List Instance → List Instance
 appended is = if eqb (firstOpen is) (length is) then is ++ (nullInstance ∷ []) else is
 
 leader-core : (r : Replica)
@@ -118,7 +118,7 @@ leader-core : (r : Replica)
       exec = r .bar .exec;
       size = length (appended (r .insts));
     }
-unfolding becomeALeader core appended
+unfolding becomeALeader core
 leader-core r =
     from-keeps core core-set _ _ _
     ∙ λ j. record {
@@ -158,7 +158,7 @@ module _ (r : Replica) (ballot : ℕ) (c : Conf) (s : Sound (core r)) (high : r 
 
   appended-size : (anyOpen (r .insts) ≡ false → length (r .insts) < window)
       → (length (r .insts) ≤ length (appended (r .insts))) × (length (appended (r .insts)) ≤ window)
-  unfolding core appended
+  unfolding core
   appended-size room = go (eqb (firstOpen (r .insts)) (length (r .insts))) refl
     where
       go : (b : Bool) → eqb (firstOpen (r .insts)) (length (r .insts)) ≡ b

@@ -26,32 +26,54 @@ use Rattle.history.specs.Invariant.{core, Sound, isExecuted, bookBal, Sl
 use Rattle.bodega.proofs.Choices.{of-if, of-none, by-if, by-none}
 use Rattle.responders.proofs.Grounds.{NoneApply}
 use Rattle.bodega.proofs.Taken.{taken-none}
-use Rattle.history.proofs.Reach.{or-left, or-right, step-sound, run-sound, fresh-sound}
+use Rattle.history.proofs.Reach.{or-left, or-right, appended, step-sound, run-sound, fresh-sound}
 
 -- ---- lists of slots
 
 module _ (P : ℕ → Instance → Type 0) where
-  each-set : (n : ℕ) (is : List Instance) (k : ℕ) (i j : Instance) → getElem? is k ≡ some i → ((m : ℕ) → P m i → P m j) → EachSlot P n is → EachSlot P n (set is k j)
+  pub each-set : (n : ℕ) (is : List Instance) (k : ℕ) (i j : Instance) → getElem? is k ≡ some i → ((m : ℕ) → P m i → P m j) → EachSlot P n is → EachSlot P n (set is k j)
   each-set n [] k i j e f s = tt
   each-set n (x ∷ is) zero i j e f s = (f n (rw (← Option·some-injective x i e) (s .0)), s .1)
   each-set n (x ∷ is) (suc k) i j e f s = (s .0, each-set (suc n) is k i j e f (s .1))
 
-  each-append : (n m : ℕ) (is js : List Instance) → m ≡ n + length is → EachSlot P n is → EachSlot P m js → EachSlot P n (is ++ js)
+  pub each-append : (n m : ℕ) (is js : List Instance) → m ≡ n + length is → EachSlot P n is → EachSlot P m js → EachSlot P n (is ++ js)
   each-append n m [] js e s t = let q : m ≡ n = omega arith in rw (← q) t
   each-append n m (i ∷ is) js e s t = (s .0, each-append (suc n) m is js (omega arith) (s .1) t)
 
-  each-drop : (n k : ℕ) (is : List Instance) → EachSlot P n is → EachSlot P (n + k) (drop k is)
+  pub each-drop : (n k : ℕ) (is : List Instance) → EachSlot P n is → EachSlot P (n + k) (drop k is)
   each-drop n zero is s = let q : n + 0 ≡ n = omega arith in rw q s
   each-drop n (suc k) [] s = tt
   each-drop n (suc k) (i ∷ is) s = let q : n + suc k ≡ suc n + k = omega arith in rw q (each-drop (suc n) k is (s .1))
 
-  each-after : (g : List Instance → List Instance) → ((n : ℕ) (is : List Instance) → EachSlot P n is → EachSlot P n (g is))
+  pub each-after : (g : List Instance → List Instance) → ((n : ℕ) (is : List Instance) → EachSlot P n is → EachSlot P n (g is))
       → (n k : ℕ) (is : List Instance) → EachSlot P n is → EachSlot P n (take k is ++ g (drop k is))
   each-after g f n zero is s = f n is s
   each-after g f n (suc k) [] s = f n [] s
   each-after g f n (suc k) (i ∷ is) s = (s .0, each-after g f (suc n) k is (s .1))
 
-each-map : (P Q : ℕ → Instance → Type 0) (f : Instance → Instance) → ((m : ℕ) (i : Instance) → P m i → Q m (f i)) → (n : ℕ) (is : List Instance) → EachSlot P n is → EachSlot Q n (map f is)
+  pub each-at : (n : ℕ) (is : List Instance) (k : ℕ) (i : Instance) → getElem? is k ≡ some i → EachSlot P n is → P (n + k) i
+  each-at n [] k i e s = let z : _≡_ {A = ℕ} 0 1 = cc in absurd (omega arith)
+  each-at n (x ∷ is) zero i e s = let q : n + 0 ≡ n = omega arith in rw (q, ← Option·some-injective x i e) (s .0)
+  each-at n (x ∷ is) (suc k) i e s = let q : n + suc k ≡ suc n + k = omega arith in rw q (each-at (suc n) is k i e (s .1))
+
+  -- what a commit keeps, the walk keeps
+  pub walk-each : ((m : ℕ) (i : Instance) → isOpen (i .status) ≡ true → P m i → P m (withStatus Committed i))
+      → (ballot slot n m : ℕ) (is : List Instance) → EachSlot P m is → EachSlot P m (walk ballot slot n is .insts)
+  unfolding walk
+  walk-each f ballot slot zero m is s = s
+  walk-each f ballot slot (suc n) m [] s = tt
+  walk-each f ballot slot (suc n) m (i ∷ is) s =
+      go (ltb (i .bal) ballot || ltb (order (i .status)) 2) (isOpen (i .status)) refl (walk ballot (slot + 1) n is) (walk-each f ballot (slot + 1) n (suc m) is (s .1))
+    where
+      go : (t u : Bool) → isOpen (i .status) ≡ u → (w : Walk) → EachSlot P (suc m) (w .insts)
+          → EachSlot P m (if_then_else_ {A = Walk} t (record { insts = i ∷ is; items = [] })
+          (if not u then record { insts = i ∷ w .insts; items = w .items } else
+          record { insts = withStatus Committed i ∷ w .insts; items = Commit slot ∷ w .items }) .insts)
+      go true u e w h = s
+      go false false e w h = (s .0, h)
+      go false true e w h = (f m i e (s .0), h)
+
+pub each-map : (P Q : ℕ → Instance → Type 0) (f : Instance → Instance) → ((m : ℕ) (i : Instance) → P m i → Q m (f i)) → (n : ℕ) (is : List Instance) → EachSlot P n is → EachSlot Q n (map f is)
 each-map P Q f g n [] s = tt
 each-map P Q f g n (i ∷ is) s = (g n i (s .0), each-map P Q f g (suc n) is (s .1))
 
@@ -123,14 +145,8 @@ set-slots : (r : Replica) (slot : ℕ) (i j : Instance) → instAt r slot ≡ so
 unfolding setInst
 set-slots r slot i j e f s = each-set (Of r) (r .bar .start) (r .insts) (slot - r .bar .start) i j (held-at r slot i e) f s
 
--- a slot of those that are sound is sound
 at-sound : (r : Replica) (slot : ℕ) (i : Instance) → instAt r slot ≡ some i → SlotsSound r → bookBal (i .replicaBk) ≤ r .bal .maxSeen
-at-sound r slot i e s = go (r .bar .start) (r .insts) (slot - r .bar .start) (held-at r slot i e) s
-  where
-    go : (n : ℕ) (is : List Instance) (k : ℕ) → getElem? is k ≡ some i → EachSlot (Of r) n is → bookBal (i .replicaBk) ≤ r .bal .maxSeen
-    go n [] k e s = let z : _≡_ {A = ℕ} 0 1 = cc in absurd (omega arith)
-    go n (x ∷ is) zero e s = rw (← Option·some-injective x i e) (s .0 .noticesBal)
-    go n (x ∷ is) (suc k) e s = go (suc n) is k e (s .1)
+at-sound r slot i e s = each-at (Of r) (r .bar .start) (r .insts) (slot - r .bar .start) i (held-at r slot i e) s .noticesBal
 
 -- ---- reads
 
@@ -191,26 +207,11 @@ reply-slots r peer slot ballot s =
 
 -- ---- the walk
 
-walk-slots : (r : Replica) (ballot slot n m : ℕ) (is : List Instance) → EachSlot (Of r) m is → EachSlot (Of r) m (walk ballot slot n is .insts)
-unfolding walk
-walk-slots r ballot slot zero m is s = s
-walk-slots r ballot slot (suc n) m [] s = tt
-walk-slots r ballot slot (suc n) m (i ∷ is) s =
-    go (ltb (i .bal) ballot || ltb (order (i .status)) 2) (isOpen (i .status)) refl (walk ballot (slot + 1) n is) (walk-slots r ballot (slot + 1) n (suc m) is (s .1))
-  where
-    go : (t u : Bool) → isOpen (i .status) ≡ u → (w : Walk) → EachSlot (Of r) (suc m) (w .insts)
-        → EachSlot (Of r) m (if_then_else_ {A = Walk} t (record { insts = i ∷ is; items = [] })
-        (if not u then record { insts = i ∷ w .insts; items = w .items } else
-        record { insts = withStatus Committed i ∷ w .insts; items = Commit slot ∷ w .items }) .insts)
-    go true u e w h = s
-    go false false e w h = (s .0, h)
-    go false true e w h = (commit-sound m i (open-unexecuted (i .status) e) (s .0), h)
-
 advance-slots : (r : Replica) (ballot commit : ℕ) → SlotsSound r → Ends (advanceCommitBar r ballot commit)
 unfolding advanceCommitBar
 advance-slots r ballot commit s =
     each-after (Of r) (λ is. walk ballot (r .bar .commit) (commit - r .bar .commit) is .insts)
-    (λ n is. walk-slots r ballot (r .bar .commit) (commit - r .bar .commit) n is)
+    (walk-each (Of r) (λ m i o x. commit-sound m i (open-unexecuted (i .status) o) x) ballot (r .bar .commit) (commit - r .bar .commit))
     (r .bar .start) (r .bar .commit - r .bar .start) (r .insts) s
 
 commit-slots : (r : Replica) (ballot commit : ℕ) → SlotsSound r → Ends (heardCommitNotice r ballot commit)
@@ -264,7 +265,7 @@ reprepared-sound bal commit exec m i s =
     (λ e. s)
 
 appended-slots : (r : Replica) → r .bar .commit ≤ end r → r .bar .exec ≤ r .bar .commit → SlotsSound r
-    → EachSlot (Of r) (r .bar .start) (if eqb (firstOpen (r .insts)) (length (r .insts)) then r .insts ++ (nullInstance ∷ []) else r .insts)
+    → EachSlot (Of r) (r .bar .start) (appended (r .insts))
 appended-slots r a b s =
     of-if (EachSlot (Of r) (r .bar .start)) (eqb (firstOpen (r .insts)) (length (r .insts)))
     (each-append (Of r) (r .bar .start) (end r) (r .insts) (nullInstance ∷ []) refl s (null-sound _ _ _ (end r) a (omega arith), tt)) s
@@ -272,9 +273,8 @@ appended-slots r a b s =
 leader-slots : (r : Replica) → r .bar .commit ≤ end r → r .bar .exec ≤ r .bar .commit → SlotsSound r → Ends (becomeALeader r)
 unfolding becomeALeader
 leader-slots r a b s =
-    let l : List Instance = if eqb (firstOpen (r .insts)) (length (r .insts)) then r .insts ++ (nullInstance ∷ []) else r .insts in
-    from-slots _ _ (preparing l r)
-    (each-map (Of r) (Of r) (reprepared (r .bal .maxSeen)) (λ m i x. reprepared-sound _ _ _ m i x) (r .bar .start) l (appended-slots r a b s))
+    from-slots _ _ (preparing (appended (r .insts)) r)
+    (each-map (Of r) (Of r) (reprepared (r .bal .maxSeen)) (λ m i x. reprepared-sound _ _ _ m i x) (r .bar .start) (appended (r .insts)) (appended-slots r a b s))
 
 new-conf-slots : (r : Replica) (ballot : ℕ) (c : Conf) → Sound (core r) → r .bal .maxSeen ≤ ballot → SlotsSound r → Ends (heardNewConf r ballot c)
 unfolding heardNewConf updatePeerAcceptMax core

@@ -1,0 +1,59 @@
+-- Document 01, "What a node holds, and how much": what no list of calls exceeds. Assumes nothing: these are definitions.
+use Prim.Native.Nat.{ℕ, _≤_}
+use mathlib.Core.List.{List, [], _∷_}
+use mathlib.Core.Option.{Option, none, some}
+use lib.ListN.{length}
+use Rattle.words.specs.Choice.{ifNone_then_else_}
+use Rattle.responders.specs.Conf.{Conf}
+use Rattle.responders.specs.Run.{Good}
+use Rattle.bodega.specs.Limits.{hold, keys, batch}
+use Rattle.bodega.specs.Replica.{Book, Instance, Replica, fresh, Call, Heartbeat, Guard, Prepared, Record, Reply, Notice, CommitNotice, Bars, Read, Release}
+use Rattle.bodega.specs.Step.{Event, run}
+use Rattle.history.specs.Invariant.{EachSlot}
+
+-- ---- "8 requests a batch, 16 held reads a slot, 256 written keys"
+
+abbrev pub heldReads : Option Book → ℕ
+heldReads o = ifNone o then 0 else λ b. length (b .holding)
+
+pub record SlotSmall (i : Instance) : Type 0 where
+  pub reads : heldReads (i .replicaBk) ≤ hold
+  pub requests : length (i .reqs) ≤ batch
+
+-- of each slot held
+abbrev pub Each : (Instance → Type 0) → Replica → Type 0
+Each P r = EachSlot (λ slot. P) (r .bar .start) (r .insts)
+
+abbrev pub Small : Replica → Type 0
+Small r = Each SlotSmall r × (length (r .highestSlot) ≤ keys)
+
+-- Every replica that calls reach is within these limits.
+abbrev pub Capacity : Type 0
+Capacity = (id population quorum : ℕ) (es : List Event) → Small (run (fresh id population quorum) es)
+
+-- ---- "at most 64 stored ranges"
+
+-- a roster that edits can make, or none
+abbrev pub GoodOrNone : Option Conf → Type 0
+GoodOrNone none = Unit {0}
+GoodOrNone (some c) = Good c
+
+abbrev pub BringsGood : Call → Type 0
+BringsGood (Heartbeat peer ballot conf commit exec snap) = GoodOrNone conf
+BringsGood (Guard peer number bar) = Unit {0}
+BringsGood (Prepared ballot) = Unit {0}
+BringsGood (Record slot ballot reqs) = Unit {0}
+BringsGood (Reply peer slot ballot) = Unit {0}
+BringsGood (Notice peer slot ballot) = Unit {0}
+BringsGood (CommitNotice peer ballot bar) = Unit {0}
+BringsGood (Bars start accept commit exec) = Unit {0}
+BringsGood (Read leases q) = Unit {0}
+BringsGood (Release slot) = Unit {0}
+
+abbrev pub AllBringGood : List Event → Type 0
+AllBringGood [] = Unit {0}
+AllBringGood (e ∷ es) = BringsGood (e .call) × AllBringGood es
+
+-- Where the rosters of all heartbeats are good, the replica's own roster is.
+abbrev pub RosterStaysGood : Type 0
+RosterStaysGood = (id population quorum : ℕ) (es : List Event) → AllBringGood es → Good (run (fresh id population quorum) es .conf)
