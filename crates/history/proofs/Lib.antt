@@ -8,3 +8,4 @@ pub mod Reach
 pub mod Slots
 pub mod Made
 pub mod Capacity
+pub mod Items

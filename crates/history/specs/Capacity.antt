@@ -1,14 +1,17 @@
--- Document 01, "What a node holds, and how much": what no list of calls exceeds. Assumes nothing: these are definitions.
+-- Document 01, "What a node holds, and how much", and refusal 20: what no list of calls exceeds. Assumes nothing: these are definitions.
 use Prim.Native.Nat.{ℕ, _≤_}
 use mathlib.Core.List.{List, [], _∷_}
 use mathlib.Core.Option.{Option, none, some}
+use mathlib.Core.Path.{_≡_}
 use lib.ListN.{length}
 use Rattle.words.specs.Choice.{ifNone_then_else_}
 use Rattle.responders.specs.Conf.{Conf}
+use Rattle.responders.specs.Ground.{refusal}
 use Rattle.responders.specs.Run.{Good}
-use Rattle.bodega.specs.Limits.{hold, keys, batch}
+use Rattle.bodega.specs.Limits.{hold, keys, batch, items}
 use Rattle.bodega.specs.Replica.{Book, Instance, Replica, fresh, Call, Heartbeat, Guard, Prepared, Record, Reply, Notice, CommitNotice, Bars, Read, Release}
-use Rattle.bodega.specs.Step.{Event, run}
+use Rattle.bodega.specs.Grounds.{grounds}
+use Rattle.bodega.specs.Step.{Event, effect, turnedAway, run}
 use Rattle.history.specs.Invariant.{EachSlot}
 
 -- ---- "8 requests a batch, 16 held reads a slot, 256 written keys"
@@ -57,3 +60,14 @@ AllBringGood (e ∷ es) = BringsGood (e .call) × AllBringGood es
 -- Where the rosters of all heartbeats are good, the replica's own roster is.
 abbrev pub RosterStaysGood : Type 0
 RosterStaysGood = (id population quorum : ℕ) (es : List Event) → AllBringGood es → Good (run (fresh id population quorum) es .conf)
+
+-- ---- "fewer places than the call has items (at most 546)"
+
+-- No call at a replica that calls reach has more items, whether it is taken or not.
+abbrev pub Bounded : Type 0
+Bounded = (id population quorum : ℕ) (es : List Event) (c : Call) → length (effect (run (fresh id population quorum) es) c .items) ≤ items
+
+-- With so many places refusal 20 is never met.
+abbrev pub PlacesSuffice : Type 0
+PlacesSuffice = (id population quorum : ℕ) (es : List Event) (c : Call) (places : ℕ) → items ≤ places
+    → turnedAway (run (fresh id population quorum) es) c places ≡ refusal (grounds (run (fresh id population quorum) es) c)
