@@ -1,0 +1,23 @@
+use Rattle.exports.proofs.Laws as law
+use borrow.Author.Needs.{needs}
+use Rattle.exports.proofs.bodega_key.Statement.{statement}
+use Rattle.exports.proofs.bodega_key.Tie as tie
+
+key-to-inty-requires : tie.Need-key-to-inty-requires
+key-to-inty-requires c κs = search needs
+
+enum-known-n : tie.Need-enum-known-n
+enum-known-n c = search needs
+
+enum-told : tie.Need-enum-told
+enum-told c = search needs
+
+returns : tie.Need-returns
+returns c = search (needs, law.key-unread)
+
+returns-2 : tie.Need-returns-2
+returns-2 c = search (needs, law.key-read)
+
+pub bodega-key-spec : {M : Type 1} → statement M
+bodega-key-spec =
+    tie.close (tie.spec key-to-inty-requires enum-known-n enum-told returns returns-2)
