@@ -104,9 +104,11 @@ impl RangeMap {
     }
 }
 
-const ROUNDS: usize = 15;
+// A round is far shorter than a scheduler's time slice, so that on a busy machine the median falls on rounds that were not
+// interrupted: it is the time of the code and not the share of the processor.
+const ROUNDS: usize = 1001;
+const CALLS: u64 = 1000;
 const BATCH: usize = 16;
-const BATCHES: usize = 1000;
 
 fn median(mut v: Vec<f64>) -> f64 {
     v.sort_by(|a, b| a.total_cmp(b));
@@ -114,20 +116,20 @@ fn median(mut v: Vec<f64>) -> f64 {
 }
 
 // ns a call of each side, rounds of the two in turn
-fn both(calls: u64, mut ours: impl FnMut(), mut theirs: impl FnMut()) -> (f64, f64) {
+fn both(mut ours: impl FnMut(), mut theirs: impl FnMut()) -> (f64, f64) {
     let mut a = Vec::new();
     let mut b = Vec::new();
     for round in 0..ROUNDS + 1 {
         let t = Instant::now();
-        for _ in 0..calls {
+        for _ in 0..CALLS {
             ours();
         }
-        let x = t.elapsed().as_nanos() as f64 / calls as f64;
+        let x = t.elapsed().as_nanos() as f64 / CALLS as f64;
         let t = Instant::now();
-        for _ in 0..calls {
+        for _ in 0..CALLS {
             theirs();
         }
-        let y = t.elapsed().as_nanos() as f64 / calls as f64;
+        let y = t.elapsed().as_nanos() as f64 / CALLS as f64;
         if round > 0 {
             a.push(x);
             b.push(y);
@@ -173,7 +175,7 @@ fn main() {
         ("key of 48 bytes that does not read", format!("k{}x", "1".repeat(46))),
     ] {
         assert_eq!(key(k.as_bytes()), plain_key(&k), "{k}");
-        let t = both(500_000, || { black_box(key(black_box(k.as_bytes()))); }, || { black_box(plain_key(black_box(&k))); });
+        let t = both(|| { black_box(key(black_box(k.as_bytes()))); }, || { black_box(plain_key(black_box(&k))); });
         line(name, t, None);
     }
 
@@ -203,29 +205,26 @@ fn main() {
         let mut x = Vec::new();
         let mut y = Vec::new();
         for round in 0..ROUNDS + 1 {
-            let mut took = [0u128; 2];
-            for _ in 0..BATCHES {
-                for w in ours.iter_mut() {
-                    w.copy_from_slice(&rows);
-                }
-                let t = Instant::now();
-                for w in ours.iter_mut() {
-                    black_box(range(w, count, 64, black_box(s.as_bytes()), black_box(e.as_bytes()), mask));
-                }
-                took[0] += t.elapsed().as_nanos();
-                for m in theirs.iter_mut() {
-                    *m = map.clone();
-                }
-                let t = Instant::now();
-                for m in theirs.iter_mut() {
-                    m.insert(plain_key(black_box(&s)).unwrap(), plain_key(black_box(&e)).unwrap(), mask);
-                    black_box(&m);
-                }
-                took[1] += t.elapsed().as_nanos();
+            for w in ours.iter_mut() {
+                w.copy_from_slice(&rows);
             }
+            let t = Instant::now();
+            for w in ours.iter_mut() {
+                black_box(range(w, count, 64, black_box(s.as_bytes()), black_box(e.as_bytes()), mask));
+            }
+            let took = t.elapsed().as_nanos() as f64 / BATCH as f64;
+            for m in theirs.iter_mut() {
+                *m = map.clone();
+            }
+            let t = Instant::now();
+            for m in theirs.iter_mut() {
+                m.insert(plain_key(black_box(&s)).unwrap(), plain_key(black_box(&e)).unwrap(), mask);
+                black_box(&m);
+            }
+            let other = t.elapsed().as_nanos() as f64 / BATCH as f64;
             if round > 0 {
-                x.push(took[0] as f64 / (BATCH * BATCHES) as f64);
-                y.push(took[1] as f64 / (BATCH * BATCHES) as f64);
+                x.push(took);
+                y.push(other);
             }
         }
         line(name, (median(x), median(y)), Some(1000.0));
@@ -243,7 +242,6 @@ fn main() {
         let r = lookup(&rows, count, 77, k.as_bytes());
         assert_eq!((r.found, r.mask), (1, map.get(n as u128).unwrap_or(77)));
         let t = both(
-            200_000,
             || { black_box(lookup(black_box(&rows), count, 77, black_box(k.as_bytes()))); },
             || { black_box(plain_key(black_box(&k)).map(|n| map.get(n).unwrap_or(77))); },
         );
