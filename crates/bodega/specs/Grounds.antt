@@ -8,11 +8,12 @@ use lib.Dec.{ltb, leb, eqb}
 use lib.ListN.{length, take}
 use Rattle.ranges.specs.Range.{Range}
 use Rattle.responders.specs.Ground.{Ground, _when_or_}
+use Rattle.responders.specs.Edit.{longKey}
 use Rattle.words.specs.Choice.{if_then_else_, ifNone_then_else_}
-use Rattle.bodega.specs.Limits.{window, hold, keys, batch, keyBytes, top}
+use Rattle.ids.specs.Limits.{window, hold, keys, batch, top}
 use Rattle.bitmap.specs.Bitmap.{fits}
 use Rattle.responders.specs.Conf.{Conf, leads}
-use Rattle.bodega.specs.Replica.{Bytes, Request, Instance, Replica, Call, Heartbeat, Guard, Prepared, Record, Reply, Notice, CommitNotice, Bars, Read, Release, isOpen, isLeader, end, instAt}
+use Rattle.bodega.specs.Replica.{Request, Instance, Replica, Call, Heartbeat, Guard, Prepared, Record, Reply, Notice, CommitNotice, Bars, Read, Release, isOpen, isLeader, end, instAt}
 use Rattle.bodega.specs.Localread.{refreshHighestSlot, Answer, Found, Missing, FromStore, Consensus, HeldBy, Again}
 use Rattle.bodega.specs.Request.{readAnswer}
 use Rattle.bodega.specs.Conflease.{anyOpen}
@@ -32,10 +33,7 @@ abbrev pub foreignMask : ℕ → Option Conf → Bool
 foreignMask population conf =
     ifNone conf then false else λ c. any (λ (x : Range). not (fits (x .mask) population)) (c .ranges) || not (fits (c .default) population)
 
--- 5, 8
-abbrev pub longKey : Bytes → Bool
-longKey key = ltb keyBytes (length key)
-
+-- 8
 abbrev pub far : ℕ → Bool
 far bar = ltb top bar
 

@@ -1,4 +1,3 @@
-pub mod Limits
 pub mod Replica
 pub mod Localread
 pub mod Request

@@ -8,7 +8,7 @@ use mathlib.Core.Option.{Option, none, some}
 use lib.Dec.{ltb, eqb}
 use lib.ListN.{length, replicate, set, getElem?}
 use Rattle.words.specs.Choice.{if_then_else_}
-use Rattle.bodega.specs.Limits.{beyond}
+use Rattle.ids.specs.Limits.{beyond}
 use Rattle.items.specs.Item.{Item}
 use Rattle.responders.specs.Conf.{Conf, empty, leads}
 

@@ -1,15 +1,14 @@
 -- Scripts for what is easy to get wrong, each call with the answer that the original Rust gives to its line. Assumes nothing: these are definitions.
-use Prim.Native.Nat.{ℕ}
-use mathlib.Core.Bool.{true, false}
+use mathlib.Core.Bool.{true}
 use mathlib.Core.List.{List, [], _∷_, map}
 use mathlib.Core.Option.{none, some}
 use mathlib.Core.Path.{_≡_}
-use Rattle.items.specs.Item.{Value, Absent, Store, Pass, Hold, Retry, Resend, Commit, Lead, Prelog, Prepare}
-use Rattle.responders.specs.Conf.{empty, setLeader, setFull, intoFiltered, resetFull}
+use Rattle.items.specs.Item.{Value, Absent, Hold, Retry, Resend, Commit, Lead, Prelog, Prepare}
+use Rattle.responders.specs.Conf.{empty, setLeader, setFull}
 use Rattle.responders.specs.Edit.{edit, SetResponders}
 use Rattle.bodega.specs.Replica.{Replica, fresh, Call, Heartbeat, Guard, Prepared, Record, Reply, Notice, CommitNotice, Bars, Read, Release}
 use Rattle.bodega.specs.Text.{bytes}
-use Rattle.bodega.specs.Worked.{Line, items, refused, lines, put, got, wants}
+use Rattle.bodega.specs.Worked.{Line, items, lines, put, got, wants}
 
 -- a call and what it is answered
 pub record Told : Type 0 where

@@ -13,7 +13,7 @@ use Rattle.bitmap.specs.Bitmap.{get, mark, count}
 use Rattle.responders.specs.Conf.{Conf, leads}
 use Rattle.responders.specs.Run.{Good}
 use Rattle.items.specs.Item.{Item}
-use Rattle.bodega.specs.Limits.{hold, keys, batch}
+use Rattle.ids.specs.Limits.{hold, keys, batch}
 use Rattle.bodega.specs.Replica.{Status, Committed, Executed, isOpen, isAccepting, Book, newBook, ReadReq, Request, Instance, nullInstance, Replica, fresh, freshPair, pair, Call, Heartbeat, Guard, Prepared, Record, Reply, Notice, CommitNotice, Bars, Read, Release, Done, isLeader, end, instAt, setInst, pad, withStatus, withLeaderBk, withReplicaBk, withHolding, withHighestSlot, withPeerExecBar}
 use Rattle.bodega.specs.Localread.{refreshHighestSlot, commitCondition, releaseHeldReadReqs, releaseFrom, holdRead, Answer, Found, Missing, FromStore, Consensus, HeldBy, Again}
 use Rattle.bodega.specs.Request.{readAnswer, answered, treatRead}

@@ -10,7 +10,7 @@ use lib.ListN.{length, getD, length-set}
 use lib.Seq.{getD-set-same, getD-set-other, ext-getD}
 use borrow.Author.Tests.{eqb-true, eqb-false}
 use Rattle.words.specs.Choice.{if_then_else_}
-use Rattle.bodega.specs.Limits.{beyond}
+use Rattle.ids.specs.Limits.{beyond}
 use Rattle.bodega.specs.Replica.{Pair, pair, Call, Heartbeat, Guard, Prepared, Record, Reply, Notice, CommitNotice, Bars, Read, Release}
 use Rattle.history.specs.Table.{Table, Fed, beats, alters, figureOf, guarded, adopts, adopting, raises, raised, hear, feed, feedAll}
 use Rattle.history.specs.History.{turns, quiet, accepted, SameGuards}

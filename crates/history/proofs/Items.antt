@@ -3,7 +3,7 @@ use Prim.Native.Nat.{ℕ, zero, suc, _+_, _*_, _-_, _≤_, _<_}
 use mathlib.Core.Bool.{Bool, true, false, _&&_, _||_, not}
 use mathlib.Core.List.{List, [], _∷_, _++_, append-nil}
 use mathlib.Core.Logic.{_⊎_, inl, inr, ⊎-elim}
-use mathlib.Core.Option.{Option, none, some}
+use mathlib.Core.Option.{Option, some}
 use mathlib.Core.Path.{_≡_, refl, ap}
 use native.Mathlib.Omega.{arith}
 use lib.Dec.{ltb, leb, eqb}
@@ -14,7 +14,7 @@ use Rattle.bitmap.specs.Bitmap.{get, mark, count}
 use Rattle.responders.specs.Conf.{Conf, leads}
 use Rattle.responders.specs.Ground.{Ground, _when_or_, refusal}
 use Rattle.items.specs.Item.{Item, Commit}
-use Rattle.bodega.specs.Limits.{window, hold, items}
+use Rattle.ids.specs.Limits.{window, hold, items}
 use Rattle.bodega.specs.Replica.{Status, order, isOpen, isAccepting, newBook, ReadReq, Instance, nullInstance, Replica, fresh, Call, Heartbeat, Guard, Prepared, Record, Reply, Notice, CommitNotice, Bars, Read, Release, Done, isLeader, end, instAt, setInst, pad, withReplicaBk}
 use Rattle.bodega.specs.Localread.{commitCondition, released, releaseHeldReadReqs, releaseFrom, Answer, Found, Missing, FromStore, Consensus, HeldBy, Again}
 use Rattle.bodega.specs.Request.{readAnswer, answered, treatRead}

@@ -1,11 +1,10 @@
 -- From the machine to code that meets `Answers`. Assumes nothing.
-use mathlib.Core.Path.{_≡_, refl, sym, ap, _∙_}
+use mathlib.Core.Path.{_≡_, refl, ap, _∙_}
 use mathlib.Core.Bool.{Bool, true}
-use mathlib.Core.List.{List, [], _∷_}
+use mathlib.Core.List.{List}
 use Prim.Native.Nat.{ℕ}
-use Rattle.words.specs.Choice.{if_then_else_}
 use Rattle.items.specs.Item.{places}
-use Rattle.bodega.specs.Replica.{Replica, Call}
+use Rattle.bodega.specs.Replica.{Replica}
 use Rattle.bodega.specs.Step.{Step, Refused, Taken, step, stepOf, after, Event, run}
 use Rattle.bodega.specs.Answers.{Given, due, Follows, Answers}
 use Rattle.history.specs.Made.{Made, none, call, CodeFigureStands}

@@ -10,7 +10,7 @@ use lib.Dec.{ltb, leb, eqb}
 use lib.ListN.{length, getD, take, drop, set, replicate, length-set, length-append, length-map, length-drop, length-replicate, take-append-drop}
 use borrow.Author.Tests.{ltb-true, ltb-false, leb-true, leb-false, eqb-true, le-leb, not-false}
 use Rattle.words.specs.Choice.{if_then_else_, ifNone_then_else_}
-use Rattle.bodega.specs.Limits.{window}
+use Rattle.ids.specs.Limits.{window}
 use Rattle.responders.specs.Conf.{Conf, leads, leaderWithout, intoFiltered, same}
 use Rattle.items.specs.Item.{Commit, Lead}
 use Rattle.bodega.specs.Replica.{Request, Instance, nullInstance, Highest, Replica, fresh, freshPair, order, Committed, Call, Heartbeat, Guard, Prepared, Record, Reply, Notice, CommitNotice, Bars, Read, Release, Done, done, isOpen, isLeader, end, instAt, setInst, pad, withStatus, withHighestSlot, withPeerExecBar, withMaxSeen, withConf}

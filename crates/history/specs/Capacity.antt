@@ -8,7 +8,7 @@ use Rattle.words.specs.Choice.{ifNone_then_else_}
 use Rattle.responders.specs.Conf.{Conf}
 use Rattle.responders.specs.Ground.{refusal}
 use Rattle.responders.specs.Run.{Good}
-use Rattle.bodega.specs.Limits.{hold, keys, batch, items}
+use Rattle.ids.specs.Limits.{hold, keys, batch, items}
 use Rattle.bodega.specs.Replica.{Book, Instance, Replica, fresh, Call, Heartbeat, Guard, Prepared, Record, Reply, Notice, CommitNotice, Bars, Read, Release}
 use Rattle.bodega.specs.Grounds.{grounds}
 use Rattle.bodega.specs.Step.{Event, effect, turnedAway, run}

@@ -8,6 +8,7 @@ use lib.ListN.{getD, length}
 use lib.Dec.{leb}
 use Rattle.words.specs.Choice.{if_then_else_}
 use Rattle.words.specs.Tab.{tab}
+use Rattle.ids.specs.Limits.{ranges}
 use Rattle.inty.specs.Value.{valueOf}
 use Rattle.bitmap.specs.Bitmap.{setTo}
 use Rattle.ranges.specs.Range.{Range, goesOn, below, above, remask}
@@ -48,9 +49,8 @@ kept (Below a) r = below (valueOf a) r
 kept (Above b) r = above (valueOf b) r
 kept (Without id) r = remask (λ m. setTo m (id .0) false) r ∷ []
 
--- at most 64 ranges are stored
 abbrev pub capped : List Range → Option (List Range)
-capped l = if leb (length l) 64 then some l else none
+capped l = if leb (length l) ranges then some l else none
 
 abbrev pub shown : Stored → List ℕ → Option (List Range)
 shown (Rows n) s = some (rangesOf s n)
@@ -60,13 +60,13 @@ abbrev pub size : Stored → ℕ
 size (Rows n) = n
 size Full = 0
 
--- The words of a table: 64 rows. What lies past them is not touched.
+-- what lies past the rows is not touched
 abbrev pub Untouched : List ℕ → List ℕ → Type 0
-Untouched s t = (j : ℕ) → 320 ≤ j → getD t j 0 ≡ getD s j 0
+Untouched s t = (j : ℕ) → ranges * 5 ≤ j → getD t j 0 ≡ getD s j 0
 
--- what storing l in the words s comes to: the words t, and how many rows they are, where there are at most 64
+-- what storing l in the words s comes to: the words t, and how many rows they are, where there are not too many
 pub record Stores (l : List Range) (s t : List ℕ) (r : Stored) : Type 0 where
   pub outcome : shown r t ≡ capped l
   pub refused : r ≡ Full → t ≡ s
-  pub few : size r ≤ 64
+  pub few : size r ≤ ranges
   pub beyond : Untouched s t

@@ -6,6 +6,7 @@ use mathlib.Core.Option.{Option}
 use lib.Dec.{ltb, leb}
 use lib.ListN.{length}
 use Rattle.words.specs.Choice.{if_then_else_, ifNone_then_else_}
+use Rattle.ids.specs.Limits.{keyBytes, ranges}
 use Rattle.bitmap.specs.Bitmap.{fits}
 use Rattle.keys.specs.Read.{readKey}
 use Rattle.responders.specs.Conf.{Conf, setLeader, setResponders, setFull, intoFiltered, resetFull}
@@ -34,7 +35,7 @@ edit c (IntoFiltered r) = intoFiltered r c
 edit c ResetFull = resetFull c
 
 abbrev pub longKey : List ℕ → Bool
-longKey key = ltb 48 (length key)
+longKey key = ltb keyBytes (length key)
 
 abbrev pub unread : Option ℕ → Bool
 unread k = ifNone k then true else λ n. false
@@ -42,9 +43,9 @@ unread k = ifNone k then true else λ n. false
 abbrev pub crossed : Option ℕ → Option ℕ → Bool
 crossed start end = ifNone start then false else λ a. ifNone end then false else λ b. ltb b a
 
--- an edit needs more than 64 ranges
+-- an edit needs more ranges than are stored at most
 abbrev pub tooMany : Conf → Bool
-tooMany c = ltb 64 (length (c .ranges))
+tooMany c = ltb ranges (length (c .ranges))
 
 unfoldable pub grounds : ℕ → Conf → Edit → List Ground
 grounds population c (SetLeader r) =

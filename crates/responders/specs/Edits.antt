@@ -1,5 +1,5 @@
 -- What every public edit meets: a roster is the struct and its lent words, 64 rows of five. Assumes nothing: these are definitions.
-use Prim.Native.Nat.{ℕ, _≤_}
+use Prim.Native.Nat.{ℕ, _*_, _≤_}
 use mathlib.Core.Path.{_≡_}
 use mathlib.Core.Bool.{Bool, _&&_}
 use mathlib.Core.List.{List}
@@ -8,6 +8,7 @@ use lib.Dec.{leb}
 use lib.ListN.{length}
 use Rattle.words.specs.Choice.{if_then_else_}
 use Rattle.ids.specs.Leader.{leaderOf}
+use Rattle.ids.specs.Limits.{ranges, replicas}
 use Rattle.keyrange.specs.Rows.{rangesOf, Untouched}
 use Rattle.responders.specs.declared.RespondersConf.{RespondersConf}
 use Rattle.responders.specs.declared.Edited.{Edited}
@@ -23,11 +24,11 @@ view c rows = record { leader = leaderOf (c .leader); ranges = rangesOf rows (c 
 
 -- the words hold 64 rows, and no more are counted
 abbrev pub holdsRows : ℕ → ℕ → Bool
-holdsRows len count = leb 320 len && leb count 64
+holdsRows len count = leb (ranges * 5) len && leb count ranges
 
 -- "population 1 to 64"
 abbrev pub inRange : ℕ → Bool
-inRange population = leb 1 population && leb population 64
+inRange population = leb 1 population && leb population replicas
 
 unfoldable pub due : ℕ → RespondersConf → List ℕ → Edit → Answer
 due population c rows e = if holdsRows (length rows) (c .count) && inRange population then answer population (view c rows) e else refused 2
@@ -35,7 +36,7 @@ due population c rows e = if holdsRows (length rows) (c .count) && inRange popul
 -- the roster that is left: what the edit makes of it, in 64 rows or fewer; words past them stay as they were
 pub record Leaves (c : Conf) (before : List ℕ) (d : RespondersConf) (after : List ℕ) : Type 0 where
   pub roster : view d after ≡ c
-  pub few : d .count ≤ 64
+  pub few : d .count ≤ ranges
   pub beyond : Untouched before after
 
 -- a refusal gives the number, and the words stay as they were

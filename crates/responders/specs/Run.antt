@@ -3,6 +3,7 @@ use Prim.Native.Nat.{ℕ, _≤_}
 use mathlib.Core.List.{List, _∷_, []}
 use lib.ListN.{length}
 use Rattle.ranges.specs.Canon.{Canon}
+use Rattle.ids.specs.Limits.{ranges}
 use Rattle.responders.specs.Conf.{Conf}
 use Rattle.responders.specs.Edit.{Edit, Answer, refused, taken, answer}
 
@@ -17,4 +18,4 @@ run population c (e ∷ es) = run population (left c (answer population c e)) es
 
 -- what holds of every roster that edits make: ascending, disjoint and joined, at most 64 ranges
 abbrev pub Good : Conf → Type 0
-Good c = Canon (c .ranges) × (length (c .ranges) ≤ 64)
+Good c = Canon (c .ranges) × (length (c .ranges) ≤ ranges)
