@@ -2,9 +2,10 @@
 use Rattle.bitmap.specs.Bitmap.{tally, every, get, mark, unmark, setTo, count, isSuperset, fits}
 use Rattle.responders.specs.Conf.{getRespondersByKey, setResponders, intoFiltered, same}
 use Rattle.keys.specs.Read.{readKey}
+use Rattle.keys.specs.Same.{sameBytes}
 use Rattle.ranges.specs.Range.{overwrite, remasked}
 use Rattle.bodega.specs.Replica.{fresh, instAt, setInst, pad}
-use Rattle.bodega.specs.Localread.{isStableLeader, commitCondition, sameBytes, raise, refreshHighestSlot, highestOf, isBound, lastPut, inspectHighestSlot, inspectLatestWrite, holdRead, releaseHeldReadReqs, releaseFrom}
+use Rattle.bodega.specs.Localread.{isStableLeader, commitCondition, raise, refreshHighestSlot, highestOf, isBound, lastPut, inspectHighestSlot, inspectLatestWrite, holdRead, releaseHeldReadReqs, releaseFrom}
 use Rattle.bodega.specs.Request.{settled, readAnswer, treatRead}
 use Rattle.bodega.specs.Conflease.{updatePeerAcceptMax, guardAcceptBar, firstOpen, anyOpen, lastOpen, prelogs, becomeALeader, heardNewConf}
 use Rattle.bodega.specs.Heartbeat.{checkBallot, walk, advanceCommitBar, heardCommitNotice, installs, heardConf, heardExecBar, heardBars, heardHeartbeat}

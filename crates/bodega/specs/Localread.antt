@@ -5,6 +5,7 @@ use mathlib.Core.List.{List, [], _∷_, _++_, map}
 use mathlib.Core.Option.{Option, none, some}
 use lib.Dec.{ltb, leb, eqb}
 use Rattle.words.specs.Choice.{if_then_else_, ifNone_then_else_}
+use Rattle.keys.specs.Same.{sameBytes}
 use Rattle.bitmap.specs.Bitmap.{count, isSuperset}
 use Rattle.responders.specs.Conf.{Conf, getRespondersByKey}
 use Rattle.items.specs.Item.{Item, Value, Retry}
@@ -36,12 +37,6 @@ unfoldable pub commitCondition : ℕ → List Request → ℕ → Conf → Bool
 commitCondition acks reqs quorum c = if ltb (count acks) quorum then false else allAcked c acks reqs
 
 -- ---- `refresh_highest_slot`: keys are compared as bytes
-
-unfoldable pub sameBytes : Bytes → Bytes → Bool
-sameBytes [] [] = true
-sameBytes [] (y ∷ ys) = false
-sameBytes (x ∷ xs) [] = false
-sameBytes (x ∷ xs) (y ∷ ys) = eqb x y && sameBytes xs ys
 
 unfoldable pub raise : ℕ → Bytes → List Highest → List Highest
 raise slot key [] = record { key = key; slot = slot } ∷ []

@@ -1,3 +1,5 @@
 pub mod Choice
+pub mod Counted
+pub mod Part
 pub mod Tab
 pub mod Writes
