@@ -1,0 +1,217 @@
+-- The laws of packed keys: put and get, bytes and words, and that keys are compared as their bytes are. Assumes nothing.
+use mathlib.Core.Path.{_≡_, refl, sym, ap, _∙_}
+use mathlib.Core.Bool.{Bool, true, false, _&&_, and-true}
+use mathlib.Core.List.{List, [], _∷_, _++_}
+use mathlib.Core.Option.{Option, none, some}
+use Prim.Native.Nat.{ℕ, zero, suc, _+_, _*_, _/_, _%_, _≤_, _<_, min}
+use native.Mathlib.Nat.{zero-add}
+use native.Mathlib.Omega.{arith}
+use borrow.Author.Tests.{eqb-true, eq-eqb, le-leb, lt-leb}
+use lib.Dec.{eqb}
+use lib.ListN.{length, getD, take, replicate, length-take}
+use lib.Seq.{ext-getD, length-take-le, getD-take}
+use Rattle.words.specs.Choice.{if_then_else_}
+use Rattle.words.specs.Tab.{run, length-tab, getD-tab}
+use Rattle.words.specs.Writes.{writes, Agrees, writes-append, run-writes, run-agrees, length-writes, writes-same}
+use Rattle.keys.specs.Same.{sameBytes}
+use Rattle.packed.specs.Key.{wordsOf, keyOf, keyAt, sameKey, leWord, leBytes, packOf, allBytes, unpackOf, isPacked, bytesOf, atMost48}
+use Rattle.packed.specs.declared.Key.{Key}
+
+-- ---- put and get
+
+pub keyAt-agrees : (s′ s : List ℕ) (q : ℕ) → Agrees s′ s q (q + 7) → keyAt s′ q ≡ keyAt s q
+unfolding keyAt
+keyAt-agrees s′ s q h = ap keyOf (run-agrees 7 s′ s q h)
+
+pub keyAt-writes : (s : List ℕ) (at : ℕ) (k : Key) → at + 7 ≤ length s → keyAt (writes s at (wordsOf k)) at ≡ k
+unfolding keyAt
+keyAt-writes s at k h = ap keyOf (run-writes s at (wordsOf k) h)
+
+-- ---- the same bytes, the same words
+
+pub same-refl : (a : List ℕ) → sameBytes a a ≡ true
+unfolding sameBytes
+same-refl [] = refl
+same-refl (x ∷ xs) = rw (eq-eqb x x refl) (same-refl xs)
+
+pub same-true : (a b : List ℕ) → sameBytes a b ≡ true → a ≡ b
+unfolding sameBytes
+same-true [] [] h = refl
+same-true [] (y ∷ ys) h = cc
+same-true (x ∷ xs) [] h = cc
+same-true (x ∷ xs) (y ∷ ys) h = go (eqb x y) refl (same-true xs ys) h
+  where
+    go : (t : Bool) → eqb x y ≡ t → (sameBytes xs ys ≡ true → xs ≡ ys) → (t && sameBytes xs ys) ≡ true → x ∷ xs ≡ y ∷ ys
+    go true e r k = rw (eqb-true x y e, r k)
+    go false e r k = cc
+
+pub same-last : (a b : Key) → a .len ≡ b .len → a .w0 ≡ b .w0 → a .w1 ≡ b .w1 → a .w2 ≡ b .w2 → a .w3 ≡ b .w3 → a .w4 ≡ b .w4
+    → eqb (a .w5) (b .w5) ≡ sameKey a b
+unfolding sameKey sameBytes
+same-last a b f g h i j k =
+    sym (rw (eq-eqb _ _ f, eq-eqb _ _ g, eq-eqb _ _ h, eq-eqb _ _ i, eq-eqb _ _ j, eq-eqb _ _ k) (and-true (eqb (a .w5) (b .w5))))
+
+sameKey-true : (a b : Key) → sameKey a b ≡ true → a ≡ b
+unfolding sameKey
+sameKey-true a b h = ap keyOf (same-true (wordsOf a) (wordsOf b) h)
+
+sameKey-refl : (a : Key) → sameKey a a ≡ true
+unfolding sameKey
+sameKey-refl a = same-refl (wordsOf a)
+
+-- ---- bytes of words
+
+abbrev pub Bytes : List ℕ → Type 0
+Bytes k = (i : ℕ) → getD k i 0 < 256
+
+leBytes-leWord : (n : ℕ) (k : List ℕ) (q : ℕ) → Bytes k → leBytes n (leWord n k q) ≡ run n k q
+leBytes-leWord zero k q b = refl
+leBytes-leWord (suc n) k q b =
+    let x : (getD k q 0 + 256 * leWord n k (q + 1)) % 256 ≡ getD k q 0 = omega (arith, b q) in
+    let y : (getD k q 0 + 256 * leWord n k (q + 1)) / 256 ≡ leWord n k (q + 1) = omega (arith, b q) in
+    rw (x, y, leBytes-leWord n k (q + 1) b)
+
+glue : {a a′ b b′ c c′ d d′ e e′ f f′ : List ℕ} → a ≡ a′ → b ≡ b′ → c ≡ c′ → d ≡ d′ → e ≡ e′ → f ≡ f′ → a ++ b ++ c ++ d ++ e ++ f ≡ a′ ++ b′ ++ c′ ++ d′ ++ e′ ++ f′
+glue p q r s t u = rw (p, q, r, s, t, u)
+
+bytes-pack : (k : List ℕ) → Bytes k → allBytes (packOf k) ≡ run 48 k 0
+unfolding packOf allBytes
+bytes-pack k b =
+    glue (leBytes-leWord 8 k 0 b) (leBytes-leWord 8 k 8 b) (leBytes-leWord 8 k 16 b) (leBytes-leWord 8 k 24 b) (leBytes-leWord 8 k 32 b) (leBytes-leWord 8 k 40 b)
+
+take-run : (k : List ℕ) (n m : ℕ) → n ≡ length k → n ≤ m → take n (run m k 0) ≡ k
+take-run k n m e h =
+    let l : n ≤ length (run m k 0) = rw length-tab h in
+    let t : length (take n (run m k 0)) ≡ n = length-take-le n (run m k 0) l in
+    ext-getD 0 (take n (run m k 0)) k (t ∙ e)
+    (λ i b.
+    let c : i < n = omega (arith, t) in
+    getD-take n (run m k 0) i 0 c ∙ getD-tab (λ j. getD k j 0) 0 m i 0 (omega arith) ∙ rw zero-add)
+
+unpack-pack : (k : List ℕ) → Bytes k → length k ≤ 48 → unpackOf (packOf k) ≡ k
+unfolding unpackOf packOf
+unpack-pack k b h =
+    let e = bytes-pack k b in
+    let m : min (length k) 48 ≡ length k = omega arith in
+    rw (m, e) (take-run k (length k) 48 refl h)
+
+-- a key that was packed shows as its bytes
+pub bytes-packOf : (k : List ℕ) → Bytes k → length k ≤ 48 → bytesOf (packOf k) ≡ k
+unfolding bytesOf
+bytes-packOf k b h =
+    let e = unpack-pack k b h in
+    let p : isPacked (packOf k) ≡ true = rw e (sameKey-refl (packOf k)) in
+    rw (p, e)
+
+pub pack-key : (k : List ℕ) (r : Key) → length k ≤ 48 → Bytes k → r ≡ packOf k → _≡_ {A = Option (List ℕ)} (some (bytesOf r)) (atMost48 k)
+pack-key k r h b e = rw (e, le-leb (length k) 48 h, bytes-packOf k b h)
+
+pub pack-long : (k : List ℕ) → 48 < length k → none ≡ atMost48 k
+pack-long k h = rw (lt-leb (length k) 48 h)
+
+-- ---- keys are compared as their bytes are
+
+short : (k : Key) → length (unpackOf k) ≤ 48
+unfolding unpackOf
+short k = simp length-take (omega arith)
+
+long : (k : Key) → length (wordsOf k ++ replicate 42 0) ≡ 49
+long k = refl
+
+-- two keys with the same bytes are the same words, whatever the words
+pub bytes-inj : (a b : Key) → bytesOf a ≡ bytesOf b → a ≡ b
+unfolding bytesOf
+bytes-inj a b h = go (isPacked a) refl (isPacked b) refl h
+  where
+    go : (s : Bool) → isPacked a ≡ s → (t : Bool) → isPacked b ≡ t
+        → (if s then unpackOf a else wordsOf a ++ replicate 42 0) ≡ (if t then unpackOf b else wordsOf b ++ replicate 42 0) → a ≡ b
+    go true p true q h = sym (sameKey-true (packOf (unpackOf a)) a p) ∙ ap packOf h ∙ sameKey-true (packOf (unpackOf b)) b q
+    go true p false q h = absurd (omega (arith, short a, ap length h, long b))
+    go false p true q h = absurd (omega (arith, short b, ap length h, long a))
+    go false p false q h = ap keyOf h
+
+pub same-is : (a b : Key) → sameBytes (bytesOf a) (bytesOf b) ≡ sameKey a b
+same-is a b = go (sameBytes (bytesOf a) (bytesOf b)) refl (sameKey a b) refl
+  where
+    go : (s : Bool) → sameBytes (bytesOf a) (bytesOf b) ≡ s → (t : Bool) → sameKey a b ≡ t → s ≡ t
+    go true p true q = refl
+    go false p false q = refl
+    go true p false q =
+        let e = bytes-inj a b (same-true (bytesOf a) (bytesOf b) p) in
+        let z : sameKey a b ≡ true = rw e (sameKey-refl b) in
+        sym z ∙ q
+    go false p true q =
+        let e = sameKey-true a b q in
+        let z : sameBytes (bytesOf a) (bytesOf b) ≡ true = rw e (same-refl (bytesOf b)) in
+        sym p ∙ z
+
+-- ---- back to bytes
+
+-- a word after a run: what six stores leave is one run
+next : (s s₁ s₂ : List ℕ) (at v : ℕ) (xs : List ℕ) → s₁ ≡ writes s at xs → s₂ ≡ writes s₁ (at + length xs) (leBytes 8 v) → s₂ ≡ writes s at (xs ++ leBytes 8 v)
+next s s₁ s₂ at v xs p q = q ∙ rw p (writes-append s at xs (leBytes 8 v))
+
+pub six-words : (s s₁ s₂ s₃ s₄ s₅ s₆ : List ℕ) (k : Key) → s₁ ≡ writes s 0 (leBytes 8 (k .w0)) → s₂ ≡ writes s₁ 8 (leBytes 8 (k .w1)) → s₃ ≡ writes s₂ 16 (leBytes 8 (k .w2))
+    → s₄ ≡ writes s₃ 24 (leBytes 8 (k .w3)) → s₅ ≡ writes s₄ 32 (leBytes 8 (k .w4)) → s₆ ≡ writes s₅ 40 (leBytes 8 (k .w5)) → s₆ ≡ writes s 0 (allBytes k)
+unfolding allBytes
+six-words s s₁ s₂ s₃ s₄ s₅ s₆ k e₁ e₂ e₃ e₄ e₅ e₆ =
+    let b₁ = leBytes 8 (k .w0) in
+    let p₂ = next s s₁ s₂ 0 (k .w1) b₁ e₁ e₂ in
+    let p₃ = next s s₂ s₃ 0 (k .w2) (b₁ ++ leBytes 8 (k .w1)) p₂ e₃ in
+    let p₄ = next s s₃ s₄ 0 (k .w3) ((b₁ ++ leBytes 8 (k .w1)) ++ leBytes 8 (k .w2)) p₃ e₄ in
+    let p₅ = next s s₄ s₅ 0 (k .w4) (((b₁ ++ leBytes 8 (k .w1)) ++ leBytes 8 (k .w2)) ++ leBytes 8 (k .w3)) p₄ e₅ in
+    next s s₅ s₆ 0 (k .w5) ((((b₁ ++ leBytes 8 (k .w1)) ++ leBytes 8 (k .w2)) ++ leBytes 8 (k .w3)) ++ leBytes 8 (k .w4)) p₅ e₆
+
+-- the front of what was stored
+front : (s v : List ℕ) (n : ℕ) → n ≤ length v → length v ≤ length s → take n (writes s 0 v) ≡ take n v
+front s v n a b =
+    let l = length-writes s 0 v in
+    let p : length (take n (writes s 0 v)) ≡ n = length-take-le n (writes s 0 v) (omega (arith, l)) in
+    let q : length (take n v) ≡ n = length-take-le n v a in
+    ext-getD 0 (take n (writes s 0 v)) (take n v) (p ∙ sym q)
+    (λ i h.
+    let c : i < n = omega (arith, p) in
+    let g : getD (writes s 0 v) i 0 ≡ getD v i 0 = rw zero-add at (writes-same s 0 v i (rw zero-add b) (omega arith)) in
+    getD-take n (writes s 0 v) i 0 c ∙ g ∙ sym (getD-take n v i 0 c))
+
+length-all : (k : Key) → length (allBytes k) ≡ 48
+unfolding allBytes
+length-all k = refl
+
+module _ (k : Key) (s t : List ℕ) (fits : 48 ≤ length s) (e : t ≡ writes s 0 (allBytes k)) where
+  unpacked-front : k .len ≤ 48 → take (k .len) t ≡ unpackOf k
+  unfolding unpackOf
+  unpacked-front h =
+      let m : min (k .len) 48 ≡ k .len = omega arith in
+      let l = length-all k in
+      rw (m, e) (front s (allBytes k) (k .len) (omega (arith, l)) (omega (arith, l)))
+
+  shown-foreign : isPacked k ≡ false → none ≡ atMost48 (bytesOf k)
+  unfolding bytesOf
+  shown-foreign p = rw p
+
+  shown-packed : isPacked k ≡ true → _≡_ {A = Option (List ℕ)} (some (unpackOf k)) (atMost48 (bytesOf k))
+  unfolding bytesOf
+  shown-packed p = rw (p, le-leb (length (unpackOf k)) 48 (short k))
+
+  -- in the words of the code: p is what was packed again, u what the comparison said
+  module _ (h : k .len ≤ 48) (p : Key) (u : Bool) (again : p ≡ packOf (take (k .len) t)) (told : u ≡ sameKey p k) where
+    packed-is : isPacked k ≡ u
+    packed-is = sym (told ∙ rw (again, unpacked-front h))
+
+    pub unpack-yes : u ≡ true → _≡_ {A = Option (List ℕ)} (some (take (k .len) t)) (atMost48 (bytesOf k))
+    unpack-yes q = rw (unpacked-front h) (shown-packed (packed-is ∙ q))
+
+    pub unpack-no : u ≡ false → none ≡ atMost48 (bytesOf k)
+    unpack-no q = shown-foreign (packed-is ∙ q)
+
+  -- a length above 48 is no bytes'
+  pub unpack-long : 48 < k .len → none ≡ atMost48 (bytesOf k)
+  unfolding packOf
+  unpack-long h = go (isPacked k) refl
+    where
+      go : (u : Bool) → isPacked k ≡ u → none ≡ atMost48 (bytesOf k)
+      go false q = shown-foreign q
+      go true q =
+          let d = ap (λ (x : Key). x .len) (sameKey-true (packOf (unpackOf k)) k q) in
+          absurd (omega (arith, d, short k))

@@ -1,0 +1,17 @@
+use Rattle.packed.proofs.Laws as law
+use native.Mathlib.Omega.{arith}
+use borrow.Author.Needs.{needs}
+use Rattle.packed.proofs.pack.Statement.{statement}
+use Rattle.packed.proofs.pack.Tie as tie
+
+returns : tie.Need-returns
+returns c = law.pack-long (c .before .before .args .bytes .now) (omega arith)
+
+key-of-requires : tie.Need-key-of-requires
+key-of-requires c κs = search needs
+
+returns-2 : tie.Need-returns-2
+returns-2 c = law.pack-key _ _ (omega arith) (λ i. omega (arith, c .before .before .shared-slice-known .given i)) (c .key-of .ensures)
+
+pub pack-spec : {M : Type 1} → statement M
+pack-spec = tie.close (tie.spec returns key-of-requires returns-2)
