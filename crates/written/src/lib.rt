@@ -1,0 +1,96 @@
+// `highest_slot`: the written keys, in 2049 lent words: how many, and then 256 entries of eight words: slot, key.
+use ids::Slot;
+use packed::Key;
+use packed::get_key;
+use packed::put_key;
+ghost use mathlib.Core.Path.{_≡_};
+ghost use Prim.Native.Nat.{ℕ, _+_, _*_, _<_, _≤_, max};
+ghost use lib.ListN.{length};
+ghost use Rattle.words.specs.Writes.{writes};
+ghost use Rattle.packed.specs.Key.{bytesOf, wordsOf};
+ghost use Rattle.bodega.specs.Localread.{highestOf};
+ghost use Rattle.written.specs.Written.{highestAt, writtenOf, slotIn, placeOf, Notes};
+
+pub enum LastWrite {
+    At(Slot),
+    Nothing,
+}
+
+// Where a key's entry is.
+pub enum Found {
+    Entry(usize),
+    Nowhere,
+}
+
+pub fn count(s: &[u64]) -> usize
+    requires { ⌜ 2049 ≤ length (now s) ⌝ }
+    ensures { λ r. ⌜ (r ≡ length (writtenOf (now (s .entry)))) × (r ≤ 256) ⌝ }
+{
+    let n = s[0];
+    if n <= 256 { n as usize } else { 256 }
+}
+
+fn find(s: &[u64], key: Key) -> Found
+    requires { ⌜ 2049 ≤ length (now s) ⌝ }
+    ensures { λ r. ⌜ r ≡ placeOf 0 (bytesOf key) (writtenOf (now (s .entry))) ⌝ }
+{
+    let n = count(s);
+    let mut i = 0;
+    while i < n {
+        let p = 1 + i * 8;
+        if packed::same(get_key(s, p + 1), key) {
+            return Found::Entry(i);
+        }
+        i += 1;
+    }
+    Found::Nowhere
+}
+
+// The highest slot that wrote a key.
+pub fn highest(s: &[u64], key: Key) -> LastWrite
+    requires { ⌜ 2049 ≤ length (now s) ⌝ }
+    ensures { λ r. ⌜ slotIn r ≡ highestOf (bytesOf key) (writtenOf (now (s .entry))) ⌝ }
+{
+    let at = find(s, key);
+    match at {
+        Found::Entry(i) => {
+            let p = 1 + i * 8;
+            let slot = Slot(s[p]);
+            LastWrite::At(slot)
+        }
+        Found::Nowhere => LastWrite::Nothing,
+    }
+}
+
+fn larger(a: u64, b: u64) -> u64
+    ensures { λ r. ⌜ r ≡ max a b ⌝ }
+{
+    if a < b { b } else { a }
+}
+
+// A write of a key at a slot; false, and nothing changed, where it would be a 257th key.
+pub fn note(s: &mut [u64], key: Key, slot: Slot) -> bool
+    requires { ⌜ 2049 ≤ length (now s) ⌝ }
+    ensures { λ r. ⌜ Notes (now (s .entry)) (bytesOf key) (slot .0) r (now (s .exit)) ⌝ }
+{
+    let at = find(s, key);
+    match at {
+        Found::Entry(i) => {
+            let p = 1 + i * 8;
+            let old = s[p];
+            s[p] = larger(slot.0, old);
+            true
+        }
+        Found::Nowhere => {
+            let n = count(s);
+            if n == 256 {
+                return false;
+            }
+            let p = 1 + n * 8;
+            s[p] = slot.0;
+            put_key(s, p + 1, key);
+            s[0] = (n + 1) as u64;
+            true
+        }
+    }
+}
