@@ -9,7 +9,7 @@ use lib.ListN.{length, getD}
 use Rattle.words.specs.Choice.{if_then_else_}
 use Rattle.words.specs.Counted.{counted}
 use Rattle.packed.specs.Key.{keyAt, wordsOf, bytesOf}
-use Rattle.bodega.specs.Limits.{batch}
+use Rattle.ids.specs.Limits.{batch}
 use Rattle.bodega.specs.Replica as machine
 use Rattle.batch.specs.declared.Command.{Command}
 use Rattle.batch.specs.declared.Command.the-variants.{Get, Put}

@@ -10,7 +10,7 @@ use Rattle.words.specs.Choice.{if_then_else_}
 use Rattle.words.specs.Counted.{counted}
 use Rattle.keys.specs.Same.{sameBytes}
 use Rattle.packed.specs.Key.{keyAt, bytesOf}
-use Rattle.bodega.specs.Limits.{keys}
+use Rattle.ids.specs.Limits.{keys}
 use Rattle.bodega.specs.Localread.{raise}
 use Rattle.bodega.specs.Replica as machine
 use Rattle.written.specs.declared.LastWrite.{LastWrite}
