@@ -1,0 +1,240 @@
+-- A fresh node: tests, words filled, and what the buffer then stands for. Assumes nothing.
+use mathlib.Core.Path.{_≡_, refl, sym, ap, _∙_}
+use mathlib.Core.Bool.{Bool, true, false, not, _&&_}
+use mathlib.Core.List.{List, [], _∷_, _++_}
+use Prim.Native.Nat.{ℕ, zero, suc, _+_, _-_, _≤_, _<_}
+use native.Mathlib.Omega.{arith}
+use native.Mathlib.Numerals.{add-one}
+use lib.Dec.{ltb, leb}
+use lib.ListN.{length, getD, set, take, drop, replicate, getD-replicate}
+use lib.Seq.{drop-set-add, take-set-le, take-set-lt, getD-take, getD-drop, getD-set-other, take-suc-set, take-length, length-take-le}
+use borrow.Author.Tests.{lt-ltb, le-ltb, le-leb, lt-leb, leb-true, not-true, not-false}
+use Rattle.words.specs.Part.{part, splice, part-here, part-before, part-after, length-splice, length-part}
+use Rattle.words.specs.Counted.{counted, counted-clear}
+use Rattle.ids.specs.Limits.{keys}
+use Rattle.written.specs.Written.{highestAt, writtenOf}
+use Rattle.node.specs.View.{size, view, inRange, ready, pairsOf, instsOf}
+use Rattle.node.specs.Begins.{Reset, Gives}
+use Rattle.node.specs.declared.Node.{Node}
+use Rattle.node.specs.declared.Fresh.the-variants.{Made, Refused}
+use Rattle.bodega.specs.Replica.{pair, freshPair, fresh}
+use Rattle.responders.specs.Conf.{empty}
+use Rattle.responders.specs.Edits.{view as rosterOf}
+use Rattle.words.specs.Tab.{tab, run, tab-ext}
+
+-- ---- tests
+
+module _ (id population quorum : ℕ) where
+  pub no-quorum : quorum ≡ 0 → false ≡ inRange id population quorum
+  no-quorum e = sym (simp (le-ltb 0 quorum (omega arith)))
+
+  module _ (h : quorum ≡ 0 → ⊥) where
+    pub large-quorum : population < quorum → false ≡ inRange id population quorum
+    large-quorum g = sym (simp (lt-ltb 0 quorum (omega arith), lt-leb quorum population g))
+
+    pub many : quorum ≤ population → 64 < population → false ≡ inRange id population quorum
+    many g k = sym (simp (lt-ltb 0 quorum (omega arith), le-leb quorum population g, lt-leb population 64 k))
+
+    pub own-number : quorum ≤ population → population ≤ 64 → ltb id population ≡ inRange id population quorum
+    own-number g k = sym (simp (lt-ltb 0 quorum (omega arith), le-leb quorum population g, le-leb population 64 k))
+
+  pub short-buffer : (len : ℕ) → len < 10305 → false ≡ leb size len && inRange id population quorum
+  short-buffer len h = sym (simp (lt-leb 10305 len h))
+
+  pub long-buffer : (len : ℕ) (t : Bool) → 10305 ≤ len → t ≡ inRange id population quorum → t ≡ leb size len && inRange id population quorum
+  long-buffer len t h e = e ∙ sym (simp (le-leb 10305 len h))
+
+-- ---- words filled
+
+one-more : (v n : ℕ) → replicate n v ++ (v ∷ []) ≡ replicate (suc n) v
+one-more v zero = refl
+one-more v (suc n) = ap (λ (l : List ℕ). v ∷ l) (one-more v n)
+
+pub fill-step : (l : List ℕ) (i v : ℕ) → i < length l → take i l ≡ replicate i v → take (i + 1) (set l i v) ≡ replicate (i + 1) v
+fill-step l i v h e =
+    ap (λ (k : ℕ). take k (set l i v)) (add-one i) ∙ take-suc-set l i v h ∙ ap (λ (x : List ℕ). x ++ (v ∷ [])) e ∙ one-more v i ∙ sym (ap (λ (k : ℕ). replicate k v) (add-one i))
+
+pub fill-end : (l : List ℕ) (i n v : ℕ) → length l ≤ i → i ≤ length l → length l ≡ n → take i l ≡ replicate i v → l ≡ replicate n v
+fill-end l i n v f g k e =
+    let z : i ≡ length l = omega arith in
+    sym (take-length l) ∙ ap (λ (j : ℕ). take j l) (sym z) ∙ e ∙ ap (λ (j : ℕ). replicate j v) (z ∙ k)
+
+-- ---- a word stored past a part, and in the first place of one
+
+store-after : (m : List ℕ) (a n v j : ℕ) → a + n ≤ j → part (set m j v) a n ≡ part m a n
+unfolding part
+store-after m a n v j h =
+    let e : j ≡ a + (j - a) = omega arith in
+    let l : n ≤ j - a = omega arith in
+    rw e (rw (drop-set-add a m (j - a) v, take-set-le n (drop a m) (j - a) v l))
+
+store-first : (m : List ℕ) (a n v : ℕ) → 0 < n → part (set m a v) a n ≡ set (part m a n) 0 v
+unfolding part
+store-first m a n v h =
+    let e : a ≡ a + 0 = omega arith in
+    ap (λ (k : ℕ). take n (drop a (set m k v))) e ∙ rw (drop-set-add a m 0 v, take-set-lt n (drop a m) 0 v h)
+
+word-at : (m : List ℕ) (j : ℕ) → getD (part m j 1) 0 0 ≡ getD m j 0
+unfolding part
+word-at m j = let e : j + 0 ≡ j = omega arith in getD-take 1 (drop j m) 0 0 (omega arith) ∙ getD-drop j m 0 0 ∙ ap (λ (k : ℕ). getD m k 0) e
+
+-- ---- three parts filled, and one word cleared
+
+module _ (m x y z : List ℕ) (h : 10305 ≤ length m) (lx : length x ≡ 64) (ly : length y ≡ 64) (lz : length z ≡ 64) where
+  abbrev m₁ : List ℕ
+  m₁ = splice m 0 64 x
+
+  abbrev m₂ : List ℕ
+  m₂ = splice m₁ 64 64 y
+
+  abbrev m₃ : List ℕ
+  m₃ = splice m₂ 128 64 z
+
+  l₁ : length m₁ ≡ length m
+  l₁ = length-splice m 0 64 x (omega arith) lx
+
+  l₂ : length m₂ ≡ length m
+  l₂ = length-splice m₁ 64 64 y (rw l₁ (omega arith)) ly ∙ l₁
+
+  pub length-filled : length m₃ ≡ length m
+  length-filled = length-splice m₂ 128 64 z (rw l₂ (omega arith)) lz ∙ l₂
+
+  abbrev m₄ : List ℕ
+  m₄ = set m₃ 8256 0
+
+  first : part m₄ 0 64 ≡ x
+  first =
+      store-after m₃ 0 64 0 8256 (omega arith) ∙ part-before m₂ 128 64 z (rw l₂ (omega arith)) lz 0 64 (omega arith)
+      ∙ part-before m₁ 64 64 y (rw l₁ (omega arith)) ly 0 64 (omega arith) ∙ part-here m 0 64 x (omega arith) lx
+
+  second : part m₄ 64 64 ≡ y
+  second =
+      store-after m₃ 64 64 0 8256 (omega arith) ∙ part-before m₂ 128 64 z (rw l₂ (omega arith)) lz 64 64 (omega arith)
+      ∙ part-here m₁ 64 64 y (rw l₁ (omega arith)) ly
+
+  third : part m₄ 128 64 ≡ z
+  third = store-after m₃ 128 64 0 8256 (omega arith) ∙ part-here m₂ 128 64 z (rw l₂ (omega arith)) lz
+
+  keys-none : writtenOf (part m₄ 8256 2049) ≡ []
+  unfolding writtenOf
+  keys-none =
+      ap (counted highestAt 8 keys) (store-first m₃ 8256 2049 0 (omega arith))
+      ∙ counted-clear highestAt 8 keys (part m₃ 8256 2049) (rw (length-part m₃ 8256 2049 (rw length-filled (omega arith))) (omega arith))
+
+  rest : (j : ℕ) → 10305 ≤ j → getD m₄ j 0 ≡ getD m j 0
+  rest j f =
+      getD-set-other m₃ 8256 j 0 0 (omega arith) ∙ sym (word-at m₃ j) ∙ ap (λ (l : List ℕ). getD l 0 0)
+      (part-after m₂ 128 64 z (rw l₂ (omega arith)) lz j 1 (omega arith) ∙ part-after m₁ 64 64 y (rw l₁ (omega arith)) ly j 1 (omega arith) ∙ part-after m 0 64 x (omega arith) lx j 1 (omega arith))
+      ∙ word-at m j
+
+  pub resets : x ≡ replicate 64 0 → y ≡ replicate 64 18446744073709551615 → z ≡ replicate 64 0 → Reset m m₄
+  resets e f g = record { nums = first ∙ e; bars = second ∙ f; execs = third ∙ g; written = keys-none; rest = rest }
+
+-- the same with what is known of the parts as the code has it
+part-64 : (m : List ℕ) (a : ℕ) → a + 64 ≤ length m → length (take 64 (drop a m)) ≡ 64
+unfolding part
+part-64 m a h = length-part m a 64 h
+
+module _ (m x y z : List ℕ) (h : 10305 ≤ length m) (lx : length x ≡ length (take 64 m)) (ly : length y ≡ length (take 64 (drop 64 (splice m 0 64 x))))
+    (lz : length z ≡ length (take 64 (drop 128 (splice (splice m 0 64 x) 64 64 y)))) where
+  x-64 : length (take 64 m) ≡ 64
+  x-64 = length-take-le 64 m (omega arith)
+
+  lx′ : length x ≡ 64
+  lx′ = lx ∙ x-64
+
+  y-64 : length (take 64 (drop 64 (splice m 0 64 x))) ≡ 64
+  y-64 = part-64 (splice m 0 64 x) 64 (rw (length-splice m 0 64 x (omega arith) lx′) (omega arith))
+
+  ly′ : length y ≡ 64
+  ly′ = ly ∙ y-64
+
+  l-two : length (splice (splice m 0 64 x) 64 64 y) ≡ length m
+  l-two =
+      length-splice (splice m 0 64 x) 64 64 y (rw (length-splice m 0 64 x (omega arith) lx′) (omega arith)) ly′ ∙ length-splice m 0 64 x (omega arith) lx′
+
+  z-64 : length (take 64 (drop 128 (splice (splice m 0 64 x) 64 64 y))) ≡ 64
+  z-64 = part-64 (splice (splice m 0 64 x) 64 64 y) 128 (rw l-two (omega arith))
+
+  lz′ : length z ≡ 64
+  lz′ = lz ∙ z-64
+
+  pub same-size : length (splice (splice (splice m 0 64 x) 64 64 y) 128 64 z) ≡ length m
+  same-size = length-filled m x y z h lx′ ly′ lz′
+
+  pub reset-is : x ≡ replicate (length (take 64 m)) 0 → y ≡ replicate (length (take 64 (drop 64 (splice m 0 64 x)))) 18446744073709551615
+      → z ≡ replicate (length (take 64 (drop 128 (splice (splice m 0 64 x) 64 64 y)))) 0 → Reset m (set (splice (splice (splice m 0 64 x) 64 64 y) 128 64 z) 8256 0)
+  reset-is e f g =
+      resets m x y z h lx′ ly′ lz′ (e ∙ ap (λ (k : ℕ). replicate k 0) x-64) (f ∙ ap (λ (k : ℕ). replicate k 18446744073709551615) y-64) (g ∙ ap (λ (k : ℕ). replicate k 0) z-64)
+
+-- ---- the fresh replica
+
+tab-const : {A : Type 0} (v : A) (i n : ℕ) → tab (λ j. v) i n ≡ replicate n v
+tab-const v i zero = refl
+tab-const {A = A} v i (suc n) = ap (λ (l : List A). v ∷ l) (tab-const v (i + 1) n)
+
+fresh-pairs : (n : ℕ) → n ≤ 64 → pairsOf n (replicate 64 0) (replicate 64 18446744073709551615) ≡ replicate n freshPair
+unfolding pairsOf
+fresh-pairs n h =
+    tab-ext (λ i. pair (getD (replicate 64 0) i 0) (getD (replicate 64 18446744073709551615) i 0)) (λ i. freshPair) 0 n
+    (λ j a b. let l : j < 64 = omega arith in rw (getD-replicate {A = ℕ} 64 j 0 0 l, getD-replicate {A = ℕ} 64 j 18446744073709551615 0 l))
+    ∙ tab-const freshPair 0 n
+
+fresh-execs : (n : ℕ) → n ≤ 64 → run n (replicate 64 0) 0 ≡ replicate n 0
+fresh-execs n h = tab-ext (λ i. getD (replicate 64 0) i 0) (λ i. 0) 0 n (λ j a b. getD-replicate {A = ℕ} 64 j 0 0 (omega arith)) ∙ tab-const 0 0 n
+
+and-both : (a b : Bool) → a && b ≡ true → (a ≡ true) × (b ≡ true)
+and-both true b e = (refl, e)
+and-both false b e = let z : _≡_ {A = ℕ} 0 1 = cc in absurd (omega arith)
+
+module _ (id population quorum : ℕ) (s : List ℕ) (t : Bool) (e : t ≡ leb size (length s) && inRange id population quorum) where
+  pub not-begun : not t ≡ true → Gives (leb size (length s) && inRange id population quorum) id population quorum s (Refused 2) s
+  not-begun f = rw (sym e ∙ not-true t f) (refl, refl)
+
+  module _ (f : not t ≡ false) where
+    holds : (leb size (length s) ≡ true) × (inRange id population quorum ≡ true)
+    holds = and-both (leb size (length s)) (inRange id population quorum) (sym e ∙ not-false t f)
+
+    pub long-enough : 10305 ≤ length s
+    long-enough = leb-true 10305 (length s) (holds .0)
+
+    few : population ≤ 64
+    few =
+        let a = and-both (ltb 0 quorum) (leb quorum population && (leb population 64 && ltb id population)) (holds .1) .1 in
+        let b = and-both (leb quorum population) (leb population 64 && ltb id population) a .1 in
+        leb-true population 64 (and-both (leb population 64) (ltb id population) b .0)
+
+    module _ (s′ : List ℕ) (r : Reset s s′) (l : length s′ ≡ length s) where
+      pairs : pairsOf population (part s′ 0 64) (part s′ 64 64) ≡ replicate population freshPair
+      pairs = rw (r .nums, r .bars) (fresh-pairs population few)
+
+      execs : run population (part s′ 128 64) 0 ≡ replicate population 0
+      execs = rw (r .execs) (fresh-execs population few)
+
+      -- no slots, every ballot and bar 0
+      pub record Zero (n : Node) : Type 0 where
+        pub own : n .id .0 ≡ id
+        pub members : n .population ≡ population
+        pub enough : n .quorum ≡ quorum
+        pub seen : n .«bal_max_seen» .0 ≡ 0
+        pub sent : n .«bal_prep_sent» .0 ≡ 0
+        pub prepared : n .«bal_prepared» .0 ≡ 0
+        pub start : n .«start_slot» .0 ≡ 0
+        pub accept : n .«accept_bar» .0 ≡ 0
+        pub commit : n .«commit_bar» .0 ≡ 0
+        pub exec : n .«exec_bar» .0 ≡ 0
+        pub snap : n .«snap_bar» .0 ≡ 0
+        pub figure : n .«peer_accept_max» .0 ≡ 18446744073709551615
+        pub none : n .slots ≡ 0
+
+      pub begun : (n : Node) → Zero n → ((rows : List ℕ) → rosterOf (n .«bodega_conf») rows ≡ empty) × (n .«bodega_conf» .count ≤ 64)
+          → Gives (leb size (length s) && inRange id population quorum) id population quorum s (Made n) s′
+      unfolding view fresh ready instsOf
+      begun n z c = rw (sym e ∙ not-false t f) (record { replica = replica; readied = readied; untouched = r .rest })
+        where
+          replica : view n s′ ≡ fresh id population quorum
+          replica =
+              rw (z .own, z .members, z .enough, z .seen, z .sent, z .prepared, z .start, z .accept, z .commit, z .exec, z .snap, z .figure, z .none, pairs, execs, c .0 (part s′ 192 320), r .written)
+
+          readied : ready n s′ ≡ true
+          readied = rw (l, holds .0, z .own, z .members, z .enough, holds .1, le-leb (n .«bodega_conf» .count) 64 (c .1), z .start, z .exec, z .commit, z .none)

@@ -1,0 +1,79 @@
+-- The replica that a node and its lent buffer stand for, on any words. The buffer: 64 words of guard numbers, 64 of guard bars, 64 of peers' exec bars, 320 of the
+-- roster's rows, 32 cells of 8, 32 batches of 89, 32 rows of 145 for held reads, and 2,049 for the written keys. Assumes nothing: these are definitions.
+use mathlib.Core.Bool.{Bool, _&&_}
+use mathlib.Core.List.{List}
+use mathlib.Core.Option.{Option, none, some}
+use Prim.Native.Nat.{ℕ, _+_, _*_, _%_}
+use lib.Dec.{ltb, leb}
+use lib.ListN.{length, getD}
+use Rattle.words.specs.Choice.{if_then_else_, ifNone_then_else_}
+use Rattle.words.specs.Tab.{tab, run}
+use Rattle.words.specs.Part.{part}
+use Rattle.ids.specs.Limits.{window, ranges, replicas, top}
+use Rattle.responders.specs.Edits.{view as rosterOf}
+use Rattle.bodega.specs.Replica as machine
+use Rattle.bodega.specs.Answers.{Given}
+use Rattle.cells.specs.Cell.{Notices, cellAt}
+use Rattle.batch.specs.Batch.{requestsOf}
+use Rattle.held.specs.Held.{readsOf}
+use Rattle.written.specs.Written.{writtenOf}
+use Rattle.node.specs.declared.Node.{Node}
+use Rattle.node.specs.declared.Answered.{Answered}
+
+abbrev pub size : ℕ
+size = 10305
+
+-- ---- slots: slot s has cell s % 32
+
+abbrev pub bookOf : Option Notices → List machine.ReadReq → Option machine.Book
+bookOf o l = ifNone o then none else λ b. some (record { bal = b .bal; notices = b .notices; holding = l })
+
+unfoldable pub instAt : List ℕ → List ℕ → List ℕ → ℕ → machine.Instance
+instAt cells batches holds c =
+    let x = cellAt cells (c * 8) in
+    record {
+      bal = x .bal;
+      status = x .status;
+      reqs = requestsOf (part batches (c * 89) 89);
+      leaderBk = x .leaderBk;
+      replicaBk = bookOf (x .replicaBk) (readsOf (part holds (c * 145) 145));
+    }
+
+unfoldable pub instsOf : ℕ → ℕ → List ℕ → List ℕ → List ℕ → List machine.Instance
+instsOf start n cells batches holds = tab (λ i. instAt cells batches holds ((start + i) % 32)) 0 n
+
+unfoldable pub pairsOf : ℕ → List ℕ → List ℕ → List machine.Pair
+pairsOf n nums bars = tab (λ i. machine.pair (getD nums i 0) (getD bars i 0)) 0 n
+
+-- ---- the replica
+
+unfoldable pub view : Node → List ℕ → machine.Replica
+view n m =
+    record {
+      me = record { id = n .id .0; population = n .population; quorum = n .quorum };
+      bal = record { maxSeen = n .«bal_max_seen» .0; prepSent = n .«bal_prep_sent» .0; prepared = n .«bal_prepared» .0 };
+      bar = record { start = n .«start_slot» .0; accept = n .«accept_bar» .0; commit = n .«commit_bar» .0; exec = n .«exec_bar» .0; snap = n .«snap_bar» .0 };
+      peerAccept = record { bar = pairsOf (n .population) (part m 0 64) (part m 64 64); max = n .«peer_accept_max» .0 };
+      peerExecBar = run (n .population) (part m 128 64) 0;
+      conf = rosterOf (n .«bodega_conf») (part m 192 320);
+      insts = instsOf (n .«start_slot» .0) (n .slots) (part m 512 256) (part m 768 2848) (part m 3616 4640);
+      highestSlot = writtenOf (part m 8256 2049);
+    }
+
+-- ---- what a call can make: where this is false a call is refused, 2
+
+-- "Population 1 to 64, quorum 1 to population", the own number below the population
+abbrev pub inRange : ℕ → ℕ → ℕ → Bool
+inRange id population quorum = ltb 0 quorum && (leb quorum population && (leb population replicas && ltb id population))
+
+-- start ≤ exec ≤ commit ≤ end, at most 32 slots
+abbrev pub barsInRange : ℕ → ℕ → ℕ → ℕ → Bool
+barsInRange start exec commit slots = leb start top && (leb start exec && (leb exec commit && (leb commit (start + slots) && leb slots window)))
+
+unfoldable pub ready : Node → List ℕ → Bool
+ready n m =
+    leb size (length m) && (inRange (n .id .0) (n .population) (n .quorum)
+    && (leb (n .«bodega_conf» .count) ranges && barsInRange (n .«start_slot» .0) (n .«exec_bar» .0) (n .«commit_bar» .0) (n .slots)))
+
+abbrev pub givenOf : Answered → Given Node
+givenOf r = record { number = r .number; count = r .count; node = r .node }

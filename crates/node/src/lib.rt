@@ -1,0 +1,136 @@
+// A replica's core: what is short goes by value, the tables stand in one lent buffer of words that counts as part of the node.
+use ids::Ballot;
+use ids::Leader;
+use ids::Replica;
+use ids::Slot;
+use responders::RespondersConf;
+ghost use mathlib.Core.Path.{_≡_};
+ghost use mathlib.Core.Bool.{_&&_};
+ghost use Prim.Native.Nat.{_≤_};
+ghost use lib.Dec.{leb};
+ghost use lib.ListN.{length, replicate};
+ghost use Rattle.node.specs.View.{size, view, inRange, barsInRange, ready, givenOf};
+ghost use Rattle.node.specs.Begins.{Reset, Begins};
+
+pub struct Node {
+    pub id: Replica,
+    pub population: u8,
+    pub quorum: u8,
+    pub bodega_conf: RespondersConf,
+    pub bal_max_seen: Ballot,
+    pub bal_prep_sent: Ballot,
+    pub bal_prepared: Ballot,
+    pub start_slot: Slot,
+    pub accept_bar: Slot,
+    pub commit_bar: Slot,
+    pub exec_bar: Slot,
+    pub snap_bar: Slot,
+    pub peer_accept_max: Slot,
+    pub slots: usize,
+}
+
+// 0: taken, with this many items; else the number of the refusal.
+pub struct Answered {
+    pub number: u64,
+    pub count: usize,
+    pub node: Node,
+}
+
+pub enum Fresh {
+    Made(Node),
+    Refused(u64),
+}
+
+fn in_range(id: u8, population: u8, quorum: u8) -> bool
+    ensures { λ r. ⌜ r ≡ inRange id population quorum ⌝ }
+{
+    if quorum == 0 {
+        return false;
+    }
+    if population < quorum {
+        return false;
+    }
+    if 64 < population {
+        return false;
+    }
+    id < population
+}
+
+fn begins(len: usize, id: u8, population: u8, quorum: u8) -> bool
+    ensures { λ r. ⌜ r ≡ leb size len && inRange id population quorum ⌝ }
+{
+    if len < Node::WORDS {
+        return false;
+    }
+    in_range(id, population, quorum)
+}
+
+fn fill(words: &mut [u64], v: u64)
+    ensures { λ _. ⌜ now (words .exit) ≡ replicate (length (now (words .entry))) v ⌝ }
+{
+    let mut i = 0;
+    while i < words.len() {
+        words[i] = v;
+        i += 1;
+    }
+}
+
+// No guard and no exec bar heard, no key written.
+fn reset(mem: &mut [u64])
+    requires { ⌜ 10305 ≤ length (now mem) ⌝ }
+    ensures { λ _. ⌜ Reset (now (mem .entry)) (now (mem .exit)) ⌝ }
+{
+    fill(&mut mem[0..64], 0);
+    fill(&mut mem[64..128], 0xffff_ffff_ffff_ffff);
+    fill(&mut mem[128..192], 0);
+    mem[8256] = 0;
+}
+
+impl Node {
+    pub const WORDS: usize = 10305;
+
+    pub const REPLICAS: usize = 64;
+
+    pub const WINDOW: usize = 32;
+
+    pub const HOLD: usize = 16;
+
+    pub const KEYS: usize = 256;
+
+    // The starting state: ballot 0, no leader, no slots.
+    pub fn fresh(mem: &mut [u64], id: Replica, population: u8, quorum: u8) -> Fresh
+        ensures { λ r. ⌜ Begins (id .0) population quorum (now (mem .entry)) r (now (mem .exit)) ⌝ }
+    {
+        if !begins(mem.len(), id.0, population, quorum) {
+            return Fresh::Refused(2);
+        }
+        reset(mem);
+        let bodega_conf = RespondersConf::empty();
+        let none = Ballot(0);
+        let zero = Slot(0);
+        let beyond = Slot(0xffff_ffff_ffff_ffff);
+        Fresh::Made(Node {
+            id,
+            population,
+            quorum,
+            bodega_conf,
+            bal_max_seen: none,
+            bal_prep_sent: none,
+            bal_prepared: none,
+            start_slot: zero,
+            accept_bar: zero,
+            commit_bar: zero,
+            exec_bar: zero,
+            snap_bar: zero,
+            peer_accept_max: beyond,
+            slots: 0,
+        })
+    }
+
+    // `peer_accept_max`, the reading bar.
+    pub fn reading_bar(self) -> Slot
+        ensures { λ r. ⌜ r ≡ self .«peer_accept_max» ⌝ }
+    {
+        self.peer_accept_max
+    }
+}
