@@ -1,10 +1,10 @@
 -- The replica that a node and its lent buffer stand for, on any words. The buffer: 64 words of guard numbers, 64 of guard bars, 64 of peers' exec bars, 320 of the
 -- roster's rows, 32 cells of 8, 32 batches of 89, 32 rows of 145 for held reads, and 2,049 for the written keys. Assumes nothing: these are definitions.
-use mathlib.Core.Bool.{Bool, _&&_}
+use mathlib.Core.Bool.{Bool, false, _&&_, not}
 use mathlib.Core.List.{List}
 use mathlib.Core.Option.{Option, none, some}
 use Prim.Native.Nat.{ℕ, _+_, _*_, _%_}
-use lib.Dec.{ltb, leb}
+use lib.Dec.{ltb, leb, eqb}
 use lib.ListN.{length, getD}
 use Rattle.words.specs.Choice.{if_then_else_, ifNone_then_else_}
 use Rattle.words.specs.Tab.{tab, run}
@@ -68,12 +68,24 @@ inRange id population quorum = ltb 0 quorum && (leb quorum population && (leb po
 
 -- start ≤ exec ≤ commit ≤ end, at most 32 slots
 abbrev pub barsInRange : ℕ → ℕ → ℕ → ℕ → Bool
-barsInRange start exec commit slots = leb start top && (leb start exec && (leb exec commit && (leb commit (start + slots) && leb slots window)))
+barsInRange start exec commit slots = leb start top && (leb start exec && (leb exec commit && (leb slots window && leb commit (start + slots))))
+
+abbrev pub sound : ℕ → ℕ → ℕ → ℕ → ℕ → ℕ → ℕ → ℕ → ℕ → Bool
+sound len id population quorum count start exec commit slots =
+    leb size len && (inRange id population quorum && (leb count ranges && barsInRange start exec commit slots))
 
 unfoldable pub ready : Node → List ℕ → Bool
 ready n m =
-    leb size (length m) && (inRange (n .id .0) (n .population) (n .quorum)
-    && (leb (n .«bodega_conf» .count) ranges && barsInRange (n .«start_slot» .0) (n .«exec_bar» .0) (n .«commit_bar» .0) (n .slots)))
+    sound (length m) (n .id .0) (n .population) (n .quorum) (n .«bodega_conf» .count) (n .«start_slot» .0) (n .«exec_bar» .0) (n .«commit_bar» .0) (n .slots)
 
 abbrev pub givenOf : Answered → Given Node
 givenOf r = record { number = r .number; count = r .count; node = r .node }
+
+-- ---- what the code tests
+
+abbrev pub leadsIt : Option ℕ → ℕ → Bool
+leadsIt o id = ifNone o then false else λ l. eqb l id
+
+-- *prepared* has no ground 13
+abbrev pub mayPrepare : Option ℕ → ℕ → ℕ → ℕ → Bool
+mayPrepare leader id sent ballot = leadsIt leader id && (not (eqb ballot 0) && eqb ballot sent)

@@ -9,7 +9,10 @@ ghost use mathlib.Core.Bool.{_&&_};
 ghost use Prim.Native.Nat.{_≤_};
 ghost use lib.Dec.{leb};
 ghost use lib.ListN.{length, replicate};
-ghost use Rattle.node.specs.View.{size, view, inRange, barsInRange, ready, givenOf};
+ghost use Rattle.node.specs.View.{size, view, inRange, barsInRange, sound, ready, givenOf, leadsIt, mayPrepare};
+ghost use Rattle.ids.specs.Leader.{leaderOf};
+ghost use Rattle.bodega.specs.Replica.{Prepared};
+ghost use Rattle.bodega.specs.Answers.{Answers};
 ghost use Rattle.node.specs.Begins.{Reset, Begins};
 
 pub struct Node {
@@ -63,6 +66,84 @@ fn begins(len: usize, id: u8, population: u8, quorum: u8) -> bool
         return false;
     }
     in_range(id, population, quorum)
+}
+
+fn bars_in_range(start: u64, exec: u64, commit: u64, slots: usize) -> bool
+    ensures { λ r. ⌜ r ≡ barsInRange start exec commit slots ⌝ }
+{
+    if 0xffff_ffff_ffff < start {
+        return false;
+    }
+    if exec < start {
+        return false;
+    }
+    if commit < exec {
+        return false;
+    }
+    if Node::WINDOW < slots {
+        return false;
+    }
+    commit <= start + slots as u64
+}
+
+fn is_sound(
+    len: usize,
+    id: u8,
+    population: u8,
+    quorum: u8,
+    count: usize,
+    start: u64,
+    exec: u64,
+    commit: u64,
+    slots: usize,
+) -> bool
+    ensures { λ r. ⌜ r ≡ sound len id population quorum count start exec commit slots ⌝ }
+{
+    if !begins(len, id, population, quorum) {
+        return false;
+    }
+    if RespondersConf::RANGES < count {
+        return false;
+    }
+    bars_in_range(start, exec, commit, slots)
+}
+
+// Whether a call can have made the node, and the buffer is long enough.
+fn is_ready(node: Node, mem: &[u64]) -> bool
+    ensures { λ r. ⌜ r ≡ ready node (now (mem .entry)) ⌝ }
+{
+    is_sound(
+        mem.len(),
+        node.id.0,
+        node.population,
+        node.quorum,
+        node.bodega_conf.count,
+        node.start_slot.0,
+        node.exec_bar.0,
+        node.commit_bar.0,
+        node.slots,
+    )
+}
+
+fn leads(leader: Leader, id: Replica) -> bool
+    ensures { λ r. ⌜ r ≡ leadsIt (leaderOf leader) (id .0) ⌝ }
+{
+    let Leader::Some(l) = leader else {
+        return false;
+    };
+    l.0 == id.0
+}
+
+fn may_prepare(leader: Leader, id: Replica, sent: Ballot, ballot: Ballot) -> bool
+    ensures { λ r. ⌜ r ≡ mayPrepare (leaderOf leader) (id .0) (sent .0) (ballot .0) ⌝ }
+{
+    if !leads(leader, id) {
+        return false;
+    }
+    if ballot.0 == 0 {
+        return false;
+    }
+    ballot.0 == sent.0
 }
 
 fn fill(words: &mut [u64], v: u64)
@@ -125,6 +206,36 @@ impl Node {
             peer_accept_max: beyond,
             slots: 0,
         })
+    }
+
+    pub fn prepared(self, mem: &[u64], area: &[u64], ballot: Ballot) -> Answered
+        ensures { λ r. ⌜ Answers ready view (Prepared (ballot .0)) self (now (mem .entry)) (now (area .entry)) (givenOf r) (now (mem .entry)) (now (area .entry)) ⌝ }
+    {
+        if !is_ready(self, mem) {
+            return Answered {
+                number: 2,
+                count: 0,
+                node: self,
+            };
+        }
+        let conf = self.bodega_conf;
+        let leader = conf.leader;
+        let id = self.id;
+        let sent = self.bal_prep_sent;
+        if !may_prepare(leader, id, sent, ballot) {
+            return Answered {
+                number: 13,
+                count: 0,
+                node: self,
+            };
+        }
+        let mut next = self;
+        next.bal_prepared = ballot;
+        Answered {
+            number: 0,
+            count: 0,
+            node: next,
+        }
     }
 
     // `peer_accept_max`, the reading bar.
