@@ -3,7 +3,7 @@ use mathlib.Core.Path.{_≡_, refl, sym, ap, _∙_}
 use mathlib.Core.Bool.{Bool, true, false, _&&_, and-true}
 use mathlib.Core.List.{List, [], _∷_, _++_}
 use mathlib.Core.Option.{Option, none, some}
-use Prim.Native.Nat.{ℕ, zero, suc, _+_, _*_, _/_, _%_, _≤_, _<_, min}
+use Prim.Native.Nat.{ℕ, zero, suc, _+_, _-_, _*_, _/_, _%_, _≤_, _<_, min}
 use native.Mathlib.Nat.{zero-add}
 use native.Mathlib.Omega.{arith}
 use borrow.Author.Tests.{eqb-true, eq-eqb, le-leb, lt-leb}
@@ -13,6 +13,7 @@ use lib.Seq.{ext-getD, length-take-le, getD-take}
 use Rattle.words.specs.Choice.{if_then_else_}
 use Rattle.words.specs.Tab.{run, length-tab, getD-tab}
 use Rattle.words.specs.Writes.{writes, Agrees, writes-append, run-writes, run-agrees, length-writes, writes-same}
+use Rattle.keys.specs.Read.{isK, strip, sign, isDigit, number, digits, readKey}
 use Rattle.keys.specs.Same.{sameBytes}
 use Rattle.packed.specs.Key.{wordsOf, keyOf, keyAt, sameKey, leWord, leBytes, packOf, allBytes, unpackOf, isPacked, bytesOf, atMost48}
 use Rattle.packed.specs.declared.Key.{Key}
@@ -215,3 +216,52 @@ module _ (k : Key) (s t : List ℕ) (fits : 48 ≤ length s) (e : t ≡ writes s
       go true q =
           let d = ap (λ (x : Key). x .len) (sameKey-true (packOf (unpackOf k)) k q) in
           absurd (omega (arith, d, short k))
+
+-- ---- a key that no bytes are does not read
+
+-- a 0 stands in the list, and is no digit
+abbrev Zeroed : List ℕ → Type 0
+Zeroed l = (p : List ℕ) × (r : List ℕ) × (l ≡ p ++ (0 ∷ r))
+
+strip-zeroed : (p r : List ℕ) → Zeroed (strip (p ++ (0 ∷ r)))
+strip-zeroed [] r = ([], r, refl)
+strip-zeroed (c ∷ p) r = go (isK c) (strip-zeroed p r)
+  where
+    go : (t : Bool) → Zeroed (strip (p ++ (0 ∷ r))) → Zeroed (if t then strip (p ++ (0 ∷ r)) else c ∷ (p ++ (0 ∷ r)))
+    go true z = z
+    go false z = (c ∷ p, r, refl)
+
+sign-zeroed : (p r : List ℕ) → Zeroed (sign (p ++ (0 ∷ r)))
+sign-zeroed [] r = ([], r, refl)
+sign-zeroed (c ∷ p) r = go (eqb c 43)
+  where
+    go : (t : Bool) → Zeroed (if t then p ++ (0 ∷ r) else c ∷ (p ++ (0 ∷ r)))
+    go true = (p, r, refl)
+    go false = (c ∷ p, r, refl)
+
+number-none : (a : ℕ) (p r : List ℕ) → number a (p ++ (0 ∷ r)) ≡ none
+number-none a [] r = refl
+number-none a (c ∷ p) r = go (isDigit c) (number-none (10 * a + (c - 48)) p r)
+  where
+    go : (t : Bool) → number (10 * a + (c - 48)) (p ++ (0 ∷ r)) ≡ none → (if t then number (10 * a + (c - 48)) (p ++ (0 ∷ r)) else none) ≡ none
+    go true e = e
+    go false e = refl
+
+digits-none : (p r : List ℕ) → digits (p ++ (0 ∷ r)) ≡ none
+digits-none [] r = refl
+digits-none (c ∷ p) r = number-none 0 (c ∷ p) r
+
+zeroed-unread : (p r : List ℕ) → readKey (p ++ (0 ∷ r)) ≡ none
+unfolding readKey
+zeroed-unread p r =
+    let w = strip-zeroed p r in
+    let v = sign-zeroed (w .0) (w .1) in
+    rw (w .2, v .2, digits-none (v .0) (v .1))
+
+pub foreign-unread : (k : Key) → none ≡ atMost48 (bytesOf k) → readKey (bytesOf k) ≡ none
+unfolding bytesOf
+foreign-unread k h = go (isPacked k) h
+  where
+    go : (t : Bool) → none ≡ atMost48 (if t then unpackOf k else wordsOf k ++ replicate 42 0) → readKey (if t then unpackOf k else wordsOf k ++ replicate 42 0) ≡ none
+    go true e = let z : _≡_ {A = Option (List ℕ)} none (some (unpackOf k)) = e ∙ rw (le-leb (length (unpackOf k)) 48 (short k)) in cc
+    go false e = zeroed-unread (wordsOf k) (replicate 41 0)

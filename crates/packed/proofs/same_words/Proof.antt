@@ -9,7 +9,7 @@ use Rattle.packed.proofs.same_words.Tie as tie
 
 returns : tie.Need-returns
 unfolding sameKey sameBytes
-returns c = sym (simp (ne-eqb _ _ (c .if1 .taken), and-false))
+returns c = sym (rw (ne-eqb _ _ (c .if1 .taken)))
 
 returns-2 : tie.Need-returns-2
 unfolding sameKey sameBytes
