@@ -60,6 +60,11 @@ pub how-many : (s : List ℕ) → length (requestsOf s) ≡ countOf 8 s
 unfolding requestsOf
 how-many s = length-counted requestFrom 11 8 s
 
+-- the requests one by one, as many as are counted
+pub requests-are : (s : List ℕ) (n : ℕ) → n ≡ length (requestsOf s) → requestsOf s ≡ tab (requestAt s) 0 n
+unfolding requestsOf
+requests-are s n h = ap (tab (requestAt s) 0) (sym (h ∙ how-many s))
+
 -- in the words of the code: s₁ is what the request's store left, s₂ what the count's did
 module _ (s s₁ s₂ : List ℕ) (n : ℕ) (q : Request) (fits : 89 ≤ length s) (many : n ≡ length (requestsOf s)) (most : n ≤ 8) (room : n ≡ 8 → ⊥)
     (e₁ : s₁ ≡ writes s (1 + n * 11) (requestWords q)) (e₂ : s₂ ≡ set s₁ 0 (n + 1)) where
@@ -136,8 +141,8 @@ unfoldable pub lastOf : List ℕ → ℕ → List ℕ → Option ℕ
 lastOf s i key = lastPut key (tab (requestAt s) 0 i)
 
 pub last-start : (s : List ℕ) (n : ℕ) (key : List ℕ) → n ≡ length (requestsOf s) → lastOf s n key ≡ lastPut key (requestsOf s)
-unfolding lastOf requestsOf
-last-start s n key h = rw (h ∙ how-many s)
+unfolding lastOf
+last-start s n key h = ap (lastPut key) (sym (requests-are s n h))
 
 pub last-end : (s : List ℕ) (i : ℕ) (key : List ℕ) → i ≤ 0 → lastOf s i key ≡ none
 unfolding lastOf lastPut

@@ -10,11 +10,12 @@ use native.Mathlib.Nat.{add-zero}
 use lib.ListN.{length, getD, set, length-append, length-set}
 use lib.Seq.{getD-set-other}
 use Rattle.words.specs.Counted.{countOf, length-counted, counted-push, counted-clear}
+use Rattle.words.specs.Tab.{tab}
 use Rattle.words.specs.Writes.{writes, Agrees, writes-other, writes-same}
 use Rattle.packed.specs.Key.{keyAt}
 use Rattle.packed.proofs.Laws.{keyAt-agrees, keyAt-writes}
 use Rattle.bodega.specs.Replica as machine
-use Rattle.held.specs.Held.{readOf, readWords, readFrom, readsOf, Pushes}
+use Rattle.held.specs.Held.{readOf, readWords, readFrom, readAt, readsOf, Pushes}
 use Rattle.held.specs.declared.ReadReq.{ReadReq}
 
 pub near : (s′ s : List ℕ) (p : ℕ) → Agrees s′ s p (p + 9) → readFrom s′ p ≡ readFrom s p
@@ -39,6 +40,11 @@ read-back s p x h =
 pub how-many : (s : List ℕ) → length (readsOf s) ≡ countOf 16 s
 unfolding readsOf
 how-many s = length-counted readFrom 9 16 s
+
+-- the reads one by one, as many as are counted
+pub reads-are : (s : List ℕ) (n : ℕ) → n ≡ length (readsOf s) → readsOf s ≡ tab (readAt s) 0 n
+unfolding readsOf
+reads-are s n h = ap (tab (readAt s) 0) (sym (h ∙ how-many s))
 
 -- in the words of the code: s₁ is what the read's store left, s₂ what the count's did
 module _ (s s₁ s₂ : List ℕ) (n : ℕ) (x : ReadReq) (fits : 145 ≤ length s) (many : n ≡ length (readsOf s)) (most : n ≤ 16) (room : n ≡ 16 → ⊥)
