@@ -3,11 +3,10 @@ use packed::Key;
 use packed::get_key;
 use packed::put_key;
 ghost use mathlib.Core.Path.{_≡_};
-ghost use mathlib.Core.List.{_∷_, []};
-ghost use Prim.Native.Nat.{ℕ, _+_, _*_, _<_, _≤_};
+ghost use mathlib.Core.List.{[]};
+ghost use Prim.Native.Nat.{_+_, _*_, _<_, _≤_};
 ghost use lib.ListN.{length, set};
 ghost use Rattle.words.specs.Writes.{writes};
-ghost use Rattle.packed.specs.Key.{wordsOf};
 ghost use Rattle.held.specs.Held.{readOf, readAt, readsOf, readWords, Pushes};
 
 pub struct ReadReq {

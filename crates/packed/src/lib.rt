@@ -1,12 +1,11 @@
 // A key of at most 48 bytes as seven words: its length, and its bytes, eight to a word, 0 past its end.
 use words::wide;
 ghost use mathlib.Core.Path.{_≡_};
-ghost use Prim.Native.Nat.{ℕ, _+_, _*_, _<_, _≤_, _/_, _%_};
-ghost use mathlib.Core.List.{_++_};
+ghost use Prim.Native.Nat.{_+_, _<_, _≤_, _%_};
 ghost use lib.ListN.{length, getD};
 ghost use Rattle.words.specs.Writes.{writes};
 ghost use Rattle.keys.specs.Same.{sameBytes};
-ghost use Rattle.packed.specs.Key.{keyAt, wordsOf, sameKey, packOf, leWord, leBytes, bytesOf, keyIn, atMost48, Unpacks, isPacked, allBytes};
+ghost use Rattle.packed.specs.Key.{keyAt, wordsOf, sameKey, packOf, leWord, leBytes, bytesOf, keyIn, atMost48, Unpacks, allBytes};
 
 pub struct Key {
     pub len: u64,

@@ -4,12 +4,11 @@ use packed::Key;
 use packed::get_key;
 use packed::put_key;
 ghost use mathlib.Core.Path.{_≡_};
-ghost use Prim.Native.Nat.{ℕ, _+_, _*_, _<_, _≤_, max};
+ghost use Prim.Native.Nat.{_≤_, max};
 ghost use lib.ListN.{length};
-ghost use Rattle.words.specs.Writes.{writes};
-ghost use Rattle.packed.specs.Key.{bytesOf, wordsOf};
+ghost use Rattle.packed.specs.Key.{bytesOf};
 ghost use Rattle.bodega.specs.Localread.{highestOf};
-ghost use Rattle.written.specs.Written.{highestAt, writtenOf, slotIn, placeOf, Notes};
+ghost use Rattle.written.specs.Written.{writtenOf, slotIn, placeOf, Notes};
 
 pub enum LastWrite {
     At(Slot),
@@ -17,7 +16,7 @@ pub enum LastWrite {
 }
 
 // Where a key's entry is.
-pub enum Found {
+enum Found {
     Entry(usize),
     Nowhere,
 }
