@@ -183,7 +183,7 @@ fresh-pairs n h =
 fresh-execs : (n : ℕ) → n ≤ 64 → run n (replicate 64 0) 0 ≡ replicate n 0
 fresh-execs n h = tab-ext (λ i. getD (replicate 64 0) i 0) (λ i. 0) 0 n (λ j a b. getD-replicate {A = ℕ} 64 j 0 0 (omega arith)) ∙ tab-const 0 0 n
 
-and-both : (a b : Bool) → a && b ≡ true → (a ≡ true) × (b ≡ true)
+pub and-both : (a b : Bool) → a && b ≡ true → (a ≡ true) × (b ≡ true)
 and-both true b e = (refl, e)
 and-both false b e = let z : _≡_ {A = ℕ} 0 1 = cc in absurd (omega arith)
 

@@ -83,6 +83,10 @@ givenOf r = record { number = r .number; count = r .count; node = r .node }
 
 -- ---- what the code tests
 
+-- the ground of a guard that applies, 0 where none does
+abbrev pub guardRefusal : ℕ → ℕ → ℕ → ℕ → ℕ
+guardRefusal population id peer bar = if leb population peer then 3 else if ltb top bar then 8 else if eqb peer id then 10 else 0
+
 abbrev pub leadsIt : Option ℕ → ℕ → Bool
 leadsIt o id = ifNone o then false else λ l. eqb l id
 

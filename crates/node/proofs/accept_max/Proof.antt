@@ -1,0 +1,93 @@
+use Rattle.node.proofs.Guards as law
+use native.Mathlib.Omega.{arith}
+use native.Mathlib.Nat.{sub-zero}
+use mathlib.Core.Path.{_≡_, refl, ap, _∙_}
+use mathlib.Core.List.{List}
+use Prim.Native.Nat.{ℕ, _-_, _≤_, _<_}
+use lib.ListN.{length, length-set, take, getD}
+use lib.Seq.{length-take-le}
+use Rattle.words.specs.Tab.{tab}
+use Rattle.rank.specs.Sort.{sort}
+use Rattle.node.proofs.accept_max.Statement.{statement}
+use Rattle.node.proofs.accept_max.Tie as tie
+
+abbrev Inv-loop : tie.InvT-loop
+Inv-loop mem population quorum ballot n b₀ i₀ b i = (i ≤ n) × (length b ≡ 64) × (take i b ≡ tab (law.barAt mem ballot) 0 i)
+
+abbrev μ-loop : tie.MeasureT-loop
+μ-loop mem population quorum ballot n b₀ i₀ b i = n - i
+
+loop-holds : tie.Need-loop-holds Inv-loop μ-loop
+loop-holds c = (omega arith, refl, refl)
+
+mul-counted-bar : tie.Need-mul-counted-bar Inv-loop μ-loop
+mul-counted-bar c = omega arith
+
+shared-slice-read-counted-bar : tie.Need-shared-slice-read-counted-bar Inv-loop μ-loop
+shared-slice-read-counted-bar c = omega arith
+
+add-counted-bar : tie.Need-add-counted-bar Inv-loop μ-loop
+add-counted-bar c = omega arith
+
+mul-counted-bar-2 : tie.Need-mul-counted-bar-2 Inv-loop μ-loop
+mul-counted-bar-2 c = omega arith
+
+shared-slice-read-counted-bar-2 : tie.Need-shared-slice-read-counted-bar-2 Inv-loop μ-loop
+shared-slice-read-counted-bar-2 c = omega arith
+
+counted-bar-requires : tie.Need-counted-bar-requires Inv-loop μ-loop
+counted-bar-requires c κs = omega arith
+
+mul-b : tie.Need-mul-b Inv-loop μ-loop
+mul-b c = omega arith
+
+array-write-b : tie.Need-array-write-b Inv-loop μ-loop
+array-write-b c = omega arith
+
+add-i : tie.Need-add-i Inv-loop μ-loop
+add-i c = omega arith
+
+loop-less : tie.Need-loop-less Inv-loop μ-loop
+loop-less c = omega arith
+
+loop-again : tie.Need-loop-again Inv-loop μ-loop
+loop-again c = let l = c .before .before .before .before .loop in let h : l .i < length (l .b) = omega (arith, l .inv) in (omega arith, simp length-set (l .inv .1), law.fill _ (l .b) (l .i) _ h (c .counted-bar .ensures) (l .inv .2))
+
+sub-kth : tie.Need-sub-kth Inv-loop μ-loop
+sub-kth c = omega arith
+
+part-kth-start : tie.Need-part-kth-start Inv-loop μ-loop
+part-kth-start c = omega arith
+
+part-kth-end : tie.Need-part-kth-end Inv-loop μ-loop
+part-kth-end c = omega arith
+
+kth-requires : tie.Need-kth-requires Inv-loop μ-loop
+kth-requires c κs = let l = c .before .before .before .loop in let a = c .before .before .before .before .before .args in let h : a .population ≤ length (l .b) = omega (arith, l .inv) in (omega arith, rw (sub-zero, length-take-le (a .population) (l .b) h) (omega arith))
+
+returns : tie.Need-returns Inv-loop μ-loop
+returns c = let l = c .before .before .before .before .loop in let a = c .before .before .before .before .before .before .args in let e : l .i ≡ a .population = omega arith in (rw sub-zero at (c .kth .ensures)) ∙ ap (λ (z : List ℕ). getD (sort z) (a .quorum - 1) 0) ((rw e at (l .inv .2)) ∙ law.counted-are (a .mem .now) (a .ballot) (a .population) (omega arith))
+
+pub accept-max-spec : {M : Type 1} → statement M
+accept-max-spec =
+    tie.close
+    (tie.spec
+    Inv-loop
+    μ-loop
+    loop-holds
+    mul-counted-bar
+    shared-slice-read-counted-bar
+    add-counted-bar
+    mul-counted-bar-2
+    shared-slice-read-counted-bar-2
+    counted-bar-requires
+    mul-b
+    array-write-b
+    add-i
+    loop-less
+    loop-again
+    sub-kth
+    part-kth-start
+    part-kth-end
+    kth-requires
+    returns)
