@@ -8,7 +8,7 @@ use native.Mathlib.Omega.{arith}
 use native.Mathlib.Decide.{decLt}
 use lib.ListN.{length, getD}
 use borrow.Author.Tests.{eq-eqb, ne-eqb}
-use Rattle.words.specs.Writes.{writes, writes-same, writes-other}
+use Rattle.words.specs.Writes.{writes, Agrees, writes-same, writes-other}
 use Rattle.bodega.specs.Replica as machine
 use Rattle.cells.specs.Cell.{Notices, Short, statusNamed, acksNamed, bookNamed, present, acksIn, balIn, noticesIn, cellAt, cellWords}
 
@@ -70,6 +70,20 @@ named-book : (o : Option Notices) → bookNamed (present o) (balIn o) (noticesIn
 named-book none = refl
 named-book (some b) = refl
 
+-- a cell is read from its own words
+pub cell-near : (t s : List ℕ) (p : ℕ) → Agrees t s p (p + 7) → cellAt t p ≡ cellAt s p
+unfolding cellAt
+cell-near t s p h =
+    simp (
+      h p (omega arith) (omega arith),
+      h (p + 1) (omega arith) (omega arith),
+      h (p + 1 + 1) (omega arith) (omega arith),
+      h (p + 1 + 1 + 1) (omega arith) (omega arith),
+      h (p + 1 + 1 + 1 + 1) (omega arith) (omega arith),
+      h (p + 1 + 1 + 1 + 1 + 1) (omega arith) (omega arith),
+      h (p + 1 + 1 + 1 + 1 + 1 + 1) (omega arith) (omega arith),
+    )
+
 -- a cell that is stored is read back
 module _ (s : List ℕ) (c : ℕ) (x : Short) (h : c * 8 + 8 ≤ length s) where
   stored : (q k : ℕ) → q ≡ c * 8 + k → k < 7 → getD (writes s (c * 8) (cellWords x)) q 0 ≡ getD (cellWords x) k 0
@@ -97,17 +111,7 @@ module _ (s : List ℕ) (c : ℕ) (x : Short) (h : c * 8 + 8 ≤ length s) where
   ]
 
   pub cell-other : (d : ℕ) → d ≢ c → cellAt (writes s (c * 8) (cellWords x)) (d * 8) ≡ cellAt s (d * 8)
-  unfolding cellAt
-  cell-other d n =
-      simp (
-        apart d (d * 8) n (omega arith) (omega arith),
-        apart d (d * 8 + 1) n (omega arith) (omega arith),
-        apart d (d * 8 + 1 + 1) n (omega arith) (omega arith),
-        apart d (d * 8 + 1 + 1 + 1) n (omega arith) (omega arith),
-        apart d (d * 8 + 1 + 1 + 1 + 1) n (omega arith) (omega arith),
-        apart d (d * 8 + 1 + 1 + 1 + 1 + 1) n (omega arith) (omega arith),
-        apart d (d * 8 + 1 + 1 + 1 + 1 + 1 + 1) n (omega arith) (omega arith),
-      )
+  cell-other d n = cell-near (writes s (c * 8) (cellWords x)) s (d * 8) (λ q f g. apart d q n f g)
 
 -- the words that the code stores
 pub words-are : (s : List ℕ) (p bal w a₀ a₁ b₀ b₁ b₂ : ℕ) (st : machine.Status) (a : Option ℕ) (b : Option Notices) → w ≡ machine.order st → (a₀ ≡ present a) × (a₁ ≡ acksIn a)

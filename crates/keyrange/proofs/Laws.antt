@@ -280,14 +280,6 @@ filter-is s l x id e = e
 
 -- ---- the rows stored
 
-pub copy-step : (s t k : List ℕ) (i n : ℕ) → i < n → n ≤ length k → t ≡ writes s 0 (take i k) → set t i (getD k i 0) ≡ writes s 0 (take (i + 1) k)
-copy-step s t k i n f g e =
-    let z : 0 + i ≡ i = omega arith in
-    ap (λ (x : List ℕ). set x i (getD k i 0)) e ∙ ap (λ (j : ℕ). set (writes s 0 (take i k)) j (getD k i 0)) (sym z) ∙ writes-take s 0 k i (omega arith)
-
-pub copied : (s t k : List ℕ) (i n : ℕ) → n ≤ i → i ≤ n → t ≡ writes s 0 (take i k) → t ≡ writes s 0 (take n k)
-copied s t k i n f g e = let z : i ≡ n = omega arith in rw z at e
-
 pub length-ranges : (s : List ℕ) (n : ℕ) → length (rangesOf s n) ≡ n
 unfolding rangesOf
 length-ranges s n = length-tab (λ i. rangeAt s (i * 5)) 0 n

@@ -269,17 +269,6 @@ fn filtered(out: &mut [u64], rows: &[u64], count: usize, id: Replica) -> usize
     pass(out, 0, rows, count, Cut::Without(id))
 }
 
-fn copy_words(to: &mut [u64], from: &[u64], n: usize)
-    requires { ⌜ (n ≤ length (now from)) × (n ≤ length (now to)) ⌝ }
-    ensures { λ _. ⌜ now (to .exit) ≡ writes (now (to .entry)) 0 (take n (now (from .entry))) ⌝ }
-{
-    let mut i = 0;
-    while i < n {
-        to[i] = from[i];
-        i += 1;
-    }
-}
-
 fn store(rows: &mut [u64], out: &[u64], n: usize) -> Stored
     requires { ⌜ (n * 5 ≤ length (now out)) × (320 ≤ length (now rows)) ⌝ }
     ensures { λ r. ⌜ Stores (rangesOf (now (out .entry)) n) (now (rows .entry)) (now (rows .exit)) r ⌝ }
@@ -287,7 +276,7 @@ fn store(rows: &mut [u64], out: &[u64], n: usize) -> Stored
     if 64 < n {
         return Stored::Full;
     }
-    copy_words(rows, out, n * 5);
+    words::copy_words(rows, out, n * 5);
     Stored::Rows(n)
 }
 
@@ -308,6 +297,6 @@ pub fn filter(rows: &mut [u64], count: usize, id: Replica) -> usize
 {
     let mut out = [0u64; 320];
     let n = filtered(&mut out, rows, count, id);
-    copy_words(rows, &out, n * 5);
+    words::copy_words(rows, &out, n * 5);
     n
 }

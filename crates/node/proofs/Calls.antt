@@ -1,27 +1,31 @@
 -- What every call shares: whether a node is ready, and what is due from the grounds that apply. Assumes nothing.
 use mathlib.Core.Path.{_≡_, refl, sym, ap, _∙_}
 use mathlib.Core.Bool.{Bool, true, false, not, _&&_, _||_}
-use mathlib.Core.List.{List, []}
+use mathlib.Core.List.{List, [], _∷_, _++_}
 use mathlib.Core.Option.{Option, none, some}
 use Prim.Native.Nat.{ℕ, _+_, _≤_, _<_}
 use native.Mathlib.Omega.{arith}
 use lib.Dec.{ltb, leb, eqb}
 use lib.ListN.{length}
-use borrow.Author.Tests.{le-ltb, le-leb, lt-leb, eq-eqb, ne-eqb, not-true, not-false}
+use borrow.Author.Tests.{lt-ltb, le-ltb, le-leb, lt-leb, eq-eqb, ne-eqb, ltb-true, leb-true, not-true, not-false}
 use Rattle.words.specs.Choice.{if_then_else_}
 use Rattle.ids.specs.Leader.{leaderOf}
 use Rattle.ids.specs.declared.Leader.{Leader}
 use Rattle.ids.specs.declared.Leader.the-variants.{Some}
 use Rattle.ids.specs.declared.Replica.{Replica}
-use Rattle.items.specs.Item.{places, encode}
+use Rattle.items.specs.Item.{Item, places, encode}
+use Rattle.words.specs.Writes.{writes}
 use Rattle.responders.specs.Edits.{view as rosterOf}
+use Rattle.responders.specs.Ground.{Ground, _when_or_, refusal}
+use Rattle.responders.proofs.Grounds.{NoneApply}
 use Rattle.bodega.specs.Replica as machine
 use Rattle.bodega.specs.Events.{prepared}
 use Rattle.bodega.specs.Grounds.{grounds}
 use Rattle.bodega.specs.Step.{step, effect, turnedAway}
 use Rattle.bodega.specs.Answers.{due, Answers}
+use Rattle.node.proofs.Laws.{and-both}
 use Rattle.node.specs.declared.Node.{Node}
-use Rattle.node.specs.View.{size, view, inRange, barsInRange, sound, ready, leadsIt, mayPrepare}
+use Rattle.node.specs.View.{size, view, inRange, barsInRange, sound, ready, lowest, leadsIt, mayPrepare}
 
 -- ---- tests
 
@@ -79,6 +83,66 @@ module _ (o : Option ℕ) (id sent ballot : ℕ) (t : Bool) (e : t ≡ leadsIt o
     pub ballot-sent : (ballot ≡ 0 → ⊥) → eqb ballot sent ≡ mayPrepare o id sent ballot
     ballot-sent g = sym (simp (sym e ∙ not-false t f, ne-eqb ballot 0 g))
 
+-- ---- what is known of a ready node
+
+pub record Ready (n : Node) (m : List ℕ) : Type 0 where
+  pub long : 10305 ≤ length m
+  pub quorate : 0 < n .quorum
+  pub enough : n .quorum ≤ n .population
+  pub few : n .population ≤ 64
+  pub own : n .id .0 < n .population
+  pub ranges : n .«bodega_conf» .count ≤ 64
+  pub start-low : n .«start_slot» .0 ≤ 281474976710655
+  pub start-exec : n .«start_slot» .0 ≤ n .«exec_bar» .0
+  pub exec-commit : n .«exec_bar» .0 ≤ n .«commit_bar» .0
+  pub window : n .slots ≤ 32
+  pub commit-end : n .«commit_bar» .0 ≤ n .«start_slot» .0 + n .slots
+
+pub is-ready : (n : Node) (m : List ℕ) (t : Bool) → t ≡ ready n m → not t ≡ false → Ready n m
+unfolding ready
+is-ready n m t e f =
+    let r = and-both (leb size (length m)) _ (sym e ∙ not-false t f) in
+    let s = and-both (inRange (n .id .0) (n .population) (n .quorum)) _ (r .1) in
+    let a = and-both (ltb 0 (n .quorum)) _ (s .0) in
+    let b = and-both (leb (n .quorum) (n .population)) _ (a .1) in
+    let c = and-both (leb (n .population) 64) _ (b .1) in
+    let u = and-both (leb (n .«bodega_conf» .count) 64) _ (s .1) in
+    let v = and-both (leb (n .«start_slot» .0) 281474976710655) _ (u .1) in
+    let w = and-both (leb (n .«start_slot» .0) (n .«exec_bar» .0)) _ (v .1) in
+    let x = and-both (leb (n .«exec_bar» .0) (n .«commit_bar» .0)) _ (w .1) in
+    let y = and-both (leb (n .slots) 32) _ (x .1) in
+    record {
+      long = leb-true 10305 (length m) (r .0);
+      quorate = ltb-true 0 (n .quorum) (a .0);
+      enough = leb-true (n .quorum) (n .population) (b .0);
+      few = leb-true (n .population) 64 (c .0);
+      own = ltb-true (n .id .0) (n .population) (c .1);
+      ranges = leb-true (n .«bodega_conf» .count) 64 (u .0);
+      start-low = leb-true (n .«start_slot» .0) 281474976710655 (v .0);
+      start-exec = leb-true (n .«start_slot» .0) (n .«exec_bar» .0) (w .0);
+      exec-commit = leb-true (n .«exec_bar» .0) (n .«commit_bar» .0) (x .0);
+      window = leb-true (n .slots) 32 (y .0);
+      commit-end = leb-true (n .«commit_bar» .0) (n .«start_slot» .0 + n .slots) (y .1);
+    }
+
+-- and the other way
+pub made-ready : (n : Node) (m : List ℕ) → Ready n m → ready n m ≡ true
+unfolding ready
+made-ready n m r =
+    simp (
+      le-leb 10305 (length m) (r .long),
+      lt-ltb 0 (n .quorum) (r .quorate),
+      le-leb (n .quorum) (n .population) (r .enough),
+      le-leb (n .population) 64 (r .few),
+      lt-ltb (n .id .0) (n .population) (r .own),
+      le-leb (n .«bodega_conf» .count) 64 (r .ranges),
+      le-leb (n .«start_slot» .0) 281474976710655 (r .start-low),
+      le-leb (n .«start_slot» .0) (n .«exec_bar» .0) (r .start-exec),
+      le-leb (n .«exec_bar» .0) (n .«commit_bar» .0) (r .exec-commit),
+      le-leb (n .slots) 32 (r .window),
+      le-leb (n .«commit_bar» .0) (n .«start_slot» .0 + n .slots) (r .commit-end),
+    )
+
 -- ---- what is due
 
 module _ (c : machine.Call) (n : Node) (m area : List ℕ) (t : Bool) (e : t ≡ ready n m) where
@@ -91,53 +155,100 @@ module _ (c : machine.Call) (n : Node) (m area : List ℕ) (t : Bool) (e : t ≡
     unfolding due step
     refused k g = rw (sym e ∙ not-false t f, g) (record { number = refl; count = refl; sameNode = refl; sameMem = refl; sameArea = refl })
 
-    -- a call without items
-    pub taken : (r : machine.Replica) (d : Node) (m′ : List ℕ) → turnedAway (view n m) c (places area) ≡ none → effect (view n m) c ≡ machine.done r [] → view d m′ ≡ r
-        → length m′ ≡ length m → ready d m′ ≡ true → Answers ready view c n m area (record { number = 0; count = 0; node = d }) m′ area
-    unfolding due step encode
-    taken r d m′ g k v l w =
-        rw (sym e ∙ not-false t f, g, k) (record { number = refl; count = refl; next = v; items = refl; size = l; readyAgain = w })
+-- ---- grounds by number
+
+abbrev Positive : List Ground → Type 0
+Positive [] = Unit {0}
+Positive (g ∷ gs) = (0 < g .number) × Positive gs
+
+positive : (r : machine.Replica) (c : machine.Call) → Positive (grounds r c)
+unfolding grounds
+positive r (machine.Heartbeat peer ballot conf commit exec snap) = (omega arith, (omega arith, (omega arith, (omega arith, (omega arith, tt)))))
+positive r (machine.Guard peer number bar) = (omega arith, (omega arith, (omega arith, tt)))
+positive r (machine.Prepared ballot) = (omega arith, tt)
+positive r (machine.Record slot ballot reqs) = (omega arith, (omega arith, (omega arith, (omega arith, (omega arith, (omega arith, (omega arith, tt)))))))
+positive r (machine.Reply peer slot ballot) = (omega arith, (omega arith, (omega arith, tt)))
+positive r (machine.Notice peer slot ballot) = (omega arith, (omega arith, (omega arith, tt)))
+positive r (machine.CommitNotice peer ballot bar) = (omega arith, (omega arith, tt))
+positive r (machine.Bars start accept commit exec) = (omega arith, (omega arith, tt))
+positive r (machine.Read leases q) = (omega arith, (omega arith, tt))
+positive r (machine.Release slot) = (omega arith, (omega arith, tt))
+
+some-lowest : (gs hs : List Ground) → (lowest gs ≡ 0 → ⊥) → refusal (gs ++ hs) ≡ some (lowest gs)
+some-lowest [] hs h = absurd (h refl)
+some-lowest (g ∷ gs) hs h = go (g .applies) refl (some-lowest gs hs)
+  where
+    go : (b : Bool) → g .applies ≡ b → ((lowest gs ≡ 0 → ⊥) → refusal (gs ++ hs) ≡ some (lowest gs)) → refusal (g ∷ (gs ++ hs)) ≡ some (lowest (g ∷ gs))
+    go true f ih = rw f
+    go false f ih = rw f (ih (λ z. h (rw f z)))
+
+no-lowest : (gs : List Ground) → Positive gs → lowest gs ≡ 0 → NoneApply gs
+no-lowest [] p h = tt
+no-lowest (g ∷ gs) p h = go (g .applies) refl (no-lowest gs (p .1))
+  where
+    go : (b : Bool) → g .applies ≡ b → (lowest gs ≡ 0 → NoneApply gs) → (g .applies ≡ false) × NoneApply gs
+    go true f ih = let z : g .number ≡ 0 = rw f at h in absurd (omega (arith, z, p .0))
+    go false f ih = (f, ih (rw f at h))
+
+none-refuse : (gs hs : List Ground) → NoneApply gs → refusal (gs ++ hs) ≡ refusal hs
+none-refuse [] hs n = refl
+none-refuse (g ∷ gs) hs n = rw (n .0) (none-refuse gs hs (n .1))
+
+module _ (c : machine.Call) (n : Node) (m : List ℕ) where
+  -- where the code found no ground, none applies
+  pub none-applies : (k : ℕ) → k ≡ lowest (grounds (view n m) c) → k ≡ 0 → NoneApply (grounds (view n m) c)
+  none-applies k g z = no-lowest (grounds (view n m) c) (positive (view n m) c) (sym g ∙ z)
+
+  module _ (area : List ℕ) (t : Bool) (e : t ≡ ready n m) (f : not t ≡ false) (k : ℕ) (g : k ≡ lowest (grounds (view n m) c)) where
+    pub refused-by : (k ≡ 0 → ⊥) → Answers ready view c n m area (record { number = k; count = 0; node = n }) m area
+    unfolding turnedAway
+    refused-by h =
+        refused c n m area t e f k
+        (some-lowest (grounds (view n m) c) (20 when ltb (places area) (length (effect (view n m) c .items)) or []) (λ z. h (g ∙ z)) ∙ ap some (sym g))
+
+    module _ (z : k ≡ 0) where
+      last-ground : turnedAway (view n m) c (places area) ≡ (if ltb (places area) (length (effect (view n m) c .items)) then some 20 else none)
+      unfolding turnedAway
+      last-ground = none-refuse (grounds (view n m) c) (20 when ltb (places area) (length (effect (view n m) c .items)) or []) (none-applies k g z)
+
+      pub few-places : places area < length (effect (view n m) c .items) → Answers ready view c n m area (record { number = 20; count = 0; node = n }) m area
+      few-places h = refused c n m area t e f 20 (last-ground ∙ ap (λ (x : Bool). if x then some 20 else none) (lt-ltb (places area) (length (effect (view n m) c .items)) h))
+
+      pub taken-with : (r : machine.Replica) (l : List Item) (d : Node) (m′ area′ : List ℕ) → effect (view n m) c ≡ machine.done r l → length l ≤ places area → view d m′ ≡ r
+          → area′ ≡ writes area 0 (encode l) → length m′ ≡ length m → ready d m′ ≡ true
+          → Answers ready view c n m area (record { number = 0; count = length l; node = d }) m′ area′
+      unfolding due step
+      taken-with r l d m′ area′ x p v w s y =
+          rw (sym e ∙ not-false t f, last-ground, x, le-ltb (places area) (length l) p) (record { number = refl; count = refl; next = v; items = w; size = s; readyAgain = y })
+
+      -- a call without items
+      pub taken-by : (r : machine.Replica) (d : Node) (m′ : List ℕ) → effect (view n m) c ≡ machine.done r [] → view d m′ ≡ r → length m′ ≡ length m → ready d m′ ≡ true
+          → Answers ready view c n m area (record { number = 0; count = 0; node = d }) m′ area
+      unfolding encode
+      taken-by r d m′ x v s y = taken-with r [] d m′ area x (omega arith) v refl s y
 
 -- ---- prepared
 
-ground : Bool → Bool → Bool → Bool
-ground l z s = not l || z || not s
-
-no-ground : (l z s : Bool) → l && (not z && s) ≡ true → ground l z s ≡ false
-unfolding ground
-no-ground true true s e = let q : _≡_ {A = ℕ} 0 1 = cc in absurd (omega arith)
-no-ground true false true e = refl
-no-ground true false false e = let q : _≡_ {A = ℕ} 0 1 = cc in absurd (omega arith)
-no-ground false z s e = let q : _≡_ {A = ℕ} 0 1 = cc in absurd (omega arith)
-
-a-ground : (l z s : Bool) → l && (not z && s) ≡ false → ground l z s ≡ true
-unfolding ground
-a-ground true true s e = refl
-a-ground true false true e = let q : _≡_ {A = ℕ} 0 1 = cc in absurd (omega arith)
-a-ground true false false e = refl
-a-ground false z s e = refl
+may-or-13 : (l z s : Bool) → (if l && (not z && s) then 0 else 13) ≡ lowest (13 when not l || z || not s or [])
+may-or-13 true true s = refl
+may-or-13 true false true = refl
+may-or-13 true false false = refl
+may-or-13 false z s = refl
 
 module _ (n : Node) (m area : List ℕ) (b : ℕ) (t p : Bool) (e : t ≡ ready n m) (f : not t ≡ false)
     (g : p ≡ mayPrepare (leaderOf (n .«bodega_conf» .leader)) (n .id .0) (n .«bal_prep_sent» .0) b) where
-  turned : Bool → Option ℕ
-  turned x = if x then some 13 else if ltb (places area) 0 then some 20 else none
-
-  turned-is : turnedAway (view n m) (machine.Prepared b) (places area)
-      ≡ turned (ground (leadsIt (leaderOf (n .«bodega_conf» .leader)) (n .id .0)) (eqb b 0) (eqb b (n .«bal_prep_sent» .0)))
-  unfolding turnedAway grounds effect view rosterOf turned ground
-  turned-is = refl
+  number-is : (if p then 0 else 13) ≡ lowest (grounds (view n m) (machine.Prepared b))
+  unfolding grounds view rosterOf
+  number-is =
+      ap (λ (x : Bool). if x then 0 else 13) g ∙ may-or-13 (leadsIt (leaderOf (n .«bodega_conf» .leader)) (n .id .0)) (eqb b 0) (eqb b (n .«bal_prep_sent» .0))
 
   pub prepared-13 : not p ≡ true → Answers ready view (machine.Prepared b) n m area (record { number = 13; count = 0; node = n }) m area
-  unfolding turned
   prepared-13 h =
-      refused (machine.Prepared b) n m area t e f 13
-      (turned-is ∙ ap turned (a-ground (leadsIt (leaderOf (n .«bodega_conf» .leader)) (n .id .0)) (eqb b 0) (eqb b (n .«bal_prep_sent» .0)) (sym g ∙ not-true p h)))
+      refused-by (machine.Prepared b) n m area t e f 13 (sym (ap (λ (x : Bool). if x then 0 else 13) (not-true p h)) ∙ number-is) (λ z. absurd (omega arith))
 
   pub prepared-taken : (d : Node) → not p ≡ false → view d m ≡ prepared (view n m) b → ready d m ≡ ready n m
       → Answers ready view (machine.Prepared b) n m area (record { number = 0; count = 0; node = d }) m area
-  unfolding turned effect
+  unfolding effect
   prepared-taken d h v w =
-      taken (machine.Prepared b) n m area t e f (prepared (view n m) b) d m
-      (turned-is ∙ ap turned (no-ground (leadsIt (leaderOf (n .«bodega_conf» .leader)) (n .id .0)) (eqb b 0) (eqb b (n .«bal_prep_sent» .0)) (sym g ∙ not-false p h))
-      ∙ ap (λ (x : Bool). if x then some 20 else none) (le-ltb (places area) 0 (omega arith)))
+      taken-by (machine.Prepared b) n m area t e f 0 (sym (ap (λ (x : Bool). if x then 0 else 13) (not-false p h)) ∙ number-is) refl (prepared (view n m) b) d m
       refl v refl (w ∙ sym e ∙ not-false t f)

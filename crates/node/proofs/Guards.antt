@@ -3,30 +3,24 @@ use mathlib.Core.Path.{_≡_, refl, sym, ap, _∙_}
 use mathlib.Core.Logic.{_≢_}
 use mathlib.Core.Bool.{Bool, true, false, not}
 use mathlib.Core.List.{List, _∷_, map}
-use mathlib.Core.Option.{Option, none, some}
 use Prim.Native.Nat.{ℕ, zero, suc, _+_, _-_, _≤_, _<_}
 use native.Mathlib.Nat.{zero-add}
 use native.Mathlib.Numerals.{add-one}
 use native.Mathlib.Omega.{arith}
-use lib.Dec.{ltb, leb, eqb}
+use lib.Dec.{ltb}
 use lib.ListN.{length, getD, set, take, drop, length-set}
 use lib.Seq.{getD-set-same, getD-set-other, take-suc-set, getD-take, getD-drop, drop-set-lt}
-use borrow.Author.Tests.{le-ltb, eq-eqb, ne-eqb, ltb-true, leb-true, leb-false, not-true, not-false}
-use Rattle.words.specs.Choice.{if_then_else_}
+use borrow.Author.Tests.{le-ltb, eq-eqb, ne-eqb, leb-false, not-true, not-false}
 use Rattle.words.specs.Tab.{tab, getD-tab, tab-set, tab-ext, tab-snoc}
-use Rattle.words.specs.Part.{part}
-use Rattle.ids.specs.Limits.{top}
-use Rattle.items.specs.Item.{places}
-use Rattle.responders.specs.Edits.{view as rosterOf}
+use Rattle.words.specs.Part.{part, getD-part}
 use Rattle.rank.specs.Sort.{sort}
 use Rattle.bodega.specs.Replica.{Pair, pair, freshPair, Guard, withPeerAccept}
 use Rattle.bodega.specs.Conflease.{newer, counted, guardAcceptBar, updatePeerAcceptMax}
 use Rattle.bodega.specs.Grounds.{grounds}
-use Rattle.bodega.specs.Step.{effect, turnedAway}
+use Rattle.bodega.specs.Step.{effect}
 use Rattle.bodega.specs.Answers.{Answers}
-use Rattle.node.proofs.Laws.{and-both}
-use Rattle.node.proofs.Calls.{refused, taken}
-use Rattle.node.specs.View.{size, view, inRange, ready, pairsOf, guardRefusal}
+use Rattle.node.proofs.Calls.{Ready, is-ready, refused-by, taken-by, none-applies}
+use Rattle.node.specs.View.{view, ready, pairsOf, guardRefusal}
 use Rattle.node.specs.declared.Node.{Node}
 
 -- ---- the tests
@@ -46,10 +40,6 @@ map-tab : {A B : Type 0} (f : A → B) (g : ℕ → A) (i n : ℕ) → map f (ta
 map-tab f g i zero = refl
 map-tab {B = B} f g i (suc n) = ap (λ (l : List B). f (g i) ∷ l) (map-tab f g (i + 1) n)
 
-getD-part : (m : List ℕ) (a n i : ℕ) → i < n → getD (part m a n) i 0 ≡ getD m (a + i) 0
-unfolding part
-getD-part m a n i h = getD-take n (drop a m) i 0 h ∙ getD-drop a m i 0
-
 at-pair : (m : List ℕ) (j : ℕ) → j < 64 → pair (getD (part m 0 64) j 0) (getD (part m 64 64) j 0) ≡ pair (getD m j 0) (getD m (64 + j) 0)
 at-pair m j g = rw (getD-part m 0 64 j g, getD-part m 64 64 j g, zero-add j)
 
@@ -61,46 +51,6 @@ unfolding pairsOf
 counted-are m ballot n h =
     sym (map-tab (counted ballot) (λ i. pair (getD (part m 0 64) i 0) (getD (part m 64 64) i 0)) 0 n
     ∙ tab-ext (λ i. counted ballot (pair (getD (part m 0 64) i 0) (getD (part m 64 64) i 0))) (barAt m ballot) 0 n (λ j x y. ap (counted ballot) (at-pair m j (omega arith))))
-
--- ---- the grounds
-
-number : Bool → Bool → Bool → ℕ
-number a b c = if a then 3 else if b then 8 else if c then 10 else 0
-
-turned : Bool → Bool → Bool → Option ℕ → Option ℕ
-turned a b c o = if a then some 3 else if b then some 8 else if c then some 10 else o
-
-some-ground : (a b c : Bool) (o : Option ℕ) → (number a b c ≡ 0 → ⊥) → turned a b c o ≡ some (number a b c)
-unfolding number turned
-some-ground true b c o h = refl
-some-ground false true c o h = refl
-some-ground false false true o h = refl
-some-ground false false false o h = absurd (h refl)
-
-no-ground : (a b c : Bool) (o : Option ℕ) → number a b c ≡ 0 → (a ≡ false) × (turned a b c o ≡ o)
-unfolding number turned
-no-ground true b c o h = absurd (omega arith)
-no-ground false true c o h = absurd (omega arith)
-no-ground false false true o h = absurd (omega arith)
-no-ground false false false o h = (refl, refl)
-
--- ---- what is known of a ready node
-
-pub record Ready (n : Node) (m : List ℕ) : Type 0 where
-  pub long : 10305 ≤ length m
-  pub quorate : 0 < n .quorum
-  pub enough : n .quorum ≤ n .population
-  pub few : n .population ≤ 64
-
-pub is-ready : (n : Node) (m : List ℕ) (t : Bool) → t ≡ ready n m → not t ≡ false → Ready n m
-unfolding ready
-is-ready n m t e f =
-    let r = and-both (leb size (length m)) _ (sym e ∙ not-false t f) in
-    let i = and-both (inRange (n .id .0) (n .population) (n .quorum)) _ (r .1) .0 in
-    let a = and-both (ltb 0 (n .quorum)) _ i in
-    let b = and-both (leb (n .quorum) (n .population)) _ (a .1) in
-    let c = and-both (leb (n .population) 64) _ (b .1) in
-    record { long = leb-true 10305 (length m) (r .0); quorate = ltb-true 0 (n .quorum) (a .0); enough = leb-true (n .quorum) (n .population) (b .0); few = leb-true (n .population) 64 (c .0) }
 
 -- ---- the pair altered
 
@@ -143,32 +93,14 @@ module _ (m : List ℕ) (peer num bar n : ℕ) (h : 10305 ≤ length m) (p : pee
 
 module _ (n : Node) (m area : List ℕ) (peer num bar : ℕ) (t : Bool) (e : t ≡ ready n m) (f : not t ≡ false)
     (k : ℕ) (g : k ≡ guardRefusal (n .population) (n .id .0) peer bar) where
-  rest : Option ℕ
-  rest = if ltb (places area) 0 then some 20 else none
-
-  turned-is : turnedAway (view n m) (Guard peer num bar) (places area) ≡ turned (leb (n .population) peer) (ltb top bar) (eqb peer (n .id .0)) rest
-  unfolding turnedAway grounds effect view rosterOf turned rest
-  turned-is = refl
-
-  number-is : number (leb (n .population) peer) (ltb top bar) (eqb peer (n .id .0)) ≡ k
-  unfolding number
-  number-is = sym g
-
   pub guard-refused : (k ≡ 0 → ⊥) → Answers ready view (Guard peer num bar) n m area (record { number = k; count = 0; node = n }) m area
-  guard-refused h =
-      refused (Guard peer num bar) n m area t e f k
-      (turned-is ∙ some-ground (leb (n .population) peer) (ltb top bar) (eqb peer (n .id .0)) rest (λ z. h (sym number-is ∙ z)) ∙ ap some number-is)
+  unfolding grounds view
+  guard-refused h = refused-by (Guard peer num bar) n m area t e f k g h
 
   module _ (z : k ≡ 0) where
-    known : (leb (n .population) peer ≡ false) × (turned (leb (n .population) peer) (ltb top bar) (eqb peer (n .id .0)) rest ≡ rest)
-    known = no-ground (leb (n .population) peer) (ltb top bar) (eqb peer (n .id .0)) rest (number-is ∙ z)
-
     pub below : peer < n .population
-    below = leb-false (n .population) peer (known .0)
-
-    allowed : turnedAway (view n m) (Guard peer num bar) (places area) ≡ none
-    unfolding rest
-    allowed = turned-is ∙ known .1 ∙ ap (λ (x : Bool). if x then some 20 else none) (le-ltb (places area) 0 (omega arith))
+    unfolding grounds view
+    below = leb-false (n .population) peer (none-applies (Guard peer num bar) n m k g z .0)
 
     r : Ready n m
     r = is-ready n m t e f
@@ -178,9 +110,9 @@ module _ (n : Node) (m area : List ℕ) (peer num bar : ℕ) (t : Bool) (e : t �
       old = old-is m peer num bar (n .population) (r .long) below (r .few)
 
       pub guard-same : not u ≡ true → Answers ready view (Guard peer num bar) n m area (record { number = 0; count = 0; node = n }) m area
-      unfolding effect guardAcceptBar view
+      unfolding effect guardAcceptBar view grounds
       guard-same h =
-          taken (Guard peer num bar) n m area t e f (guardAcceptBar (view n m) peer num bar) n m allowed refl
+          taken-by (Guard peer num bar) n m area t e f k g z (guardAcceptBar (view n m) peer num bar) n m refl
           (sym (rw (old, sym w ∙ not-true u h))) refl (sym e ∙ not-false t f)
 
       module _ (h : not u ≡ false) where
@@ -203,7 +135,7 @@ module _ (n : Node) (m area : List ℕ) (peer num bar : ℕ) (t : Bool) (e : t �
             → withPeerAccept (record { bar = pairs′; max = max }) (view n m′) ≡ guardAcceptBar (view n m) peer num bar
         unfolding view guardAcceptBar updatePeerAcceptMax
         next max x =
-            rw (old, sym w ∙ not-false u h, x, pairs, same 128 64 (omega arith), same 192 320 (omega arith), same 512 256 (omega arith), same 768 2848 (omega arith), same 3616 4640 (omega arith), same 8256 2049 (omega arith))
+            rw (old, sym w ∙ not-false u h, x, pairs, same 128 64 (omega arith), same 192 320 (omega arith), same 512 7744 (omega arith), same 8256 2049 (omega arith))
 
         again : ready n m′ ≡ true
         unfolding ready
@@ -212,7 +144,7 @@ module _ (n : Node) (m area : List ℕ) (peer num bar : ℕ) (t : Bool) (e : t �
         pub guard-moved : (d : Node) (max : ℕ) → max ≡ getD (sort (map (counted (n .«bal_max_seen» .0)) pairs′)) (n .quorum - 1) 0
             → view d m′ ≡ withPeerAccept (record { bar = pairs′; max = max }) (view n m′) → ready d m′ ≡ ready n m′
             → Answers ready view (Guard peer num bar) n m area (record { number = 0; count = 0; node = d }) m′ area
-        unfolding effect
+        unfolding effect grounds view
         guard-moved d max x v y =
-            taken (Guard peer num bar) n m area t e f (guardAcceptBar (view n m) peer num bar) d m′ allowed refl
+            taken-by (Guard peer num bar) n m area t e f k g z (guardAcceptBar (view n m) peer num bar) d m′ refl
             (v ∙ next max x) size-stays (y ∙ again)

@@ -9,11 +9,12 @@ use lib.Dec.{ltb, leb}
 use lib.ListN.{length, getD, set, take, drop, replicate, getD-replicate}
 use lib.Seq.{drop-set-add, take-set-le, take-set-lt, getD-take, getD-drop, getD-set-other, take-suc-set, take-length, length-take-le}
 use borrow.Author.Tests.{lt-ltb, le-ltb, le-leb, lt-leb, leb-true, not-true, not-false}
-use Rattle.words.specs.Part.{part, splice, part-here, part-before, part-after, length-splice, length-part}
+use Rattle.words.specs.Part.{part, splice, part-here, part-before, part-after, length-splice, length-part, part-set-above, part-set-first}
 use Rattle.words.specs.Counted.{counted, counted-clear}
 use Rattle.ids.specs.Limits.{keys}
 use Rattle.written.specs.Written.{highestAt, writtenOf}
-use Rattle.node.specs.View.{size, view, inRange, ready, pairsOf, instsOf}
+use Rattle.node.specs.View.{size, view, inRange, ready, pairsOf}
+use Rattle.slots.specs.Slots.{instsOf}
 use Rattle.node.specs.Begins.{Reset, Gives}
 use Rattle.node.specs.declared.Node.{Node}
 use Rattle.node.specs.declared.Fresh.the-variants.{Made, Refused}
@@ -59,21 +60,6 @@ fill-end l i n v f g k e =
     let z : i ≡ length l = omega arith in
     sym (take-length l) ∙ ap (λ (j : ℕ). take j l) (sym z) ∙ e ∙ ap (λ (j : ℕ). replicate j v) (z ∙ k)
 
--- ---- a word stored past a part, and in the first place of one
-
-store-after : (m : List ℕ) (a n v j : ℕ) → a + n ≤ j → part (set m j v) a n ≡ part m a n
-unfolding part
-store-after m a n v j h =
-    let e : j ≡ a + (j - a) = omega arith in
-    let l : n ≤ j - a = omega arith in
-    rw e (rw (drop-set-add a m (j - a) v, take-set-le n (drop a m) (j - a) v l))
-
-store-first : (m : List ℕ) (a n v : ℕ) → 0 < n → part (set m a v) a n ≡ set (part m a n) 0 v
-unfolding part
-store-first m a n v h =
-    let e : a ≡ a + 0 = omega arith in
-    ap (λ (k : ℕ). take n (drop a (set m k v))) e ∙ rw (drop-set-add a m 0 v, take-set-lt n (drop a m) 0 v h)
-
 word-at : (m : List ℕ) (j : ℕ) → getD (part m j 1) 0 0 ≡ getD m j 0
 unfolding part
 word-at m j = let e : j + 0 ≡ j = omega arith in getD-take 1 (drop j m) 0 0 (omega arith) ∙ getD-drop j m 0 0 ∙ ap (λ (k : ℕ). getD m k 0) e
@@ -104,21 +90,21 @@ module _ (m x y z : List ℕ) (h : 10305 ≤ length m) (lx : length x ≡ 64) (l
 
   first : part m₄ 0 64 ≡ x
   first =
-      store-after m₃ 0 64 0 8256 (omega arith) ∙ part-before m₂ 128 64 z (rw l₂ (omega arith)) lz 0 64 (omega arith)
+      part-set-above m₃ 0 64 0 8256 (omega arith) ∙ part-before m₂ 128 64 z (rw l₂ (omega arith)) lz 0 64 (omega arith)
       ∙ part-before m₁ 64 64 y (rw l₁ (omega arith)) ly 0 64 (omega arith) ∙ part-here m 0 64 x (omega arith) lx
 
   second : part m₄ 64 64 ≡ y
   second =
-      store-after m₃ 64 64 0 8256 (omega arith) ∙ part-before m₂ 128 64 z (rw l₂ (omega arith)) lz 64 64 (omega arith)
+      part-set-above m₃ 64 64 0 8256 (omega arith) ∙ part-before m₂ 128 64 z (rw l₂ (omega arith)) lz 64 64 (omega arith)
       ∙ part-here m₁ 64 64 y (rw l₁ (omega arith)) ly
 
   third : part m₄ 128 64 ≡ z
-  third = store-after m₃ 128 64 0 8256 (omega arith) ∙ part-here m₂ 128 64 z (rw l₂ (omega arith)) lz
+  third = part-set-above m₃ 128 64 0 8256 (omega arith) ∙ part-here m₂ 128 64 z (rw l₂ (omega arith)) lz
 
   keys-none : writtenOf (part m₄ 8256 2049) ≡ []
   unfolding writtenOf
   keys-none =
-      ap (counted highestAt 8 keys) (store-first m₃ 8256 2049 0 (omega arith))
+      ap (counted highestAt 8 keys) (part-set-first m₃ 8256 2049 0 (omega arith))
       ∙ counted-clear highestAt 8 keys (part m₃ 8256 2049) (rw (length-part m₃ 8256 2049 (rw length-filled (omega arith))) (omega arith))
 
   rest : (j : ℕ) → 10305 ≤ j → getD m₄ j 0 ≡ getD m j 0

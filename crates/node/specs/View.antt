@@ -1,9 +1,9 @@
 -- The replica that a node and its lent buffer stand for, on any words. The buffer: 64 words of guard numbers, 64 of guard bars, 64 of peers' exec bars, 320 of the
--- roster's rows, 32 cells of 8, 32 batches of 89, 32 rows of 145 for held reads, and 2,049 for the written keys. Assumes nothing: these are definitions.
+-- roster's rows, 7,744 of the slots, and 2,049 of the written keys. Assumes nothing: these are definitions.
 use mathlib.Core.Bool.{Bool, false, _&&_, not}
-use mathlib.Core.List.{List}
-use mathlib.Core.Option.{Option, none, some}
-use Prim.Native.Nat.{ℕ, _+_, _*_, _%_}
+use mathlib.Core.List.{List, [], _∷_}
+use mathlib.Core.Option.{Option}
+use Prim.Native.Nat.{ℕ, _+_}
 use lib.Dec.{ltb, leb, eqb}
 use lib.ListN.{length, getD}
 use Rattle.words.specs.Choice.{if_then_else_, ifNone_then_else_}
@@ -11,36 +11,16 @@ use Rattle.words.specs.Tab.{tab, run}
 use Rattle.words.specs.Part.{part}
 use Rattle.ids.specs.Limits.{window, ranges, replicas, top}
 use Rattle.responders.specs.Edits.{view as rosterOf}
+use Rattle.responders.specs.Ground.{Ground, _when_or_}
 use Rattle.bodega.specs.Replica as machine
 use Rattle.bodega.specs.Answers.{Given}
-use Rattle.cells.specs.Cell.{Notices, cellAt}
-use Rattle.batch.specs.Batch.{requestsOf}
-use Rattle.held.specs.Held.{readsOf}
+use Rattle.slots.specs.Slots.{instsOf}
 use Rattle.written.specs.Written.{writtenOf}
 use Rattle.node.specs.declared.Node.{Node}
 use Rattle.node.specs.declared.Answered.{Answered}
 
 abbrev pub size : ℕ
 size = 10305
-
--- ---- slots: slot s has cell s % 32
-
-abbrev pub bookOf : Option Notices → List machine.ReadReq → Option machine.Book
-bookOf o l = ifNone o then none else λ b. some (record { bal = b .bal; notices = b .notices; holding = l })
-
-unfoldable pub instAt : List ℕ → List ℕ → List ℕ → ℕ → machine.Instance
-instAt cells batches holds c =
-    let x = cellAt cells (c * 8) in
-    record {
-      bal = x .bal;
-      status = x .status;
-      reqs = requestsOf (part batches (c * 89) 89);
-      leaderBk = x .leaderBk;
-      replicaBk = bookOf (x .replicaBk) (readsOf (part holds (c * 145) 145));
-    }
-
-unfoldable pub instsOf : ℕ → ℕ → List ℕ → List ℕ → List ℕ → List machine.Instance
-instsOf start n cells batches holds = tab (λ i. instAt cells batches holds ((start + i) % 32)) 0 n
 
 unfoldable pub pairsOf : ℕ → List ℕ → List ℕ → List machine.Pair
 pairsOf n nums bars = tab (λ i. machine.pair (getD nums i 0) (getD bars i 0)) 0 n
@@ -56,7 +36,7 @@ view n m =
       peerAccept = record { bar = pairsOf (n .population) (part m 0 64) (part m 64 64); max = n .«peer_accept_max» .0 };
       peerExecBar = run (n .population) (part m 128 64) 0;
       conf = rosterOf (n .«bodega_conf») (part m 192 320);
-      insts = instsOf (n .«start_slot» .0) (n .slots) (part m 512 256) (part m 768 2848) (part m 3616 4640);
+      insts = instsOf (n .«start_slot» .0) (n .slots) (part m 512 7744);
       highestSlot = writtenOf (part m 8256 2049);
     }
 
@@ -83,9 +63,13 @@ givenOf r = record { number = r .number; count = r .count; node = r .node }
 
 -- ---- what the code tests
 
--- the ground of a guard that applies, 0 where none does
+-- the number of the first ground that applies, 0 where none does
+abbrev pub lowest : List Ground → ℕ
+lowest [] = 0
+lowest (g ∷ gs) = if g .applies then g .number else lowest gs
+
 abbrev pub guardRefusal : ℕ → ℕ → ℕ → ℕ → ℕ
-guardRefusal population id peer bar = if leb population peer then 3 else if ltb top bar then 8 else if eqb peer id then 10 else 0
+guardRefusal population id peer bar = lowest (3 when leb population peer or 8 when ltb top bar or 10 when eqb peer id or [])
 
 abbrev pub leadsIt : Option ℕ → ℕ → Bool
 leadsIt o id = ifNone o then false else λ l. eqb l id

@@ -113,7 +113,7 @@ fn is_sound(
 }
 
 // Whether a call can have made the node, and the buffer is long enough.
-fn is_ready(node: Node, mem: &[u64]) -> bool
+pub fn is_ready(node: Node, mem: &[u64]) -> bool
     ensures { λ r. ⌜ r ≡ ready node (now (mem .entry)) ⌝ }
 {
     is_sound(
@@ -181,7 +181,8 @@ fn accept_max(mem: &[u64], population: u8, quorum: u8, ballot: u64) -> u64
     rank::kth(&b[0..n], quorum as usize)
 }
 
-fn leads(leader: Leader, id: Replica) -> bool
+// `is_leader`.
+pub fn leads(leader: Leader, id: Replica) -> bool
     ensures { λ r. ⌜ r ≡ leadsIt (leaderOf leader) (id .0) ⌝ }
 {
     let Leader::Some(l) = leader else {

@@ -8,6 +8,7 @@ use native.Mathlib.Numerals.{add-one}
 use native.Mathlib.Omega.{arith}
 use lib.ListN.{length, getD, set, take, length-set}
 use lib.Seq.{getD-set-same, getD-set-other, take-suc, length-take-le, ext-getD}
+use Rattle.words.specs.Part.{part, part-set-below}
 use Rattle.words.specs.Tab.{tab, run, tab-ext, length-tab, getD-tab}
 
 -- vs stored element by element from index at
@@ -70,3 +71,14 @@ writes-append s at [] ys = rw add-zero
 writes-append s at (x ∷ xs) ys =
     let e : at + suc (length xs) ≡ at + 1 + length xs = omega arith in
     rw e (writes-append (set s at x) (at + 1) xs ys)
+
+-- a part above the run
+pub part-writes : (s : List ℕ) (at : ℕ) (vs : List ℕ) (a n : ℕ) → at + length vs ≤ a → part (writes s at vs) a n ≡ part s a n
+part-writes s at [] a n h = refl
+part-writes s at (v ∷ vs) a n h = part-writes (set s at v) (at + 1) vs a n (omega arith) ∙ part-set-below s a n v at (omega arith)
+
+-- as many as there are
+pub writes-all : (s vs : List ℕ) → length s ≡ length vs → writes s 0 vs ≡ vs
+writes-all s vs h =
+    ext-getD 0 (writes s 0 vs) vs (length-writes s 0 vs ∙ h)
+    (λ k b. let l : k < length vs = omega (arith, length-writes s 0 vs) in let z : k ≡ 0 + k = omega arith in ap (λ (j : ℕ). getD (writes s 0 vs) j 0) z ∙ writes-same s 0 vs k (omega arith) l)

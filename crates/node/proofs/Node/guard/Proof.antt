@@ -1,5 +1,5 @@
 use Rattle.node.proofs.Guards as law
-use Rattle.node.proofs.Calls.{gives-2}
+use Rattle.node.proofs.Calls as calls
 use native.Mathlib.Omega.{arith}
 use mathlib.Core.Path.{refl}
 use lib.ListN.{length-set}
@@ -16,7 +16,7 @@ same-length : tie.Need-same-length
 same-length c = search needs
 
 returns : tie.Need-returns
-returns c = let a = c .before .before .before .before .before .args in gives-2 (Guard (a .peer .0) (a .number .0) (a .bar .0)) (a .self) (a .mem .now) (a .area .now) _ (c .before .is-ready .ensures) (c .if1 .taken)
+returns c = let a = c .before .before .before .before .before .args in calls.gives-2 (Guard (a .peer .0) (a .number .0) (a .bar .0)) (a .self) (a .mem .now) (a .area .now) _ (c .before .is-ready .ensures) (c .if1 .taken)
 
 guard-refusal-requires : tie.Need-guard-refusal-requires
 guard-refusal-requires c κs = search needs
@@ -34,7 +34,7 @@ mul-newer : tie.Need-mul-newer
 mul-newer c = search needs
 
 slice-read-newer : tie.Need-slice-read-newer
-slice-read-newer c = let x = c .before .before in let g = x .before in let a = g .before .before .before .before .before .before .args in omega (arith, law.below (a .self) (a .mem .now) (a .area .now) (a .peer .0) (a .number .0) (a .bar .0) _ (g .before .before .is-ready .ensures) (g .before .if1 .left) _ (g .guard-refusal .ensures) (x .if2 .left), law.is-ready (a .self) (a .mem .now) _ (g .before .before .is-ready .ensures) (g .before .if1 .left))
+slice-read-newer c = let x = c .before .before in let g = x .before in let a = g .before .before .before .before .before .before .args in omega (arith, law.below (a .self) (a .mem .now) (a .area .now) (a .peer .0) (a .number .0) (a .bar .0) _ (g .before .before .is-ready .ensures) (g .before .if1 .left) _ (g .guard-refusal .ensures) (x .if2 .left), calls.is-ready (a .self) (a .mem .now) _ (g .before .before .is-ready .ensures) (g .before .if1 .left))
 
 add-newer : tie.Need-add-newer
 add-newer c = search needs
@@ -43,7 +43,7 @@ mul-newer-2 : tie.Need-mul-newer-2
 mul-newer-2 c = search needs
 
 slice-read-newer-2 : tie.Need-slice-read-newer-2
-slice-read-newer-2 c = let x = c .before .before .before in let g = x .before in let a = g .before .before .before .before .before .before .args in omega (arith, law.below (a .self) (a .mem .now) (a .area .now) (a .peer .0) (a .number .0) (a .bar .0) _ (g .before .before .is-ready .ensures) (g .before .if1 .left) _ (g .guard-refusal .ensures) (x .if2 .left), law.is-ready (a .self) (a .mem .now) _ (g .before .before .is-ready .ensures) (g .before .if1 .left))
+slice-read-newer-2 c = let x = c .before .before .before in let g = x .before in let a = g .before .before .before .before .before .before .args in omega (arith, law.below (a .self) (a .mem .now) (a .area .now) (a .peer .0) (a .number .0) (a .bar .0) _ (g .before .before .is-ready .ensures) (g .before .if1 .left) _ (g .guard-refusal .ensures) (x .if2 .left), calls.is-ready (a .self) (a .mem .now) _ (g .before .before .is-ready .ensures) (g .before .if1 .left))
 
 newer-requires : tie.Need-newer-requires
 newer-requires c κs = search needs
@@ -58,7 +58,7 @@ mul-mem : tie.Need-mul-mem
 mul-mem c = search needs
 
 slice-write-mem : tie.Need-slice-write-mem
-slice-write-mem c = let x = c .before .before .before .before .before in let g = x .before in let a = g .before .before .before .before .before .before .args in omega (arith, law.below (a .self) (a .mem .now) (a .area .now) (a .peer .0) (a .number .0) (a .bar .0) _ (g .before .before .is-ready .ensures) (g .before .if1 .left) _ (g .guard-refusal .ensures) (x .if2 .left), law.is-ready (a .self) (a .mem .now) _ (g .before .before .is-ready .ensures) (g .before .if1 .left))
+slice-write-mem c = let x = c .before .before .before .before .before in let g = x .before in let a = g .before .before .before .before .before .before .args in omega (arith, law.below (a .self) (a .mem .now) (a .area .now) (a .peer .0) (a .number .0) (a .bar .0) _ (g .before .before .is-ready .ensures) (g .before .if1 .left) _ (g .guard-refusal .ensures) (x .if2 .left), calls.is-ready (a .self) (a .mem .now) _ (g .before .before .is-ready .ensures) (g .before .if1 .left))
 
 add-mem : tie.Need-add-mem
 add-mem c = search needs
@@ -67,10 +67,10 @@ mul-mem-2 : tie.Need-mul-mem-2
 mul-mem-2 c = search needs
 
 slice-write-mem-2 : tie.Need-slice-write-mem-2
-slice-write-mem-2 c = let x = c .before .before .before .before .before in let g = x .before in let a = g .before .before .before .before .before .before .args in simp length-set (omega (arith, law.below (a .self) (a .mem .now) (a .area .now) (a .peer .0) (a .number .0) (a .bar .0) _ (g .before .before .is-ready .ensures) (g .before .if1 .left) _ (g .guard-refusal .ensures) (x .if2 .left), law.is-ready (a .self) (a .mem .now) _ (g .before .before .is-ready .ensures) (g .before .if1 .left)))
+slice-write-mem-2 c = let x = c .before .before .before .before .before in let g = x .before in let a = g .before .before .before .before .before .before .args in simp length-set (omega (arith, law.below (a .self) (a .mem .now) (a .area .now) (a .peer .0) (a .number .0) (a .bar .0) _ (g .before .before .is-ready .ensures) (g .before .if1 .left) _ (g .guard-refusal .ensures) (x .if2 .left), calls.is-ready (a .self) (a .mem .now) _ (g .before .before .is-ready .ensures) (g .before .if1 .left)))
 
 accept-max-requires : tie.Need-accept-max-requires
-accept-max-requires c κs = let x = c .before .before .before .before .before .before .before in let g = x .before in let a = g .before .before .before .before .before .before .args in let r = law.is-ready (a .self) (a .mem .now) _ (g .before .before .is-ready .ensures) (g .before .if1 .left) in (r .quorate, r .enough, r .few, simp length-set (r .long))
+accept-max-requires c κs = let x = c .before .before .before .before .before .before .before in let g = x .before in let a = g .before .before .before .before .before .before .args in let r = calls.is-ready (a .self) (a .mem .now) _ (g .before .before .is-ready .ensures) (g .before .if1 .left) in (r .quorate, r .enough, r .few, simp length-set (r .long))
 
 same-length-4 : tie.Need-same-length-4
 same-length-4 c = search needs

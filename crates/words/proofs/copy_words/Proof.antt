@@ -1,12 +1,12 @@
-use Rattle.keyrange.proofs.Laws as law
+use Rattle.words.proofs.Laws as law
 use native.Mathlib.Omega.{arith}
 use borrow.Author.Needs.{needs}
 use mathlib.Core.Path.{_≡_, refl}
 use Prim.Native.Nat.{_-_, _≤_}
 use lib.ListN.{length, take}
 use Rattle.words.specs.Writes.{writes}
-use Rattle.keyrange.proofs.copy_words.Statement.{statement}
-use Rattle.keyrange.proofs.copy_words.Tie as tie
+use Rattle.words.proofs.copy_words.Statement.{statement}
+use Rattle.words.proofs.copy_words.Tie as tie
 
 abbrev Inv-loop : tie.InvT-loop
 Inv-loop to₀ from n i₀ to i = (i ≤ n) × (length to ≡ length to₀) × (to ≡ writes to₀ 0 (take i from))

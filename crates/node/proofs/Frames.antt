@@ -1,0 +1,95 @@
+-- A table's part of the buffer lent and put back: what the node and the buffer stand for then. Assumes nothing.
+use mathlib.Core.Path.{_≡_}
+use mathlib.Core.List.{List}
+use Prim.Native.Nat.{ℕ, _≤_}
+use native.Mathlib.Omega.{arith}
+use lib.ListN.{length}
+use Rattle.words.specs.Tab.{run}
+use Rattle.words.specs.Part.{splice, part-here, part-before, part-after, length-splice}
+use Rattle.bodega.specs.Replica as machine
+use Rattle.responders.specs.Edits.{view as rosterOf}
+use Rattle.slots.specs.Slots.{instsOf}
+use Rattle.written.specs.Written.{writtenOf}
+use Rattle.node.specs.declared.Node.{Node}
+use Rattle.node.specs.View.{view, ready}
+
+module _ (n : Node) (m : List ℕ) (h : 10305 ≤ length m) (s : List ℕ) where
+  module _ (l : length s ≡ 64) where
+    pub execs-back : view n (splice m 128 64 s) ≡ machine.withPeerExecBar (run (n .population) s 0) (view n m)
+    unfolding view
+    execs-back =
+        rw (
+          part-before m 128 64 s (omega arith) l 0 64 (omega arith),
+          part-before m 128 64 s (omega arith) l 64 64 (omega arith),
+          part-here m 128 64 s (omega arith) l,
+          part-after m 128 64 s (omega arith) l 192 320 (omega arith),
+          part-after m 128 64 s (omega arith) l 512 7744 (omega arith),
+          part-after m 128 64 s (omega arith) l 8256 2049 (omega arith),
+        )
+
+    pub execs-size : length (splice m 128 64 s) ≡ length m
+    execs-size = length-splice m 128 64 s (omega arith) l
+
+    pub execs-ready : ready n (splice m 128 64 s) ≡ ready n m
+    unfolding ready
+    execs-ready = rw execs-size
+
+  module _ (l : length s ≡ 320) where
+    pub rows-back : view n (splice m 192 320 s) ≡ machine.withConf (rosterOf (n .«bodega_conf») s) (view n m)
+    unfolding view
+    rows-back =
+        rw (
+          part-before m 192 320 s (omega arith) l 0 64 (omega arith),
+          part-before m 192 320 s (omega arith) l 64 64 (omega arith),
+          part-before m 192 320 s (omega arith) l 128 64 (omega arith),
+          part-here m 192 320 s (omega arith) l,
+          part-after m 192 320 s (omega arith) l 512 7744 (omega arith),
+          part-after m 192 320 s (omega arith) l 8256 2049 (omega arith),
+        )
+
+    pub rows-size : length (splice m 192 320 s) ≡ length m
+    rows-size = length-splice m 192 320 s (omega arith) l
+
+    pub rows-ready : ready n (splice m 192 320 s) ≡ ready n m
+    unfolding ready
+    rows-ready = rw rows-size
+
+  module _ (l : length s ≡ 7744) where
+    pub slots-back : view n (splice m 512 7744 s) ≡ machine.withInsts (instsOf (n .«start_slot» .0) (n .slots) s) (view n m)
+    unfolding view
+    slots-back =
+        rw (
+          part-before m 512 7744 s (omega arith) l 0 64 (omega arith),
+          part-before m 512 7744 s (omega arith) l 64 64 (omega arith),
+          part-before m 512 7744 s (omega arith) l 128 64 (omega arith),
+          part-before m 512 7744 s (omega arith) l 192 320 (omega arith),
+          part-here m 512 7744 s (omega arith) l,
+          part-after m 512 7744 s (omega arith) l 8256 2049 (omega arith),
+        )
+
+    pub slots-size : length (splice m 512 7744 s) ≡ length m
+    slots-size = length-splice m 512 7744 s (omega arith) l
+
+    pub slots-ready : ready n (splice m 512 7744 s) ≡ ready n m
+    unfolding ready
+    slots-ready = rw slots-size
+
+  module _ (l : length s ≡ 2049) where
+    pub written-back : view n (splice m 8256 2049 s) ≡ machine.withHighestSlot (writtenOf s) (view n m)
+    unfolding view
+    written-back =
+        rw (
+          part-before m 8256 2049 s (omega arith) l 0 64 (omega arith),
+          part-before m 8256 2049 s (omega arith) l 64 64 (omega arith),
+          part-before m 8256 2049 s (omega arith) l 128 64 (omega arith),
+          part-before m 8256 2049 s (omega arith) l 192 320 (omega arith),
+          part-before m 8256 2049 s (omega arith) l 512 7744 (omega arith),
+          part-here m 8256 2049 s (omega arith) l,
+        )
+
+    pub written-size : length (splice m 8256 2049 s) ≡ length m
+    written-size = length-splice m 8256 2049 s (omega arith) l
+
+    pub written-ready : ready n (splice m 8256 2049 s) ≡ ready n m
+    unfolding ready
+    written-ready = rw written-size
