@@ -1,14 +1,14 @@
 -- A place's three parts, one of them changed; the slots that a start and a number of them are. Assumes nothing.
 use mathlib.Core.Path.{_≡_, refl, sym, ap, _∙_}
 use mathlib.Core.Logic.{_≢_}
-use mathlib.Core.List.{List, [], _∷_, _++_}
+use mathlib.Core.List.{List, [], _∷_, _++_, append-assoc, append-nil}
 use mathlib.Core.Option.{Option, none, some}
 use Prim.Native.Nat.{ℕ, zero, suc, _+_, _-_, _*_, _%_, _≤_, _<_}
 use native.Mathlib.Nat.{zero-add, not-suc-le-zero}
 use native.Mathlib.Decide.{decLt}
 use native.Mathlib.Numerals.{add-one}
 use native.Mathlib.Omega.{arith}
-use lib.ListN.{length, set, take, drop, getElem?, length-set}
+use lib.ListN.{length, set, take, drop, replicate, getElem?, length-set}
 use lib.Seq.{take-length}
 use Rattle.words.specs.Tab.{tab, tab-ext, tab-set, tab-snoc, tab-shift, drop-tab, elem-tab, elem-past, length-tab}
 use Rattle.words.specs.Part.{part, splice, part-here, part-before, part-after, length-splice, length-part, getD-splice}
@@ -18,7 +18,7 @@ use Rattle.cells.specs.Cell.{Short, cellAt, cellWords}
 use Rattle.cells.proofs.Laws.{cell-same, cell-other, cell-near}
 use Rattle.batch.specs.Batch.{requestsOf}
 use Rattle.held.specs.Held.{readsOf}
-use Rattle.slots.specs.Slots.{slotWords, shortAt, batchAt, readsAt, instOf, instIn, instsOf, SamePlace, Puts}
+use Rattle.slots.specs.Slots.{slotWords, shortAt, batchAt, readsAt, instOf, instIn, instsOf, nullShort, SamePlace, Puts}
 
 -- how long a part is that is lent from a to a + k
 pub width : (a k : ℕ) → a + k - a ≡ k
@@ -134,6 +134,17 @@ puts-then p q =
       size = q .size ∙ p .size;
     }
 
+-- the second changes one of the three
+module _ {s t u : List ℕ} {c : ℕ} {x : Short} {a : List machine.Request} {l : List machine.ReadReq} (p : Puts s c x a l t) where
+  pub short-after : {y : Short} → Puts t c y (batchAt t c) (readsAt t c) u → Puts s c y a l u
+  short-after q = record { short = q .short; batch = q .batch ∙ p .batch; held = q .held ∙ p .held; others = puts-then p q .others; size = q .size ∙ p .size }
+
+  pub batch-after : {b : List machine.Request} → Puts t c (shortAt t c) b (readsAt t c) u → Puts s c x b l u
+  batch-after q = record { short = q .short ∙ p .short; batch = q .batch; held = q .held ∙ p .held; others = puts-then p q .others; size = q .size ∙ p .size }
+
+  pub reads-after : {m : List machine.ReadReq} → Puts t c (shortAt t c) (batchAt t c) m u → Puts s c x a m u
+  reads-after q = record { short = q .short ∙ p .short; batch = q .batch ∙ p .batch; held = q .held; others = puts-then p q .others; size = q .size ∙ p .size }
+
 -- ---- the slots
 
 pub here-is : {s t : List ℕ} {c : ℕ} {x : Short} {a : List machine.Request} {l : List machine.ReadReq} → Puts s c x a l t → instIn t c ≡ instOf x a l
@@ -190,3 +201,27 @@ inst-at start n k s h = elem-tab (λ i. instIn s ((start + i) % 32)) 0 n k h ∙
 pub inst-none : (start n k : ℕ) (s : List ℕ) → n ≤ k → getElem? (instsOf start n s) k ≡ none
 unfolding instsOf
 inst-none start n k s h = elem-past (λ i. instIn s ((start + i) % 32)) 0 n k h
+
+-- ---- null slots after the others
+
+replicate-snoc : {A : Type 0} (n : ℕ) (v : A) → replicate n v ++ (v ∷ []) ≡ replicate (suc n) v
+replicate-snoc zero v = refl
+replicate-snoc {A = A} (suc n) v = ap (λ (l : List A). v ∷ l) (replicate-snoc n v)
+
+pub pad-start : (start n : ℕ) (s : List ℕ) → instsOf start n s ≡ instsOf start n s ++ replicate (n - n) machine.nullInstance
+pad-start start n s =
+    let z : n - n ≡ 0 = omega arith in
+    sym (ap (λ (k : ℕ). instsOf start n s ++ replicate k machine.nullInstance) z ∙ append-nil (instsOf start n s))
+
+pub pad-step : (start n i : ℕ) (s₀ s t : List ℕ) → n ≤ i → i < 32 → Puts s ((start + i) % 32) nullShort [] (readsAt s ((start + i) % 32)) t
+    → instsOf start i s ≡ instsOf start n s₀ ++ replicate (i - n) machine.nullInstance
+    → instsOf start (i + 1) t ≡ instsOf start n s₀ ++ replicate (i + 1 - n) machine.nullInstance
+pad-step start n i s₀ s t h g p e =
+    let z : i + 1 - n ≡ suc (i - n) = omega arith in
+    appended start i p g ∙ ap (λ (l : List machine.Instance). l ++ (machine.nullInstance ∷ [])) e
+    ∙ append-assoc (instsOf start n s₀) (replicate (i - n) machine.nullInstance) (machine.nullInstance ∷ [])
+    ∙ ap (λ (l : List machine.Instance). instsOf start n s₀ ++ l) (replicate-snoc (i - n) machine.nullInstance ∙ ap (λ (k : ℕ). replicate k machine.nullInstance) (sym z))
+
+pub pad-end : (start n i to : ℕ) (s₀ s : List ℕ) → to ≤ i → i ≤ to → instsOf start i s ≡ instsOf start n s₀ ++ replicate (i - n) machine.nullInstance
+    → instsOf start to s ≡ instsOf start n s₀ ++ replicate (to - n) machine.nullInstance
+pad-end start n i to s₀ s h g e = let z : i ≡ to = omega arith in rw z at e

@@ -38,6 +38,10 @@ instOf x reqs reads = record { bal = x .bal; status = x .status; reqs = reqs; le
 unfoldable pub instIn : List ℕ → ℕ → machine.Instance
 instIn s c = instOf (shortAt s c) (batchAt s c) (readsAt s c)
 
+-- the short part of a null slot
+abbrev pub nullShort : Short
+nullShort = record { bal = 0; status = machine.Null; leaderBk = none; replicaBk = none }
+
 -- ---- n slots from start on
 
 unfoldable pub instsOf : ℕ → ℕ → List ℕ → List machine.Instance

@@ -1,12 +1,17 @@
 // The slots that a replica holds, in 7,744 lent words: cells, batches and held reads. Slot s has place s % 32.
 use cells::Cell;
+use cells::LeaderBk;
+use cells::ReplicaBk;
+use cells::Status;
+use ids::Ballot;
 ghost use mathlib.Core.Path.{_≡_};
-ghost use mathlib.Core.List.{[]};
-ghost use Prim.Native.Nat.{_≤_, _<_};
-ghost use lib.ListN.{length};
+ghost use mathlib.Core.List.{[], _++_};
+ghost use Prim.Native.Nat.{_-_, _≤_, _<_};
+ghost use lib.ListN.{length, replicate};
+ghost use Rattle.bodega.specs.Replica.{nullInstance};
 ghost use Rattle.cells.specs.Cell.{cellOf};
 ghost use Rattle.batch.specs.Batch.{requestsOf};
-ghost use Rattle.slots.specs.Slots.{shortAt, batchAt, readsAt, Puts};
+ghost use Rattle.slots.specs.Slots.{shortAt, batchAt, readsAt, instsOf, nullShort, Puts};
 
 // The short part of the slot at place c.
 pub fn load(s: &[u64], c: usize) -> Cell
@@ -49,4 +54,36 @@ pub fn clear_reads(s: &mut [u64], c: usize)
     let a = 3104 + c * 145;
     let e = a + 145;
     held::clear(&mut s[a..e]);
+}
+
+// A null slot at place c; the reads held there are not seen without a notice book.
+fn null_slot(s: &mut [u64], c: usize)
+    requires { ⌜ (c < 32) × (7744 ≤ length (now s)) ⌝ }
+    ensures { λ _. ⌜ Puts (now (s .entry)) c nullShort [] (readsAt (now (s .entry)) c) (now (s .exit)) ⌝ }
+{
+    let bal = Ballot(0);
+    let status = Status::Null;
+    let leader_bk = LeaderBk::None;
+    let replica_bk = ReplicaBk::None;
+    let cell = Cell {
+        bal,
+        status,
+        leader_bk,
+        replica_bk,
+    };
+    store(s, c, cell);
+    clear_batch(s, c);
+}
+
+// Null slots after the n that are held, so that there are `to`.
+pub fn pad(s: &mut [u64], start: u64, n: usize, to: usize)
+    requires { ⌜ (start ≤ 281474976710655) × (n ≤ to) × (to ≤ 32) × (7744 ≤ length (now s)) ⌝ }
+    ensures { λ _. ⌜ (instsOf start to (now (s .exit)) ≡ instsOf start n (now (s .entry)) ++ replicate (to - n) nullInstance) × (length (now (s .exit)) ≡ length (now (s .entry))) ⌝ }
+{
+    let mut i = n;
+    while i < to {
+        let c = ((start + i as u64) % 32) as usize;
+        null_slot(s, c);
+        i += 1;
+    }
 }
