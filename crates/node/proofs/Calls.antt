@@ -15,17 +15,15 @@ use Rattle.ids.specs.declared.Leader.the-variants.{Some}
 use Rattle.ids.specs.declared.Replica.{Replica}
 use Rattle.items.specs.Item.{Item, places, encode}
 use Rattle.words.specs.Writes.{writes}
-use Rattle.responders.specs.Edits.{view as rosterOf}
 use Rattle.responders.specs.Ground.{Ground, _when_or_, refusal}
 use Rattle.responders.proofs.Grounds.{NoneApply}
 use Rattle.bodega.specs.Replica as machine
-use Rattle.bodega.specs.Events.{prepared}
 use Rattle.bodega.specs.Grounds.{grounds}
 use Rattle.bodega.specs.Step.{step, effect, turnedAway}
 use Rattle.bodega.specs.Answers.{due, Answers}
 use Rattle.node.proofs.Laws.{and-both}
 use Rattle.node.specs.declared.Node.{Node}
-use Rattle.node.specs.View.{size, view, inRange, barsInRange, sound, ready, lowest, leadsIt, mayPrepare}
+use Rattle.node.specs.View.{size, view, inRange, barsInRange, sound, ready, lowest, leadsIt}
 
 -- ---- tests
 
@@ -71,17 +69,6 @@ module _ (len id population quorum count start exec commit slots : ℕ) (t : Boo
 
 pub leads-by : (l : Leader) (x id : Replica) → l ≡ Some x → eqb (x .0) (id .0) ≡ leadsIt (leaderOf l) (id .0)
 leads-by l x id e = sym (ap (λ (k : Leader). leadsIt (leaderOf k) (id .0)) e)
-
-module _ (o : Option ℕ) (id sent ballot : ℕ) (t : Bool) (e : t ≡ leadsIt o id) where
-  pub follower : not t ≡ true → false ≡ mayPrepare o id sent ballot
-  follower f = sym (simp (sym e ∙ not-true t f))
-
-  module _ (f : not t ≡ false) where
-    pub ballot-0 : ballot ≡ 0 → false ≡ mayPrepare o id sent ballot
-    ballot-0 g = sym (simp (sym e ∙ not-false t f, eq-eqb ballot 0 g))
-
-    pub ballot-sent : (ballot ≡ 0 → ⊥) → eqb ballot sent ≡ mayPrepare o id sent ballot
-    ballot-sent g = sym (simp (sym e ∙ not-false t f, ne-eqb ballot 0 g))
 
 -- ---- what is known of a ready node
 
@@ -226,29 +213,3 @@ module _ (c : machine.Call) (n : Node) (m : List ℕ) where
           → Answers ready view c n m area (record { number = 0; count = 0; node = d }) m′ area
       unfolding encode
       taken-by r d m′ x v s y = taken-with r [] d m′ area x (omega arith) v refl s y
-
--- ---- prepared
-
-may-or-13 : (l z s : Bool) → (if l && (not z && s) then 0 else 13) ≡ lowest (13 when not l || z || not s or [])
-may-or-13 true true s = refl
-may-or-13 true false true = refl
-may-or-13 true false false = refl
-may-or-13 false z s = refl
-
-module _ (n : Node) (m area : List ℕ) (b : ℕ) (t p : Bool) (e : t ≡ ready n m) (f : not t ≡ false)
-    (g : p ≡ mayPrepare (leaderOf (n .«bodega_conf» .leader)) (n .id .0) (n .«bal_prep_sent» .0) b) where
-  number-is : (if p then 0 else 13) ≡ lowest (grounds (view n m) (machine.Prepared b))
-  unfolding grounds view rosterOf
-  number-is =
-      ap (λ (x : Bool). if x then 0 else 13) g ∙ may-or-13 (leadsIt (leaderOf (n .«bodega_conf» .leader)) (n .id .0)) (eqb b 0) (eqb b (n .«bal_prep_sent» .0))
-
-  pub prepared-13 : not p ≡ true → Answers ready view (machine.Prepared b) n m area (record { number = 13; count = 0; node = n }) m area
-  prepared-13 h =
-      refused-by (machine.Prepared b) n m area t e f 13 (sym (ap (λ (x : Bool). if x then 0 else 13) (not-true p h)) ∙ number-is) (λ z. absurd (omega arith))
-
-  pub prepared-taken : (d : Node) → not p ≡ false → view d m ≡ prepared (view n m) b → ready d m ≡ ready n m
-      → Answers ready view (machine.Prepared b) n m area (record { number = 0; count = 0; node = d }) m area
-  unfolding effect
-  prepared-taken d h v w =
-      taken-by (machine.Prepared b) n m area t e f 0 (sym (ap (λ (x : Bool). if x then 0 else 13) (not-false p h)) ∙ number-is) refl (prepared (view n m) b) d m
-      refl v refl (w ∙ sym e ∙ not-false t f)

@@ -8,19 +8,38 @@ use Rattle.words.specs.Tab.{run}
 use Rattle.words.specs.Part.{splice, part-here, part-before, part-after, length-splice}
 use Rattle.bodega.specs.Replica as machine
 use Rattle.responders.specs.Edits.{view as rosterOf}
+use Rattle.peers.specs.Pairs.{pairsOf}
 use Rattle.slots.specs.Slots.{instsOf}
 use Rattle.written.specs.Written.{writtenOf}
 use Rattle.node.specs.declared.Node.{Node}
 use Rattle.node.specs.View.{view, ready}
 
 module _ (n : Node) (m : List ℕ) (h : 10305 ≤ length m) (s : List ℕ) where
+  module _ (l : length s ≡ 128) where
+    pub pairs-back : view n (splice m 0 128 s) ≡ machine.withPeerAccept (record { bar = pairsOf (n .population) s; max = n .«peer_accept_max» .0 }) (view n m)
+    unfolding view
+    pairs-back =
+        rw (
+          part-here m 0 128 s (omega arith) l,
+          part-after m 0 128 s (omega arith) l 128 64 (omega arith),
+          part-after m 0 128 s (omega arith) l 192 320 (omega arith),
+          part-after m 0 128 s (omega arith) l 512 7744 (omega arith),
+          part-after m 0 128 s (omega arith) l 8256 2049 (omega arith),
+        )
+
+    pub pairs-size : length (splice m 0 128 s) ≡ length m
+    pairs-size = length-splice m 0 128 s (omega arith) l
+
+    pub pairs-ready : ready n (splice m 0 128 s) ≡ ready n m
+    unfolding ready
+    pairs-ready = rw pairs-size
+
   module _ (l : length s ≡ 64) where
     pub execs-back : view n (splice m 128 64 s) ≡ machine.withPeerExecBar (run (n .population) s 0) (view n m)
     unfolding view
     execs-back =
         rw (
-          part-before m 128 64 s (omega arith) l 0 64 (omega arith),
-          part-before m 128 64 s (omega arith) l 64 64 (omega arith),
+          part-before m 128 64 s (omega arith) l 0 128 (omega arith),
           part-here m 128 64 s (omega arith) l,
           part-after m 128 64 s (omega arith) l 192 320 (omega arith),
           part-after m 128 64 s (omega arith) l 512 7744 (omega arith),
@@ -39,8 +58,7 @@ module _ (n : Node) (m : List ℕ) (h : 10305 ≤ length m) (s : List ℕ) where
     unfolding view
     rows-back =
         rw (
-          part-before m 192 320 s (omega arith) l 0 64 (omega arith),
-          part-before m 192 320 s (omega arith) l 64 64 (omega arith),
+          part-before m 192 320 s (omega arith) l 0 128 (omega arith),
           part-before m 192 320 s (omega arith) l 128 64 (omega arith),
           part-here m 192 320 s (omega arith) l,
           part-after m 192 320 s (omega arith) l 512 7744 (omega arith),
@@ -59,8 +77,7 @@ module _ (n : Node) (m : List ℕ) (h : 10305 ≤ length m) (s : List ℕ) where
     unfolding view
     slots-back =
         rw (
-          part-before m 512 7744 s (omega arith) l 0 64 (omega arith),
-          part-before m 512 7744 s (omega arith) l 64 64 (omega arith),
+          part-before m 512 7744 s (omega arith) l 0 128 (omega arith),
           part-before m 512 7744 s (omega arith) l 128 64 (omega arith),
           part-before m 512 7744 s (omega arith) l 192 320 (omega arith),
           part-here m 512 7744 s (omega arith) l,
@@ -79,8 +96,7 @@ module _ (n : Node) (m : List ℕ) (h : 10305 ≤ length m) (s : List ℕ) where
     unfolding view
     written-back =
         rw (
-          part-before m 8256 2049 s (omega arith) l 0 64 (omega arith),
-          part-before m 8256 2049 s (omega arith) l 64 64 (omega arith),
+          part-before m 8256 2049 s (omega arith) l 0 128 (omega arith),
           part-before m 8256 2049 s (omega arith) l 128 64 (omega arith),
           part-before m 8256 2049 s (omega arith) l 192 320 (omega arith),
           part-before m 8256 2049 s (omega arith) l 512 7744 (omega arith),

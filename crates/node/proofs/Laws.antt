@@ -4,16 +4,18 @@ use mathlib.Core.Bool.{Bool, true, false, not, _&&_}
 use mathlib.Core.List.{List, [], _∷_, _++_}
 use Prim.Native.Nat.{ℕ, zero, suc, _+_, _-_, _≤_, _<_}
 use native.Mathlib.Omega.{arith}
+use native.Mathlib.Nat.{zero-add}
 use native.Mathlib.Numerals.{add-one}
 use lib.Dec.{ltb, leb}
 use lib.ListN.{length, getD, set, take, drop, replicate, getD-replicate}
 use lib.Seq.{drop-set-add, take-set-le, take-set-lt, getD-take, getD-drop, getD-set-other, take-suc-set, take-length, length-take-le}
 use borrow.Author.Tests.{lt-ltb, le-ltb, le-leb, lt-leb, leb-true, not-true, not-false}
-use Rattle.words.specs.Part.{part, splice, part-here, part-before, part-after, length-splice, length-part, part-set-above, part-set-first}
+use Rattle.words.specs.Part.{part, splice, part-here, part-before, part-after, length-splice, length-part, part-set-above, part-set-first, getD-part}
 use Rattle.words.specs.Counted.{counted, counted-clear}
 use Rattle.ids.specs.Limits.{keys}
 use Rattle.written.specs.Written.{highestAt, writtenOf}
-use Rattle.node.specs.View.{size, view, inRange, ready, pairsOf}
+use Rattle.node.specs.View.{size, view, inRange, ready}
+use Rattle.peers.specs.Pairs.{pairsOf}
 use Rattle.slots.specs.Slots.{instsOf}
 use Rattle.node.specs.Begins.{Reset, Gives}
 use Rattle.node.specs.declared.Node.{Node}
@@ -159,12 +161,22 @@ tab-const : {A : Type 0} (v : A) (i n : ℕ) → tab (λ j. v) i n ≡ replicate
 tab-const v i zero = refl
 tab-const {A = A} v i (suc n) = ap (λ (l : List A). v ∷ l) (tab-const v (i + 1) n)
 
-fresh-pairs : (n : ℕ) → n ≤ 64 → pairsOf n (replicate 64 0) (replicate 64 18446744073709551615) ≡ replicate n freshPair
-unfolding pairsOf
-fresh-pairs n h =
-    tab-ext (λ i. pair (getD (replicate 64 0) i 0) (getD (replicate 64 18446744073709551615) i 0)) (λ i. freshPair) 0 n
-    (λ j a b. let l : j < 64 = omega arith in rw (getD-replicate {A = ℕ} 64 j 0 0 l, getD-replicate {A = ℕ} 64 j 18446744073709551615 0 l))
-    ∙ tab-const freshPair 0 n
+module _ (s : List ℕ) (a : part s 0 64 ≡ replicate 64 0) (b : part s 64 64 ≡ replicate 64 18446744073709551615) where
+  number-0 : (i : ℕ) → i < 64 → getD (part s 0 128) i 0 ≡ 0
+  number-0 i h =
+      getD-part s 0 128 i (omega arith) ∙ sym (getD-part s 0 64 i h) ∙ ap (λ (l : List ℕ). getD l i 0) a ∙ getD-replicate {A = ℕ} 64 i 0 0 h
+
+  bar-beyond : (i : ℕ) → i < 64 → getD (part s 0 128) (64 + i) 0 ≡ 18446744073709551615
+  bar-beyond i h =
+      getD-part s 0 128 (64 + i) (omega arith) ∙ ap (λ (k : ℕ). getD s k 0) (zero-add (64 + i)) ∙ sym (getD-part s 64 64 i h) ∙ ap (λ (l : List ℕ). getD l i 0) b
+      ∙ getD-replicate {A = ℕ} 64 i 18446744073709551615 0 h
+
+  fresh-pairs : (n : ℕ) → n ≤ 64 → pairsOf n (part s 0 128) ≡ replicate n freshPair
+  unfolding pairsOf
+  fresh-pairs n h =
+      tab-ext (λ i. pair (getD (part s 0 128) i 0) (getD (part s 0 128) (64 + i) 0)) (λ i. freshPair) 0 n
+      (λ j x y. let l : j < 64 = omega arith in rw (number-0 j l, bar-beyond j l))
+      ∙ tab-const freshPair 0 n
 
 fresh-execs : (n : ℕ) → n ≤ 64 → run n (replicate 64 0) 0 ≡ replicate n 0
 fresh-execs n h = tab-ext (λ i. getD (replicate 64 0) i 0) (λ i. 0) 0 n (λ j a b. getD-replicate {A = ℕ} 64 j 0 0 (omega arith)) ∙ tab-const 0 0 n
@@ -191,8 +203,8 @@ module _ (id population quorum : ℕ) (s : List ℕ) (t : Bool) (e : t ≡ leb s
         leb-true population 64 (and-both (leb population 64) (ltb id population) b .0)
 
     module _ (s′ : List ℕ) (r : Reset s s′) (l : length s′ ≡ length s) where
-      pairs : pairsOf population (part s′ 0 64) (part s′ 64 64) ≡ replicate population freshPair
-      pairs = rw (r .nums, r .bars) (fresh-pairs population few)
+      pairs : pairsOf population (part s′ 0 128) ≡ replicate population freshPair
+      pairs = fresh-pairs s′ (r .nums) (r .bars) population few
 
       execs : run population (part s′ 128 64) 0 ≡ replicate population 0
       execs = rw (r .execs) (fresh-execs population few)

@@ -1,19 +1,20 @@
--- The replica that a node and its lent buffer stand for, on any words. The buffer: 64 words of guard numbers, 64 of guard bars, 64 of peers' exec bars, 320 of the
+-- The replica that a node and its lent buffer stand for, on any words. The buffer: 128 words of guard pairs, 64 of peers' exec bars, 320 of the
 -- roster's rows, 7,744 of the slots, and 2,049 of the written keys. Assumes nothing: these are definitions.
-use mathlib.Core.Bool.{Bool, false, _&&_, not}
+use mathlib.Core.Bool.{Bool, false, _&&_}
 use mathlib.Core.List.{List, [], _∷_}
 use mathlib.Core.Option.{Option}
 use Prim.Native.Nat.{ℕ, _+_}
 use lib.Dec.{ltb, leb, eqb}
-use lib.ListN.{length, getD}
+use lib.ListN.{length}
 use Rattle.words.specs.Choice.{if_then_else_, ifNone_then_else_}
-use Rattle.words.specs.Tab.{tab, run}
+use Rattle.words.specs.Tab.{run}
 use Rattle.words.specs.Part.{part}
 use Rattle.ids.specs.Limits.{window, ranges, replicas, top}
 use Rattle.responders.specs.Edits.{view as rosterOf}
-use Rattle.responders.specs.Ground.{Ground, _when_or_}
+use Rattle.responders.specs.Ground.{Ground}
 use Rattle.bodega.specs.Replica as machine
 use Rattle.bodega.specs.Answers.{Given}
+use Rattle.peers.specs.Pairs.{pairsOf}
 use Rattle.slots.specs.Slots.{instsOf}
 use Rattle.written.specs.Written.{writtenOf}
 use Rattle.node.specs.declared.Node.{Node}
@@ -21,9 +22,6 @@ use Rattle.node.specs.declared.Answered.{Answered}
 
 abbrev pub size : ℕ
 size = 10305
-
-unfoldable pub pairsOf : ℕ → List ℕ → List ℕ → List machine.Pair
-pairsOf n nums bars = tab (λ i. machine.pair (getD nums i 0) (getD bars i 0)) 0 n
 
 -- ---- the replica
 
@@ -33,7 +31,7 @@ view n m =
       me = record { id = n .id .0; population = n .population; quorum = n .quorum };
       bal = record { maxSeen = n .«bal_max_seen» .0; prepSent = n .«bal_prep_sent» .0; prepared = n .«bal_prepared» .0 };
       bar = record { start = n .«start_slot» .0; accept = n .«accept_bar» .0; commit = n .«commit_bar» .0; exec = n .«exec_bar» .0; snap = n .«snap_bar» .0 };
-      peerAccept = record { bar = pairsOf (n .population) (part m 0 64) (part m 64 64); max = n .«peer_accept_max» .0 };
+      peerAccept = record { bar = pairsOf (n .population) (part m 0 128); max = n .«peer_accept_max» .0 };
       peerExecBar = run (n .population) (part m 128 64) 0;
       conf = rosterOf (n .«bodega_conf») (part m 192 320);
       insts = instsOf (n .«start_slot» .0) (n .slots) (part m 512 7744);
@@ -68,12 +66,6 @@ abbrev pub lowest : List Ground → ℕ
 lowest [] = 0
 lowest (g ∷ gs) = if g .applies then g .number else lowest gs
 
-abbrev pub guardRefusal : ℕ → ℕ → ℕ → ℕ → ℕ
-guardRefusal population id peer bar = lowest (3 when leb population peer or 8 when ltb top bar or 10 when eqb peer id or [])
-
+-- `is_leader`
 abbrev pub leadsIt : Option ℕ → ℕ → Bool
 leadsIt o id = ifNone o then false else λ l. eqb l id
-
--- *prepared* has no ground 13
-abbrev pub mayPrepare : Option ℕ → ℕ → ℕ → ℕ → Bool
-mayPrepare leader id sent ballot = leadsIt leader id && (not (eqb ballot 0) && eqb ballot sent)

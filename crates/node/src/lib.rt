@@ -6,17 +6,11 @@ use ids::Slot;
 use responders::RespondersConf;
 ghost use mathlib.Core.Path.{_≡_};
 ghost use mathlib.Core.Bool.{_&&_};
-ghost use mathlib.Core.List.{map};
-ghost use Prim.Native.Nat.{_-_, _≤_, _<_};
+ghost use Prim.Native.Nat.{_≤_};
 ghost use lib.Dec.{leb};
-ghost use lib.ListN.{length, getD, replicate};
-ghost use Rattle.node.specs.View.{size, view, pairsOf, inRange, barsInRange, sound, ready, givenOf, guardRefusal, leadsIt, mayPrepare};
+ghost use lib.ListN.{length, replicate};
+ghost use Rattle.node.specs.View.{size, inRange, barsInRange, sound, ready, leadsIt};
 ghost use Rattle.ids.specs.Leader.{leaderOf};
-ghost use Rattle.words.specs.Part.{part};
-ghost use Rattle.rank.specs.Sort.{sort};
-ghost use Rattle.bodega.specs.Replica.{pair, Guard, Prepared};
-ghost use Rattle.bodega.specs.Conflease.{counted, newer as isNewer};
-ghost use Rattle.bodega.specs.Answers.{Answers};
 ghost use Rattle.node.specs.Begins.{Reset, Begins};
 
 pub struct Node {
@@ -129,58 +123,6 @@ pub fn is_ready(node: Node, mem: &[u64]) -> bool
     )
 }
 
-// The number of a guard's refusal, 0 where there is none.
-fn guard_refusal(population: u8, id: Replica, peer: Replica, bar: Slot) -> u64
-    ensures { λ r. ⌜ r ≡ guardRefusal population (id .0) (peer .0) (bar .0) ⌝ }
-{
-    if population <= peer.0 {
-        return 3;
-    }
-    if 0xffff_ffff_ffff < bar.0 {
-        return 8;
-    }
-    if peer.0 == id.0 {
-        return 10;
-    }
-    0
-}
-
-fn newer(was: u64, stood: u64, number: u64, bar: u64) -> bool
-    ensures { λ r. ⌜ r ≡ isNewer (pair was stood) number bar ⌝ }
-{
-    if was < number {
-        return true;
-    }
-    if number != was {
-        return false;
-    }
-    bar < stood
-}
-
-fn counted_bar(ballot: u64, number: u64, bar: u64) -> u64
-    ensures { λ r. ⌜ r ≡ counted ballot (pair number bar) ⌝ }
-{
-    if number == ballot {
-        return bar;
-    }
-    0xffff_ffff_ffff_ffff
-}
-
-// `update_peer_accept_max`: the quorum-th smallest bar, counting only those on the ballot.
-fn accept_max(mem: &[u64], population: u8, quorum: u8, ballot: u64) -> u64
-    requires { ⌜ (0 < quorum) × (quorum ≤ population) × (population ≤ 64) × (10305 ≤ length (now mem)) ⌝ }
-    ensures { λ r. ⌜ r ≡ getD (sort (map (counted ballot) (pairsOf population (part (now (mem .entry)) 0 64) (part (now (mem .entry)) 64 64)))) (quorum - 1) 0 ⌝ }
-{
-    let n = population as usize;
-    let mut b = [0u64; 64];
-    let mut i = 0;
-    while i < n {
-        b[i] = counted_bar(ballot, mem[i], mem[64 + i]);
-        i += 1;
-    }
-    rank::kth(&b[0..n], quorum as usize)
-}
-
 // `is_leader`.
 pub fn leads(leader: Leader, id: Replica) -> bool
     ensures { λ r. ⌜ r ≡ leadsIt (leaderOf leader) (id .0) ⌝ }
@@ -189,18 +131,6 @@ pub fn leads(leader: Leader, id: Replica) -> bool
         return false;
     };
     l.0 == id.0
-}
-
-fn may_prepare(leader: Leader, id: Replica, sent: Ballot, ballot: Ballot) -> bool
-    ensures { λ r. ⌜ r ≡ mayPrepare (leaderOf leader) (id .0) (sent .0) (ballot .0) ⌝ }
-{
-    if !leads(leader, id) {
-        return false;
-    }
-    if ballot.0 == 0 {
-        return false;
-    }
-    ballot.0 == sent.0
 }
 
 fn fill(words: &mut [u64], v: u64)
@@ -263,82 +193,6 @@ impl Node {
             peer_accept_max: beyond,
             slots: 0,
         })
-    }
-
-    pub fn guard(
-        self,
-        mem: &mut [u64],
-        area: &[u64],
-        peer: Replica,
-        number: Ballot,
-        bar: Slot,
-    ) -> Answered
-        ensures { λ r. ⌜ Answers ready view (Guard (peer .0) (number .0) (bar .0)) self (now (mem .entry)) (now (area .entry)) (givenOf r) (now (mem .exit)) (now (area .entry)) ⌝ }
-    {
-        if !is_ready(self, mem) {
-            return Answered {
-                number: 2,
-                count: 0,
-                node: self,
-            };
-        }
-        let refusal = guard_refusal(self.population, self.id, peer, bar);
-        if refusal != 0 {
-            return Answered {
-                number: refusal,
-                count: 0,
-                node: self,
-            };
-        }
-        let i = peer.0 as usize;
-        if !newer(mem[i], mem[64 + i], number.0, bar.0) {
-            return Answered {
-                number: 0,
-                count: 0,
-                node: self,
-            };
-        }
-        mem[i] = number.0;
-        mem[64 + i] = bar.0;
-        let ballot = self.bal_max_seen;
-        let max = Slot(accept_max(mem, self.population, self.quorum, ballot.0));
-        let mut next = self;
-        next.peer_accept_max = max;
-        Answered {
-            number: 0,
-            count: 0,
-            node: next,
-        }
-    }
-
-    pub fn prepared(self, mem: &[u64], area: &[u64], ballot: Ballot) -> Answered
-        ensures { λ r. ⌜ Answers ready view (Prepared (ballot .0)) self (now (mem .entry)) (now (area .entry)) (givenOf r) (now (mem .entry)) (now (area .entry)) ⌝ }
-    {
-        if !is_ready(self, mem) {
-            return Answered {
-                number: 2,
-                count: 0,
-                node: self,
-            };
-        }
-        let conf = self.bodega_conf;
-        let leader = conf.leader;
-        let id = self.id;
-        let sent = self.bal_prep_sent;
-        if !may_prepare(leader, id, sent, ballot) {
-            return Answered {
-                number: 13,
-                count: 0,
-                node: self,
-            };
-        }
-        let mut next = self;
-        next.bal_prepared = ballot;
-        Answered {
-            number: 0,
-            count: 0,
-            node: next,
-        }
     }
 
     // `peer_accept_max`, the reading bar.

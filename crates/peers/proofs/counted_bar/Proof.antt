@@ -1,9 +1,6 @@
-use Rattle.node.proofs.Guards as law
 use borrow.Author.Tests.{eq-eqb, ne-eqb}
-use Rattle.node.proofs.counted_bar.Statement.{statement}
-use Rattle.node.proofs.counted_bar.Tie as tie
-use Rattle.node.proofs.counted_bar.Reads as reads
-use Rattle.node.proofs.counted_bar.Lts as lts
+use Rattle.peers.proofs.counted_bar.Statement.{statement}
+use Rattle.peers.proofs.counted_bar.Tie as tie
 
 returns : tie.Need-returns
 returns c = simp (eq-eqb _ _ (c .if1 .taken))

@@ -1,10 +1,8 @@
-use Rattle.node.proofs.Guards as law
+use Rattle.peers.proofs.Laws as law
 use borrow.Author.Tests.{lt-ltb}
 use native.Mathlib.Omega.{arith}
-use Rattle.node.proofs.newer.Statement.{statement}
-use Rattle.node.proofs.newer.Tie as tie
-use Rattle.node.proofs.newer.Reads as reads
-use Rattle.node.proofs.newer.Lts as lts
+use Rattle.peers.proofs.beats.Statement.{statement}
+use Rattle.peers.proofs.beats.Tie as tie
 
 returns : tie.Need-returns
 returns c = simp (lt-ltb _ _ (c .if1 .taken))
@@ -15,5 +13,5 @@ returns-2 c = let a = c .before .before .args in law.newer-no (a .was) (a .stood
 returns-3 : tie.Need-returns-3
 returns-3 c = let a = c .before .before .args in law.newer-bar (a .was) (a .stood) (a .number) (a .bar) (omega arith) (omega arith)
 
-pub newer-spec : {M : Type 1} → statement M
-newer-spec = tie.close (tie.spec returns returns-2 returns-3)
+pub beats-spec : {M : Type 1} → statement M
+beats-spec = tie.close (tie.spec returns returns-2 returns-3)

@@ -1,9 +1,6 @@
-use Rattle.node.proofs.Guards as law
 use borrow.Author.Tests.{lt-ltb, le-ltb, le-leb, lt-leb, eq-eqb, ne-eqb}
-use Rattle.node.proofs.guard_refusal.Statement.{statement}
-use Rattle.node.proofs.guard_refusal.Tie as tie
-use Rattle.node.proofs.guard_refusal.Reads as reads
-use Rattle.node.proofs.guard_refusal.Lts as lts
+use Rattle.guard.proofs.guard_refusal.Statement.{statement}
+use Rattle.guard.proofs.guard_refusal.Tie as tie
 
 returns : tie.Need-returns
 returns c = simp (le-leb _ _ (c .if1 .taken))

@@ -1,4 +1,4 @@
-use Rattle.node.proofs.Guards as law
+use Rattle.peers.proofs.Laws as law
 use native.Mathlib.Omega.{arith}
 use native.Mathlib.Nat.{sub-zero}
 use mathlib.Core.Path.{_≡_, refl, ap, _∙_}
@@ -8,14 +8,14 @@ use lib.ListN.{length, length-set, take, getD}
 use lib.Seq.{length-take-le}
 use Rattle.words.specs.Tab.{tab}
 use Rattle.rank.specs.Sort.{sort}
-use Rattle.node.proofs.accept_max.Statement.{statement}
-use Rattle.node.proofs.accept_max.Tie as tie
+use Rattle.peers.proofs.accept_max.Statement.{statement}
+use Rattle.peers.proofs.accept_max.Tie as tie
 
 abbrev Inv-loop : tie.InvT-loop
-Inv-loop mem population quorum ballot n b₀ i₀ b i = (i ≤ n) × (length b ≡ 64) × (take i b ≡ tab (law.barAt mem ballot) 0 i)
+Inv-loop pairs population quorum ballot n b₀ i₀ b i = (i ≤ n) × (length b ≡ 64) × (take i b ≡ tab (law.barAt pairs ballot) 0 i)
 
 abbrev μ-loop : tie.MeasureT-loop
-μ-loop mem population quorum ballot n b₀ i₀ b i = n - i
+μ-loop pairs population quorum ballot n b₀ i₀ b i = n - i
 
 loop-holds : tie.Need-loop-holds Inv-loop μ-loop
 loop-holds c = (omega arith, refl, refl)
@@ -66,7 +66,7 @@ kth-requires : tie.Need-kth-requires Inv-loop μ-loop
 kth-requires c κs = let l = c .before .before .before .loop in let a = c .before .before .before .before .before .args in let h : a .population ≤ length (l .b) = omega (arith, l .inv) in (omega arith, rw (sub-zero, length-take-le (a .population) (l .b) h) (omega arith))
 
 returns : tie.Need-returns Inv-loop μ-loop
-returns c = let l = c .before .before .before .before .loop in let a = c .before .before .before .before .before .before .args in let e : l .i ≡ a .population = omega arith in (rw sub-zero at (c .kth .ensures)) ∙ ap (λ (z : List ℕ). getD (sort z) (a .quorum - 1) 0) ((rw e at (l .inv .2)) ∙ law.counted-are (a .mem .now) (a .ballot) (a .population) (omega arith))
+returns c = let l = c .before .before .before .before .loop in let a = c .before .before .before .before .before .before .args in let e : l .i ≡ a .population = omega arith in (rw sub-zero at (c .kth .ensures)) ∙ ap (λ (z : List ℕ). getD (sort z) (a .quorum - 1) 0) ((rw e at (l .inv .2)) ∙ law.counted-are (a .pairs .now) (a .ballot) (a .population))
 
 pub accept-max-spec : {M : Type 1} → statement M
 accept-max-spec =

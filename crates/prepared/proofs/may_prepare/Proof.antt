@@ -1,7 +1,7 @@
-use Rattle.node.proofs.Calls as law
+use Rattle.prepared.proofs.Laws as law
 use borrow.Author.Needs.{needs}
-use Rattle.node.proofs.may_prepare.Statement.{statement}
-use Rattle.node.proofs.may_prepare.Tie as tie
+use Rattle.prepared.proofs.may_prepare.Statement.{statement}
+use Rattle.prepared.proofs.may_prepare.Tie as tie
 
 leads-requires : tie.Need-leads-requires
 leads-requires c κs = search needs
