@@ -298,7 +298,7 @@ extensional a b h k e = sym (mod-eq-of-lt h) ∙ ext-low 64 a b e ∙ mod-eq-of-
 
 -- ---- supersets
 
-every-each : (n : ℕ) (f : ℕ → Bool) → every n f ≡ true → (r : ℕ) → r < n → f r ≡ true
+pub every-each : (n : ℕ) (f : ℕ → Bool) → every n f ≡ true → (r : ℕ) → r < n → f r ≡ true
 unfolding every
 every-each zero f e r h = absurd (not-suc-le-zero h)
 every-each (suc n) f e r h = elim (ℕ-discrete r n) [

@@ -301,7 +301,7 @@ module _ (s out : List ℕ) (n : ℕ) (h : n ≤ 64) (k : n * 5 ≤ length out) 
       let z : 0 + q ≡ q = omega arith in
       ap (λ (j : ℕ). getD written j 0) (sym z) ∙ writes-same s 0 (take (n * 5) out) q (omega (arith, taken)) (omega (arith, taken)) ∙ getD-take (n * 5) out q 0 b
 
-  rows-same : rangesOf written n ≡ rangesOf out n
+  pub rows-same : rangesOf written n ≡ rangesOf out n
   unfolding rangesOf rangeAt
   rows-same =
       tab-ext (λ j. rangeAt written (j * 5)) (λ j. rangeAt out (j * 5)) 0 n
