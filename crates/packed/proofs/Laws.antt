@@ -104,8 +104,8 @@ bytes-packOf k b h =
     let p : isPacked (packOf k) ≡ true = rw e (sameKey-refl (packOf k)) in
     rw (p, e)
 
-pub pack-key : (k : List ℕ) (r : Key) → length k ≤ 48 → Bytes k → r ≡ packOf k → _≡_ {A = Option (List ℕ)} (some (bytesOf r)) (atMost48 k)
-pack-key k r h b e = rw (e, le-leb (length k) 48 h, bytes-packOf k b h)
+pub pack-key : (k : List ℕ) (r : Key) → length k ≤ 48 → bytesOf r ≡ k → _≡_ {A = Option (List ℕ)} (some (bytesOf r)) (atMost48 k)
+pack-key k r h e = rw (e, le-leb (length k) 48 h)
 
 pub pack-long : (k : List ℕ) → 48 < length k → none ≡ atMost48 k
 pack-long k h = rw (lt-leb (length k) 48 h)

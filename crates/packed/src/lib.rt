@@ -145,13 +145,21 @@ fn key_of(k: &[u8]) -> Key
     }
 }
 
+// The key of at most 48 bytes.
+pub fn pack_short(bytes: &[u8]) -> Key
+    requires { ⌜ length (now bytes) ≤ 48 ⌝ }
+    ensures { λ r. ⌜ bytesOf r ≡ now (bytes .entry) ⌝ }
+{
+    key_of(bytes)
+}
+
 pub fn pack(bytes: &[u8]) -> Packed
     ensures { λ r. ⌜ keyIn r ≡ atMost48 (now (bytes .entry)) ⌝ }
 {
     if 48 < bytes.len() {
         return Packed::Long;
     }
-    Packed::Key(key_of(bytes))
+    Packed::Key(pack_short(bytes))
 }
 
 fn low(x: u64) -> u8
