@@ -10,7 +10,7 @@ use native.Mathlib.Omega.{arith}
 use borrow.Author.Tests.{le-leb, eq-eqb, ne-eqb}
 use lib.ListN.{length, getD, set, length-append, length-set}
 use lib.Seq.{getD-set-other}
-use Rattle.words.specs.Choice.{ifNone_then_else_}
+use Rattle.words.specs.Choice.{if_then_else_, ifNone_then_else_}
 use Rattle.words.specs.Counted.{countOf, length-counted, counted-push, counted-clear}
 use Rattle.words.specs.Tab.{tab, tab-snoc}
 use Rattle.words.specs.Writes.{writes, Agrees, writes-other, writes-same}
@@ -88,6 +88,14 @@ push-no s n q many full =
     let l : length (requestsOf s ++ (q ∷ [])) ≡ 9 = length-append (requestsOf s) (q ∷ []) ∙ ap (λ (z : ℕ). z + 1) (sym many ∙ full) in
     record { outcome = rw l; refused = λ e. refl; beyond = λ j h. refl }
 
+-- a push where there is room
+pub pushed-on : (s t : List ℕ) (q : machine.Request) (r : Bool) → Pushes s q r t → length (requestsOf s) < 8 → requestsOf t ≡ requestsOf s ++ (q ∷ [])
+pushed-on s t q r p h = go r (rw (le-leb (length (requestsOf s ++ (q ∷ []))) 8 (rw length-append (omega arith))) at (p .outcome))
+  where
+    go : (r : Bool) → (if r then some (requestsOf t) else none) ≡ some (requestsOf s ++ (q ∷ [])) → requestsOf t ≡ requestsOf s ++ (q ∷ [])
+    go true e = cc
+    go false e = cc
+
 pub cleared : (s : List ℕ) → 89 ≤ length s → requestsOf (set s 0 0) ≡ []
 unfolding requestsOf
 cleared s h = counted-clear requestFrom 11 8 s (omega arith)
@@ -140,9 +148,12 @@ last-snoc key (r ∷ qs) q = rw (last-snoc key qs q) (go (putOf key q (q .comman
 unfoldable pub lastOf : List ℕ → ℕ → List ℕ → Option ℕ
 lastOf s i key = lastPut key (tab (requestAt s) 0 i)
 
-pub last-start : (s : List ℕ) (n : ℕ) (key : List ℕ) → n ≡ length (requestsOf s) → lastOf s n key ≡ lastPut key (requestsOf s)
+pub last-start : (s : List ℕ) (n : ℕ) (key : List ℕ) → lastOf s n key ≡ lastPut key (tab (requestAt s) 0 n)
 unfolding lastOf
-last-start s n key h = ap (lastPut key) (sym (requests-are s n h))
+last-start s n key = refl
+
+pub last-all : (s : List ℕ) (n : ℕ) (key : List ℕ) → n ≡ length (requestsOf s) → lastPut key (tab (requestAt s) 0 n) ≡ lastPut key (requestsOf s)
+last-all s n key h = ap (lastPut key) (sym (requests-are s n h))
 
 pub last-end : (s : List ℕ) (i : ℕ) (key : List ℕ) → i ≤ 0 → lastOf s i key ≡ none
 unfolding lastOf lastPut

@@ -6,6 +6,7 @@ ghost use mathlib.Core.Path.{_≡_};
 ghost use mathlib.Core.List.{[]};
 ghost use Prim.Native.Nat.{_+_, _*_, _<_, _≤_};
 ghost use lib.ListN.{length, set};
+ghost use Rattle.words.specs.Tab.{tab};
 ghost use Rattle.words.specs.Writes.{writes};
 ghost use Rattle.packed.specs.Key.{bytesOf};
 ghost use Rattle.bodega.specs.Localread.{lastPut, putOf};
@@ -55,7 +56,7 @@ fn value_of(c: Command) -> u64
     }
 }
 
-fn command_at(kind: u64, value: u64) -> Command
+pub fn command_at(kind: u64, value: u64) -> Command
     ensures { λ r. ⌜ commandOf r ≡ commandAt kind value ⌝ }
 {
     if kind == 1 {
@@ -144,12 +145,12 @@ fn put_at(s: &[u64], i: usize, key: Key) -> Latest
     Latest::Nothing
 }
 
-// The value of the last Put of a key.
-pub fn last_put(s: &[u64], key: Key) -> Latest
-    requires { ⌜ 89 ≤ length (now s) ⌝ }
-    ensures { λ r. ⌜ valueIn r ≡ lastPut (bytesOf key) (requestsOf (now (s .entry))) ⌝ }
+// The value of the last Put of a key among the first n requests.
+pub fn last_put_among(s: &[u64], n: usize, key: Key) -> Latest
+    requires { ⌜ (n ≤ 8) × (89 ≤ length (now s)) ⌝ }
+    ensures { λ r. ⌜ valueIn r ≡ lastPut (bytesOf key) (tab (requestAt (now (s .entry))) 0 n) ⌝ }
 {
-    let mut i = count(s);
+    let mut i = n;
     while 0 < i {
         i = i - 1;
         let put = put_at(s, i, key);
@@ -161,4 +162,13 @@ pub fn last_put(s: &[u64], key: Key) -> Latest
         }
     }
     Latest::Nothing
+}
+
+// The value of the last Put of a key.
+pub fn last_put(s: &[u64], key: Key) -> Latest
+    requires { ⌜ 89 ≤ length (now s) ⌝ }
+    ensures { λ r. ⌜ valueIn r ≡ lastPut (bytesOf key) (requestsOf (now (s .entry))) ⌝ }
+{
+    let n = count(s);
+    last_put_among(s, n, key)
 }
