@@ -201,3 +201,11 @@ module _ (s : List ℕ) (key : Key) (at : Found) (told : at ≡ placeOf 0 (bytes
             refused = λ e. absurd (true≢false e);
             beyond = λ j h. rw (e₂, getD-set-other s₁ 0 j (n + 1) 0 (omega arith), e₁) (writes-other s (1 + n * 8) (slot ∷ wordsOf key) j (inr (omega arith)));
           }
+
+-- a write that leaves at most 256 keys is noted
+pub noted-on : (s t key : List ℕ) (slot : ℕ) (r : Bool) → Notes s key slot r t → length (raise slot key (writtenOf s)) ≤ 256 → writtenOf t ≡ raise slot key (writtenOf s)
+noted-on s t key slot r p h = go r (rw (le-leb (length (raise slot key (writtenOf s))) 256 h) at (p .outcome))
+  where
+    go : (r : Bool) → (if r then some (writtenOf t) else none) ≡ some (raise slot key (writtenOf s)) → writtenOf t ≡ raise slot key (writtenOf s)
+    go true e = cc
+    go false e = cc

@@ -1,0 +1,61 @@
+use Prim.Native.Nat.{ℕ, _≤_, _+_, _-_}
+use mathlib.Core.Path.{_≡_}
+use lib.ListN.{length}
+use Rattle.refresh.specs.Refresh.{after}
+use Rattle.refresh.proofs.Laws as law
+use native.Mathlib.Omega.{arith}
+use Rattle.refresh.proofs.keys_after.Statement.{statement}
+use Rattle.refresh.proofs.keys_after.Tie as tie
+
+abbrev Inv-loop : tie.InvT-loop
+Inv-loop written batch m n₀ i₀ n i = (i ≤ m) × (m ≤ 8) × (n ≤ 256 + i) × ((slot : ℕ) → n ≡ length (after slot batch written i))
+
+abbrev μ-loop : tie.MeasureT-loop
+μ-loop written batch m n₀ i₀ n i = m - i
+
+count-requires : tie.Need-count-requires Inv-loop μ-loop
+count-requires c κs = omega arith
+
+count-requires-2 : tie.Need-count-requires-2 Inv-loop μ-loop
+count-requires-2 c κs = omega arith
+
+loop-holds : tie.Need-loop-holds Inv-loop μ-loop
+loop-holds c = (omega arith, omega arith, omega arith, law.after-start _ _ _ (c .count2 .ensures .0))
+
+new-keys-requires : tie.Need-new-keys-requires Inv-loop μ-loop
+new-keys-requires c κs = omega arith
+
+add-n : tie.Need-add-n Inv-loop μ-loop
+add-n c = omega arith
+
+add-i : tie.Need-add-i Inv-loop μ-loop
+add-i c = omega arith
+
+loop-less : tie.Need-loop-less Inv-loop μ-loop
+loop-less c = omega arith
+
+loop-again : tie.Need-loop-again Inv-loop μ-loop
+loop-again c =
+    let l = c .before .before .loop in
+    (omega arith, omega arith, omega arith, law.after-next _ _ _ _ (l .i) (l .inv .3) (c .new-keys .ensures .0))
+
+returns : tie.Need-returns Inv-loop μ-loop
+returns c =
+    let l = c .before .loop in
+    law.after-end _ _ _ _ (l .i) (l .inv .3) (c .before .before .before .count .ensures .0) (omega arith) (omega arith)
+
+pub keys-after-spec : {M : Type 1} → statement M
+keys-after-spec =
+    tie.close
+    (tie.spec
+    Inv-loop
+    μ-loop
+    count-requires
+    count-requires-2
+    loop-holds
+    new-keys-requires
+    add-n
+    add-i
+    loop-less
+    loop-again
+    returns)
