@@ -1,16 +1,20 @@
 -- Words as a cell, one case at a time; a cell that is stored is read back, and the others stay. Assumes nothing.
 use mathlib.Core.Path.{_≡_, refl, sym}
 use mathlib.Core.Logic.{inl, inr, _≢_}
+use mathlib.Core.Bool.{Bool, true, false, not}
 use mathlib.Core.List.{List, [], _∷_}
 use mathlib.Core.Option.{Option, none, some}
-use Prim.Native.Nat.{ℕ, _+_, _*_, _≤_, _<_}
+use Prim.Native.Nat.{ℕ, zero, suc, _+_, _*_, _≤_, _<_}
 use native.Mathlib.Omega.{arith}
 use native.Mathlib.Decide.{decLt}
-use lib.ListN.{length, getD}
-use borrow.Author.Tests.{eq-eqb, ne-eqb}
+use lib.Dec.{ltb, eqb}
+use lib.ListN.{length, getD, set}
+use lib.Seq.{getD-set-same, getD-set-other}
+use borrow.Author.Tests.{le-ltb, eq-eqb, ne-eqb}
+use Rattle.words.specs.Choice.{if_then_else_, ifNone_then_else_}
 use Rattle.words.specs.Writes.{writes, Agrees, writes-same, writes-other}
 use Rattle.bodega.specs.Replica as machine
-use Rattle.cells.specs.Cell.{Notices, Short, statusNamed, acksNamed, bookNamed, present, acksIn, balIn, noticesIn, cellAt, cellWords}
+use Rattle.cells.specs.Cell.{Notices, Short, statusNamed, acksNamed, bookNamed, present, acksIn, balIn, noticesIn, cellAt, cellWords, withStatus, hasBook}
 
 -- ---- the code's tests
 
@@ -118,3 +122,51 @@ pub words-are : (s : List ℕ) (p bal w a₀ a₁ b₀ b₁ b₂ : ℕ) (st : ma
     → (b₀ ≡ present b) × (b₁ ≡ balIn b) × (b₂ ≡ noticesIn b)
     → writes s p (bal ∷ w ∷ a₀ ∷ a₁ ∷ b₀ ∷ b₁ ∷ b₂ ∷ []) ≡ writes s p (cellWords (record { bal = bal; status = st; leaderBk = a; replicaBk = b }))
 words-are s p bal w a₀ a₁ b₀ b₁ b₂ st a b e f g = λ i. writes s p (bal ∷ e i ∷ f .0 i ∷ f .1 i ∷ g .0 i ∷ g .1 i ∷ g .2 i ∷ [])
+
+-- ---- one word of a cell
+
+high : (w : ℕ) → 3 < w → ltb w 3 ≡ machine.isOpen (statusNamed w)
+high w h = simp (le-ltb w 3 (omega arith), ne-eqb w 0 (omega arith), ne-eqb w 1 (omega arith), ne-eqb w 2 (omega arith), ne-eqb w 3 (omega arith))
+
+open-named : (w : ℕ) → ltb w 3 ≡ machine.isOpen (statusNamed w)
+open-named zero = refl
+open-named (suc zero) = refl
+open-named (suc (suc zero)) = refl
+open-named (suc (suc (suc zero))) = refl
+open-named (suc (suc (suc (suc w)))) = high (suc (suc (suc (suc w)))) (omega arith)
+
+pub open-is : (s : List ℕ) (p : ℕ) → ltb (getD s (p + 1) 0) 3 ≡ machine.isOpen (cellAt s p .status)
+unfolding cellAt
+open-is s p = open-named (getD s (p + 1) 0)
+
+named-there : (b : Bool) (x : Notices) → not b ≡ (ifNone (if b then none else some x) then false else λ y. true)
+named-there true x = refl
+named-there false x = refl
+
+pub book-is : (s : List ℕ) (p : ℕ) → not (eqb (getD s (p + 4) 0) 0) ≡ hasBook (cellAt s p)
+unfolding cellAt
+book-is s p =
+    let e : p + 4 ≡ p + 1 + 1 + 1 + 1 = omega arith in
+    rw e (named-there (eqb (getD s (p + 1 + 1 + 1 + 1) 0) 0) (record { bal = getD s (p + 1 + 1 + 1 + 1 + 1) 0; notices = getD s (p + 1 + 1 + 1 + 1 + 1 + 1) 0 }))
+
+-- a status that is stored is read back, and all else stays as it was
+module _ (s : List ℕ) (c : ℕ) (st : machine.Status) (h : c * 8 + 8 ≤ length s) where
+  word-stays : (q : ℕ) → q ≢ c * 8 + 1 → getD (set s (c * 8 + 1) (machine.order st)) q 0 ≡ getD s q 0
+  word-stays q n = getD-set-other s (c * 8 + 1) q (machine.order st) 0 n
+
+  pub status-same : cellAt (set s (c * 8 + 1) (machine.order st)) (c * 8) ≡ withStatus st (cellAt s (c * 8))
+  unfolding cellAt
+  status-same =
+      simp (
+        word-stays (c * 8) (omega arith),
+        getD-set-same s (c * 8 + 1) (machine.order st) 0 (omega arith),
+        word-stays (c * 8 + 1 + 1) (omega arith),
+        word-stays (c * 8 + 1 + 1 + 1) (omega arith),
+        word-stays (c * 8 + 1 + 1 + 1 + 1) (omega arith),
+        word-stays (c * 8 + 1 + 1 + 1 + 1 + 1) (omega arith),
+        word-stays (c * 8 + 1 + 1 + 1 + 1 + 1 + 1) (omega arith),
+        named-status st,
+      )
+
+  pub status-other : (d : ℕ) → d ≢ c → cellAt (set s (c * 8 + 1) (machine.order st)) (d * 8) ≡ cellAt s (d * 8)
+  status-other d n = cell-near (set s (c * 8 + 1) (machine.order st)) s (d * 8) (λ q f g. word-stays q (λ e. n (omega arith)))

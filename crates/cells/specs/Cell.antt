@@ -1,6 +1,7 @@
 -- The short part of an instance in eight words: ballot, status, whether there are acks, the acks, whether there is a notice book, its ballot, its notices, and one
 -- that is not used. Assumes nothing: these are definitions.
 use Prim.Native.Nat.{ℕ, _+_}
+use mathlib.Core.Bool.{Bool, true, false}
 use mathlib.Core.List.{List, [], _∷_}
 use mathlib.Core.Option.{Option, none, some}
 use lib.Dec.{eqb}
@@ -40,6 +41,12 @@ pub record Short : Type 0 where
   pub status : machine.Status
   pub leaderBk : Option ℕ
   pub replicaBk : Option Notices
+
+abbrev pub withStatus : machine.Status → Short → Short
+withStatus s x = record { bal = x .bal; status = s; leaderBk = x .leaderBk; replicaBk = x .replicaBk }
+
+abbrev pub hasBook : Short → Bool
+hasBook x = ifNone x .replicaBk then false else λ b. true
 
 abbrev pub cellOf : Cell → Short
 cellOf c = record { bal = c .bal .0; status = statusOf (c .status); leaderBk = acksOf (c .«leader_bk»); replicaBk = bookOf (c .«replica_bk») }

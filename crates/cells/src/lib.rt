@@ -2,10 +2,10 @@
 use ids::Ballot;
 ghost use mathlib.Core.Path.{_≡_};
 ghost use Prim.Native.Nat.{ℕ, _+_, _*_, _≤_};
-ghost use lib.ListN.{length};
+ghost use lib.ListN.{length, set};
 ghost use Rattle.words.specs.Writes.{writes};
-ghost use Rattle.bodega.specs.Replica.{order};
-ghost use Rattle.cells.specs.Cell.{statusOf, statusNamed, acksOf, bookOf, acksNamed, bookNamed, present, acksIn, balIn, noticesIn, cellOf, cellAt, cellWords};
+ghost use Rattle.bodega.specs.Replica.{order, isOpen};
+ghost use Rattle.cells.specs.Cell.{statusOf, statusNamed, acksOf, bookOf, acksNamed, bookNamed, present, acksIn, balIn, noticesIn, cellOf, cellAt, cellWords, hasBook};
 
 pub enum Status {
     Null,
@@ -163,4 +163,30 @@ pub fn store(cells: &mut [u64], c: usize, cell: Cell)
     cells[p4] = b.0;
     cells[p5] = b.1;
     cells[p6] = b.2;
+}
+
+// `status < Committed`.
+pub fn is_open(cells: &[u64], c: usize) -> bool
+    requires { ⌜ c * 8 + 8 ≤ length (now cells) ⌝ }
+    ensures { λ r. ⌜ r ≡ isOpen (cellAt (now (cells .entry)) (c * 8) .status) ⌝ }
+{
+    let p = c * 8 + 1;
+    cells[p] < 3
+}
+
+pub fn has_book(cells: &[u64], c: usize) -> bool
+    requires { ⌜ c * 8 + 8 ≤ length (now cells) ⌝ }
+    ensures { λ r. ⌜ r ≡ hasBook (cellAt (now (cells .entry)) (c * 8)) ⌝ }
+{
+    let p = c * 8 + 4;
+    cells[p] != 0
+}
+
+pub fn set_status(cells: &mut [u64], c: usize, status: Status)
+    requires { ⌜ c * 8 + 8 ≤ length (now cells) ⌝ }
+    ensures { λ _. ⌜ now (cells .exit) ≡ set (now (cells .entry)) (c * 8 + 1) (order (statusOf status)) ⌝ }
+{
+    let p = c * 8 + 1;
+    let w = status_word(status);
+    cells[p] = w;
 }
