@@ -2,6 +2,7 @@
 use mathlib.Core.Path.{_≡_, refl, sym, ap, _∙_}
 use mathlib.Core.Logic.{_≢_}
 use mathlib.Core.List.{List, [], _∷_, _++_, append-assoc, append-nil}
+use mathlib.Core.Bool.{Bool, true, false, not}
 use mathlib.Core.Option.{Option, none, some}
 use Prim.Native.Nat.{ℕ, zero, suc, _+_, _-_, _*_, _%_, _≤_, _<_}
 use native.Mathlib.Nat.{zero-add, not-suc-le-zero}
@@ -9,16 +10,20 @@ use native.Mathlib.Decide.{decLt}
 use native.Mathlib.Numerals.{add-one}
 use native.Mathlib.Omega.{arith}
 use lib.ListN.{length, set, take, drop, replicate, getElem?, length-set}
+use lib.Dec.{ltb}
 use lib.Seq.{take-length}
-use Rattle.words.specs.Tab.{tab, tab-ext, tab-set, tab-snoc, tab-shift, drop-tab, elem-tab, elem-past, length-tab}
-use Rattle.words.specs.Part.{part, splice, part-here, part-before, part-after, length-splice, length-part, getD-splice}
+use borrow.Author.Tests.{not-true, not-false}
+use Rattle.words.specs.Choice.{if_then_else_, ifNone_then_else_}
+use Rattle.words.specs.Tab.{tab, tab-ext, tab-set, tab-snoc, tab-shift, drop-tab, take-tab, elem-tab, elem-past, length-tab}
+use Rattle.words.specs.Part.{part, splice, part-here, part-before, part-after, length-splice, length-part, getD-splice, part-set-below}
 use Rattle.words.specs.Writes.{writes, length-writes, part-writes, writes-all}
 use Rattle.bodega.specs.Replica as machine
-use Rattle.cells.specs.Cell.{Short, cellAt, cellWords}
-use Rattle.cells.proofs.Laws.{cell-same, cell-other, cell-near}
+use Rattle.bodega.specs.Grounds.{any, holds}
+use Rattle.cells.specs.Cell.{Notices, Short, cellAt, cellWords, withStatus, hasBook}
+use Rattle.cells.proofs.Laws.{cell-same, cell-other, cell-near, status-same, status-other}
 use Rattle.batch.specs.Batch.{requestsOf}
 use Rattle.held.specs.Held.{readsOf}
-use Rattle.slots.specs.Slots.{slotWords, shortAt, batchAt, readsAt, instOf, instIn, instsOf, nullShort, SamePlace, Puts}
+use Rattle.slots.specs.Slots.{slotWords, shortAt, batchAt, readsAt, instOf, instIn, instsOf, nullShort, SamePlace, Puts, bookOf}
 
 -- how long a part is that is lent from a to a + k
 pub width : (a k : ℕ) → a + k - a ≡ k
@@ -40,6 +45,21 @@ module _ (s : List ℕ) (c : ℕ) (h : slotWords ≤ length s) (b : c < 32) wher
           reads = ap readsOf (part-writes s (c * 8) (cellWords x) (3104 + d * 145) 145 (omega arith));
         };
         size = length-writes s (c * 8) (cellWords x);
+      }
+
+  pub puts-status : (st : machine.Status) → Puts s c (withStatus st (shortAt s c)) (batchAt s c) (readsAt s c) (set s (c * 8 + 1) (machine.order st))
+  unfolding shortAt batchAt readsAt
+  puts-status st =
+      record {
+        short = status-same s c st (omega arith);
+        batch = ap requestsOf (part-set-below s (256 + c * 89) 89 (machine.order st) (c * 8 + 1) (omega arith));
+        held = ap readsOf (part-set-below s (3104 + c * 145) 145 (machine.order st) (c * 8 + 1) (omega arith));
+        others = λ d l n. record {
+          short = status-other s c st (omega arith) d n;
+          batch = ap requestsOf (part-set-below s (256 + d * 89) 89 (machine.order st) (c * 8 + 1) (omega arith));
+          reads = ap readsOf (part-set-below s (3104 + d * 145) 145 (machine.order st) (c * 8 + 1) (omega arith));
+        };
+        size = length-set s (c * 8 + 1) (machine.order st);
       }
 
   module _ (n : ℕ) (w : List ℕ) where
@@ -225,3 +245,53 @@ pad-step start n i s₀ s t h g p e =
 pub pad-end : (start n i to : ℕ) (s₀ s : List ℕ) → to ≤ i → i ≤ to → instsOf start i s ≡ instsOf start n s₀ ++ replicate (i - n) machine.nullInstance
     → instsOf start to s ≡ instsOf start n s₀ ++ replicate (to - n) machine.nullInstance
 pad-end start n i to s₀ s h g e = let z : i ≡ to = omega arith in rw z at e
+
+-- the first k of them
+pub first : (start n k : ℕ) (s : List ℕ) → k ≤ n → take k (instsOf start n s) ≡ instsOf start k s
+unfolding instsOf
+first start n k s h = take-tab (λ i. instIn s ((start + i) % 32)) 0 n k h
+
+-- ---- the code's tests
+
+book-holds : (o : Option Notices) (l : List machine.ReadReq)
+    → (ifNone bookOf o l then false else λ b. ltb 0 (length (b .holding))) ≡ (if (ifNone o then false else λ b. true) then ltb 0 (length l) else false)
+book-holds none l = refl
+book-holds (some b) l = refl
+
+holds-by : (s : List ℕ) (c : ℕ) → holds (instIn s c) ≡ (if hasBook (shortAt s c) then ltb 0 (length (readsAt s c)) else false)
+unfolding instIn
+holds-by s c = book-holds (shortAt s c .replicaBk) (readsAt s c)
+
+module _ (s : List ℕ) (c : ℕ) (t : Bool) (e : t ≡ hasBook (shortAt s c)) where
+  pub no-book : not t ≡ true → false ≡ holds (instIn s c)
+  no-book f = sym (holds-by s c ∙ ap (λ (b : Bool). if b then ltb 0 (length (readsAt s c)) else false) (sym e ∙ not-true t f))
+
+  pub reads-wait : not t ≡ false → (n k : ℕ) → k ≡ 145 → n ≡ length (readsOf (take k (drop (3104 + c * 145) s))) → ltb 0 n ≡ holds (instIn s c)
+  unfolding readsAt part
+  reads-wait f n k w g =
+      ap (ltb 0) (g ∙ ap (λ (j : ℕ). length (readsOf (take j (drop (3104 + c * 145) s)))) w)
+      ∙ sym (holds-by s c ∙ ap (λ (b : Bool). if b then ltb 0 (length (readsAt s c)) else false) (sym e ∙ not-false t f))
+
+-- ---- one slot after another: whether one of those from the i-th on is such
+
+module _ (f : machine.Instance → Bool) (start n : ℕ) (s : List ℕ) where
+  abbrev pub anyFrom : ℕ → Bool
+  anyFrom i = any f (tab (λ j. instIn s ((start + j) % 32)) i (n - i))
+
+  pub any-start : anyFrom 0 ≡ any f (instsOf start n s)
+  unfolding instsOf
+  any-start = let e : n - 0 ≡ n = omega arith in ap (λ (k : ℕ). any f (tab (λ j. instIn s ((start + j) % 32)) 0 k)) e
+
+  pub any-end : (i : ℕ) → n ≤ i → anyFrom i ≡ false
+  any-end i h = let e : n - i ≡ 0 = omega arith in rw e
+
+  module _ (i : ℕ) (h : i < n) where
+    more : n - i ≡ suc (n - (i + 1))
+    more = omega arith
+
+    module _ (t : Bool) (e : t ≡ f (instIn s ((start + i) % 32))) where
+      pub any-here : t ≡ true → anyFrom i ≡ true
+      any-here g = rw (more, sym e ∙ g)
+
+      pub any-next : t ≡ false → anyFrom i ≡ anyFrom (i + 1)
+      any-next g = rw (more, sym e ∙ g)

@@ -8,10 +8,11 @@ ghost use mathlib.Core.Path.{_≡_};
 ghost use mathlib.Core.List.{[], _++_};
 ghost use Prim.Native.Nat.{_-_, _≤_, _<_};
 ghost use lib.ListN.{length, replicate};
-ghost use Rattle.bodega.specs.Replica.{nullInstance};
-ghost use Rattle.cells.specs.Cell.{cellOf};
+ghost use Rattle.bodega.specs.Replica.{nullInstance, Instance, isOpen};
+ghost use Rattle.cells.specs.Cell.{cellOf, statusOf, withStatus};
 ghost use Rattle.batch.specs.Batch.{requestsOf};
-ghost use Rattle.slots.specs.Slots.{shortAt, batchAt, readsAt, instsOf, nullShort, Puts};
+ghost use Rattle.slots.specs.Slots.{shortAt, batchAt, readsAt, instsOf, nullShort, Puts, instIn};
+ghost use Rattle.bodega.specs.Grounds.{any, holds};
 
 // The short part of the slot at place c.
 pub fn load(s: &[u64], c: usize) -> Cell
@@ -86,4 +87,48 @@ pub fn pad(s: &mut [u64], start: u64, n: usize, to: usize)
         null_slot(s, c);
         i += 1;
     }
+}
+
+// `status < Committed`.
+pub fn is_open(s: &[u64], c: usize) -> bool
+    requires { ⌜ (c < 32) × (7744 ≤ length (now s)) ⌝ }
+    ensures { λ r. ⌜ r ≡ isOpen (instIn (now (s .entry)) c .status) ⌝ }
+{
+    cells::is_open(s, c)
+}
+
+// Whether reads wait in the slot's notice book.
+pub fn holds_reads(s: &[u64], c: usize) -> bool
+    requires { ⌜ (c < 32) × (7744 ≤ length (now s)) ⌝ }
+    ensures { λ r. ⌜ r ≡ holds (instIn (now (s .entry)) c) ⌝ }
+{
+    if !cells::has_book(s, c) {
+        return false;
+    }
+    let a = 3104 + c * 145;
+    let e = a + 145;
+    0 < held::count(&s[a..e])
+}
+
+pub fn set_status(s: &mut [u64], c: usize, status: Status)
+    requires { ⌜ (c < 32) × (7744 ≤ length (now s)) ⌝ }
+    ensures { λ _. ⌜ Puts (now (s .entry)) c (withStatus (statusOf status) (shortAt (now (s .entry)) c)) (batchAt (now (s .entry)) c) (readsAt (now (s .entry)) c) (now (s .exit)) ⌝ }
+{
+    cells::set_status(s, c, status);
+}
+
+// Whether one of n slots from start on is below Committed.
+pub fn any_open(s: &[u64], start: u64, n: usize) -> bool
+    requires { ⌜ (start ≤ 281474976710655) × (n ≤ 32) × (7744 ≤ length (now s)) ⌝ }
+    ensures { λ r. ⌜ r ≡ any (λ (i : Instance). isOpen (i .status)) (instsOf start n (now (s .entry))) ⌝ }
+{
+    let mut i = 0;
+    while i < n {
+        let c = ((start + i as u64) % 32) as usize;
+        if is_open(s, c) {
+            return true;
+        }
+        i += 1;
+    }
+    false
 }
