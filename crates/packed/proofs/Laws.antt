@@ -3,13 +3,15 @@ use mathlib.Core.Path.{_≡_, refl, sym, ap, _∙_}
 use mathlib.Core.Bool.{Bool, true, false, _&&_, and-true}
 use mathlib.Core.List.{List, [], _∷_, _++_}
 use mathlib.Core.Option.{Option, none, some}
-use Prim.Native.Nat.{ℕ, zero, suc, _+_, _-_, _*_, _/_, _%_, _≤_, _<_, min}
-use native.Mathlib.Nat.{zero-add}
+use Prim.Native.Nat.{ℕ, zero, suc, _+_, _-_, _*_, _/_, _%_, _^_, _≤_, _<_, min}
+use native.Mathlib.Nat.{zero-add, one-mul, not-suc-le-zero, div-lt-iff-lt-mul}
+use native.Mathlib.Numerals.{add-one}
 use native.Mathlib.Omega.{arith}
 use borrow.Author.Tests.{eqb-true, eq-eqb, le-leb, lt-leb}
 use lib.Dec.{eqb}
-use lib.ListN.{length, getD, take, replicate, length-take}
-use lib.Seq.{ext-getD, length-take-le, getD-take}
+use lib.ListN.{length, getD, take, replicate, length-take, List·getD-eq-default}
+use lib.Pow.{pow-pos, shr-lt}
+use lib.Seq.{ext-getD, length-take-le, getD-take, take-take, take-all}
 use Rattle.words.specs.Choice.{if_then_else_}
 use Rattle.words.specs.Tab.{run, length-tab, getD-tab}
 use Rattle.words.specs.Writes.{writes, Agrees, writes-append, run-writes, run-agrees, length-writes, writes-same}
@@ -146,6 +148,68 @@ same-is a b = go (sameBytes (bytesOf a) (bytesOf b)) refl (sameKey a b) refl
         let z : sameBytes (bytesOf a) (bytesOf b) ≡ true = rw e (same-refl (bytesOf b)) in
         sym p ∙ z
 
+-- ---- at most eight bytes
+
+take-bytes : (m n v : ℕ) (r : List ℕ) → n ≤ m → take n (leBytes m v ++ r) ≡ leBytes n v
+take-bytes m zero v r h = refl
+take-bytes zero (suc n) v r h = absurd (not-suc-le-zero h)
+take-bytes (suc m) (suc n) v r h = ap {B = List ℕ} (λ l. v % 256 ∷ l) (take-bytes m n (v / 256) r (omega arith))
+
+length-bytes : (n v : ℕ) → length (leBytes n v) ≡ n
+length-bytes zero v = refl
+length-bytes (suc n) v = ap suc (length-bytes n (v / 256))
+
+leWord-tail : (m x : ℕ) (s : List ℕ) (at : ℕ) → leWord m (x ∷ s) (at + 1) ≡ leWord m s at
+leWord-tail zero x s at = refl
+leWord-tail (suc m) x s at = rw (leWord-tail m x s (at + 1), add-one at)
+
+leWord-past : (m : ℕ) (s : List ℕ) (at : ℕ) → length s ≤ at → leWord m s at ≡ 0
+leWord-past zero s at h = refl
+leWord-past (suc m) s at h = omega (arith, List·getD-eq-default s 0 h, leWord-past m s (at + 1) (omega arith))
+
+-- a word that is no more than n bytes
+leWord-leBytes : (m n v : ℕ) → n ≤ m → v < 2 ^ (8 * n) → leWord m (leBytes n v) 0 ≡ v
+leWord-leBytes m zero v h b = leWord-past m [] 0 (omega arith) ∙ omega arith
+leWord-leBytes zero (suc n) v h b = absurd (not-suc-le-zero h)
+leWord-leBytes (suc m) (suc n) v h b =
+    let e : 8 * suc n ≡ 8 * n + 8 = omega arith in
+    let p : v / 256 < 2 ^ (8 * n) = shr-lt (8 * n) 8 (rw e at b) in
+    let q = leWord-leBytes m n (v / 256) (omega arith) p in
+    omega (arith, leWord-tail m (v % 256) (leBytes n (v / 256)) 0 ∙ q)
+
+key-is : (k : Key) (a b c d e f g : ℕ) → a ≡ k .len → b ≡ k .w0 → c ≡ k .w1 → d ≡ k .w2 → e ≡ k .w3 → f ≡ k .w4 → g ≡ k .w5
+    → _≡_ {A = Key} (record { len = a; w0 = b; w1 = c; w2 = d; w3 = e; w4 = f; w5 = g }) k
+key-is k a b c d e f g p q r s t u v = rw (p, q, r, s, t, u, v)
+
+module _ (k : Key) (z₁ : k .w1 ≡ 0) (z₂ : k .w2 ≡ 0) (z₃ : k .w3 ≡ 0) (z₄ : k .w4 ≡ 0) (z₅ : k .w5 ≡ 0) where
+  short-bytes : k .len ≤ 8 → unpackOf k ≡ leBytes (k .len) (k .w0)
+  unfolding unpackOf allBytes
+  short-bytes h =
+      let m : min (k .len) 48 ≡ k .len = omega arith in
+      rw m (take-bytes 8 (k .len) (k .w0) _ h)
+
+  short-packed : k .len ≤ 8 → k .w0 < 2 ^ (8 * k .len) → isPacked k ≡ true
+  unfolding packOf
+  short-packed h b =
+      let l : length (leBytes (k .len) (k .w0)) ≤ 8 = omega (arith, length-bytes (k .len) (k .w0)) in
+      let past : (at : ℕ) → 8 ≤ at → (w : ℕ) → w ≡ 0 → leWord 8 (leBytes (k .len) (k .w0)) at ≡ w = λ at g w z. leWord-past 8 (leBytes (k .len) (k .w0)) at (omega arith) ∙ sym z in
+      let e : packOf (unpackOf k) ≡ k =
+      ap packOf (short-bytes h)
+      ∙ key-is k _ _ _ _ _ _ _ (length-bytes (k .len) (k .w0)) (leWord-leBytes 8 (k .len) (k .w0) h b)
+      (past 8 (omega arith) _ z₁) (past 16 (omega arith) _ z₂) (past 24 (omega arith) _ z₃) (past 32 (omega arith) _ z₄) (past 40 (omega arith) _ z₅) in
+      rw e (sameKey-refl k)
+
+  -- the word shifted by its bytes is 0, or it has eight
+  pub short-shifted : k .len < 8 → eqb (k .w0 / 2 ^ (8 * k .len)) 0 ≡ true → isPacked k ≡ true
+  short-shifted h q =
+      let o : k .w0 / 2 ^ (8 * k .len) < 1 = omega (arith, eqb-true (k .w0 / 2 ^ (8 * k .len)) 0 q) in
+      short-packed (omega arith) (rw (one-mul (2 ^ (8 * k .len))) at (div-lt-iff-lt-mul (pow-pos (8 * k .len)) .0 o))
+
+  pub short-eight : k .w0 < 2 ^ 64 → eqb (k .len) 8 ≡ true → isPacked k ≡ true
+  short-eight b q =
+      let n : k .len ≡ 8 = eqb-true (k .len) 8 q in
+      short-packed (omega arith) (rw n b)
+
 -- ---- back to bytes
 
 -- a word after a run: what six stores leave is one run
@@ -179,43 +243,49 @@ length-all : (k : Key) → length (allBytes k) ≡ 48
 unfolding allBytes
 length-all k = refl
 
+-- no bytes are more than 48
+packed-few : (k : Key) → isPacked k ≡ true → k .len ≤ 48
+unfolding packOf
+packed-few k q =
+    let d = ap (λ (x : Key). x .len) (sameKey-true (packOf (unpackOf k)) k q) in
+    omega (arith, d, short k)
+
+pub packed-long : (k : Key) → 48 < k .len → false ≡ isPacked k
+packed-long k h = go (isPacked k) refl
+  where
+    go : (u : Bool) → isPacked k ≡ u → false ≡ isPacked k
+    go false q = sym q
+    go true q = absurd (omega (arith, packed-few k q))
+
+unpacked-front : (k : Key) (t : List ℕ) → k .len ≤ 48 → take 48 t ≡ allBytes k → take (k .len) t ≡ unpackOf k
+unfolding unpackOf
+unpacked-front k t h e =
+    let m : min (k .len) 48 ≡ k .len = omega arith in
+    rw (m, ← e) (sym (take-take (k .len) 48 t h))
+
+-- in the words of the code: p is what was packed again, u what the comparison said
+pub packed-again : (k : Key) (t : List ℕ) (p : Key) (u : Bool) → k .len ≤ 48 → take 48 t ≡ allBytes k → p ≡ packOf (take (k .len) t) → u ≡ sameKey p k → u ≡ isPacked k
+packed-again k t p u h e again told = told ∙ rw (again, unpacked-front k t h e)
+
 module _ (k : Key) (s t : List ℕ) (fits : 48 ≤ length s) (e : t ≡ writes s 0 (allBytes k)) where
-  unpacked-front : k .len ≤ 48 → take (k .len) t ≡ unpackOf k
-  unfolding unpackOf
-  unpacked-front h =
-      let m : min (k .len) 48 ≡ k .len = omega arith in
+  pub stored-front : take 48 t ≡ allBytes k
+  stored-front =
       let l = length-all k in
-      rw (m, e) (front s (allBytes k) (k .len) (omega (arith, l)) (omega (arith, l)))
+      rw e (front s (allBytes k) 48 (omega (arith, l)) (omega (arith, l)) ∙ take-all 48 (allBytes k) (omega (arith, l)))
 
-  shown-foreign : isPacked k ≡ false → none ≡ atMost48 (bytesOf k)
-  unfolding bytesOf
-  shown-foreign p = rw p
-
-  shown-packed : isPacked k ≡ true → _≡_ {A = Option (List ℕ)} (some (unpackOf k)) (atMost48 (bytesOf k))
-  unfolding bytesOf
-  shown-packed p = rw (p, le-leb (length (unpackOf k)) 48 (short k))
-
-  -- in the words of the code: p is what was packed again, u what the comparison said
-  module _ (h : k .len ≤ 48) (p : Key) (u : Bool) (again : p ≡ packOf (take (k .len) t)) (told : u ≡ sameKey p k) where
-    packed-is : isPacked k ≡ u
-    packed-is = sym (told ∙ rw (again, unpacked-front h))
-
+  module _ (u : Bool) (told : u ≡ isPacked k) where
     pub unpack-yes : u ≡ true → _≡_ {A = Option (List ℕ)} (some (take (k .len) t)) (atMost48 (bytesOf k))
-    unpack-yes q = rw (unpacked-front h) (shown-packed (packed-is ∙ q))
+    unfolding bytesOf
+    unpack-yes q =
+        let p : isPacked k ≡ true = sym told ∙ q in
+        rw (p, unpacked-front k t (packed-few k p) stored-front, le-leb (length (unpackOf k)) 48 (short k))
+
+    pub unpack-few : u ≡ true → k .len ≤ 48
+    unpack-few q = packed-few k (sym told ∙ q)
 
     pub unpack-no : u ≡ false → none ≡ atMost48 (bytesOf k)
-    unpack-no q = shown-foreign (packed-is ∙ q)
-
-  -- a length above 48 is no bytes'
-  pub unpack-long : 48 < k .len → none ≡ atMost48 (bytesOf k)
-  unfolding packOf
-  unpack-long h = go (isPacked k) refl
-    where
-      go : (u : Bool) → isPacked k ≡ u → none ≡ atMost48 (bytesOf k)
-      go false q = shown-foreign q
-      go true q =
-          let d = ap (λ (x : Key). x .len) (sameKey-true (packOf (unpackOf k)) k q) in
-          absurd (omega (arith, d, short k))
+    unfolding bytesOf
+    unpack-no q = rw (sym told ∙ q)
 
 -- ---- a key that no bytes are does not read
 

@@ -3,7 +3,7 @@ use mathlib.Core.Path.{_≡_}
 use mathlib.Core.Bool.{Bool}
 use mathlib.Core.List.{List, [], _∷_, _++_}
 use mathlib.Core.Option.{Option, none, some}
-use Prim.Native.Nat.{ℕ, zero, suc, _+_, _*_, _/_, _%_, min}
+use Prim.Native.Nat.{ℕ, zero, suc, _+_, _*_, _/_, _%_, _≤_, min}
 use lib.Dec.{leb}
 use lib.ListN.{length, getD, take, replicate}
 use Rattle.words.specs.Choice.{if_then_else_}
@@ -74,7 +74,12 @@ abbrev pub bytesIn : Unpacked → List ℕ → Option (List ℕ)
 bytesIn (unpacked.Bytes n) t = some (take n t)
 bytesIn unpacked.Foreign t = none
 
+abbrev pub sizeIn : Unpacked → ℕ
+sizeIn (unpacked.Bytes n) = n
+sizeIn unpacked.Foreign = 0
+
 -- 48 bytes are stored, and the key's own are the first of them
 pub record Unpacks (k : Key) (s t : List ℕ) (r : Unpacked) : Type 0 where
   pub stored : t ≡ writes s 0 (allBytes k)
   pub told : bytesIn r t ≡ atMost48 (bytesOf k)
+  pub few : sizeIn r ≤ 48

@@ -1,11 +1,12 @@
 // A key of at most 48 bytes as seven words: its length, and its bytes, eight to a word, 0 past its end.
 use words::wide;
 ghost use mathlib.Core.Path.{_≡_};
+ghost use mathlib.Core.Bool.{true};
 ghost use Prim.Native.Nat.{_+_, _<_, _≤_, _%_};
-ghost use lib.ListN.{length, getD};
+ghost use lib.ListN.{length, getD, take};
 ghost use Rattle.words.specs.Writes.{writes};
 ghost use Rattle.keys.specs.Same.{sameBytes};
-ghost use Rattle.packed.specs.Key.{keyAt, wordsOf, sameKey, packOf, leWord, leBytes, bytesOf, keyIn, atMost48, Unpacks, allBytes};
+ghost use Rattle.packed.specs.Key.{keyAt, wordsOf, sameKey, packOf, leWord, leBytes, bytesOf, keyIn, atMost48, Unpacks, allBytes, isPacked};
 
 pub struct Key {
     pub len: u64,
@@ -209,18 +210,62 @@ fn put_words(out: &mut [u8], k: Key)
     put_word(out, 40, k.w5);
 }
 
+// At most eight bytes, as most keys are, and nothing past them: such words are some bytes'.
+fn is_short(k: Key) -> bool
+    ensures { λ r. ⌜ (r ≡ true → isPacked k ≡ true) ⌝ }
+{
+    if k.w1 != 0 {
+        return false;
+    }
+    if k.w2 != 0 {
+        return false;
+    }
+    if k.w3 != 0 {
+        return false;
+    }
+    if k.w4 != 0 {
+        return false;
+    }
+    if k.w5 != 0 {
+        return false;
+    }
+    if k.len < 8 {
+        return k.w0 >> (8 * k.len) == 0;
+    }
+    k.len == 8
+}
+
+// The words' bytes stand in out: whether they pack to these words again.
+fn packs_back(k: Key, out: &[u8]) -> bool
+    requires { ⌜ (48 ≤ length (now out)) × (take 48 (now out) ≡ allBytes k) ⌝ }
+    ensures { λ r. ⌜ r ≡ isPacked k ⌝ }
+{
+    if 48 < k.len {
+        return false;
+    }
+    let n = k.len as usize;
+    same_words(key_of(&out[0..n]), k)
+}
+
+// Whether the words are some bytes'.
+fn is_packed(k: Key, out: &[u8]) -> bool
+    requires { ⌜ (48 ≤ length (now out)) × (take 48 (now out) ≡ allBytes k) ⌝ }
+    ensures { λ r. ⌜ r ≡ isPacked k ⌝ }
+{
+    if is_short(k) {
+        return true;
+    }
+    packs_back(k, out)
+}
+
 // The bytes of a key, at the front of the first 48 of out.
 pub fn unpack(k: Key, out: &mut [u8]) -> Unpacked
     requires { ⌜ 48 ≤ length (now out) ⌝ }
     ensures { λ r. ⌜ Unpacks k (now (out .entry)) (now (out .exit)) r ⌝ }
 {
     put_words(out, k);
-    if 48 < k.len {
-        return Unpacked::Foreign;
-    }
-    let n = k.len as usize;
-    if same_words(key_of(&out[0..n]), k) {
-        return Unpacked::Bytes(n);
+    if is_packed(k, out) {
+        return Unpacked::Bytes(k.len as usize);
     }
     Unpacked::Foreign
 }
