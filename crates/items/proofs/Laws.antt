@@ -260,11 +260,16 @@ get-encoded area xs i d l h f =
     let r : run 6 (writes area 0 ws) (i * 6) ≡ run 6 ws (i * 6) = run-agrees 6 (writes area 0 ws) ws (i * 6) (λ j a b. rw (zero-add j) at (writes-same area 0 ws j (omega arith) (omega arith))) in
     words-at (writes area 0 ws) i (getD xs i d) k (r ∙ encode-run xs i d h) f
 
--- one more item after those that stand there
+-- one more item after those that stand from a place on
+pub put-after : (area : List ℕ) (place : ℕ) (xs : List Item) (x : Item) → place + length xs < places area
+    → putItem (writes area (place * 6) (encode xs)) (place + length xs) x .area ≡ writes area (place * 6) (encode (xs ++ (x ∷ [])))
+put-after area place xs x h =
+    let ws : List ℕ = encode xs in
+    let k : place + length xs < places (writes area (place * 6) ws) = rw (length-writes area (place * 6) ws) h in
+    let e : (place + length xs) * 6 ≡ place * 6 + length ws = omega (arith, length-encode xs) in
+    put-area (writes area (place * 6) ws) (place + length xs) x k ∙ rw (e, encode-snoc xs x) (writes-append area (place * 6) ws (itemWords x))
+
+-- from the start on
 pub put-encoded : (area : List ℕ) (xs : List Item) (x : Item) → length xs < places area
     → putItem (writes area 0 (encode xs)) (length xs) x .area ≡ writes area 0 (encode (xs ++ (x ∷ [])))
-put-encoded area xs x h =
-    let ws : List ℕ = encode xs in
-    let k : length xs < places (writes area 0 ws) = rw (length-writes area 0 ws) h in
-    let e : length xs * 6 ≡ 0 + length ws = omega (arith, length-encode xs) in
-    put-area (writes area 0 ws) (length xs) x k ∙ rw (e, encode-snoc xs x) (writes-append area 0 ws (itemWords x))
+put-encoded area xs x h = rw (zero-add (length xs)) at (put-after area 0 xs x (rw (zero-add (length xs)) h))

@@ -11,7 +11,7 @@ use lib.Dec.{ltb}
 use lib.ListN.{length, getD, set, take, length-set}
 use lib.Seq.{getD-set-same, getD-set-other, take-suc-set}
 use borrow.Author.Tests.{le-ltb, eq-eqb, ne-eqb, not-true, not-false}
-use Rattle.words.specs.Tab.{tab, getD-tab, tab-set, tab-snoc}
+use Rattle.words.specs.Tab.{tab, getD-tab, tab-set, tab-snoc, map-tab}
 use Rattle.bodega.specs.Replica.{Replica, pair, freshPair, withPeerAccept}
 use Rattle.bodega.specs.Conflease.{newer, counted, guardAcceptBar, updatePeerAcceptMax}
 use Rattle.peers.specs.Pairs.{pairsOf, peerAccept, acceptMax, guarded}
@@ -36,10 +36,6 @@ is-newer p n i number bar t h e = rw (pair-at p n i h) e
 
 pub fill : (f : ℕ → ℕ) (b : List ℕ) (i v : ℕ) → i < length b → v ≡ f i → take i b ≡ tab f 0 i → take (i + 1) (set b i v) ≡ tab f 0 (i + 1)
 fill f b i v h e k = rw (tab-snoc f 0 i, zero-add i, ← e, ← k, add-one i) (take-suc-set b i v h)
-
-map-tab : {A B : Type 0} (f : A → B) (g : ℕ → A) (i n : ℕ) → map f (tab g i n) ≡ tab (λ j. f (g j)) i n
-map-tab f g i zero = refl
-map-tab {B = B} f g i (suc n) = ap (λ (l : List B). f (g i) ∷ l) (map-tab f g (i + 1) n)
 
 abbrev pub barAt : List ℕ → ℕ → ℕ → ℕ
 barAt p ballot i = counted ballot (pair (getD p i 0) (getD p (64 + i) 0))

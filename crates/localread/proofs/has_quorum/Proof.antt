@@ -1,0 +1,30 @@
+use Rattle.localread.proofs.Laws as law
+use borrow.Author.Needs.{needs}
+use Rattle.localread.proofs.has_quorum.Statement.{statement}
+use Rattle.localread.proofs.has_quorum.Tie as tie
+use Rattle.localread.proofs.has_quorum.Reads as reads
+use Rattle.localread.proofs.has_quorum.Lts as lts
+use Rattle.bitmap.proofs.count.Reads as count-reads
+use Rattle.words.proofs.wide.Reads as wide-reads
+
+enum-known-book : tie.Need-enum-known-book
+enum-known-book c = search needs
+
+enum-told : tie.Need-enum-told
+enum-told c = search needs
+
+returns : tie.Need-returns
+returns c = search needs
+
+wide-requires : tie.Need-wide-requires
+wide-requires c κs = search needs
+
+count-requires : tie.Need-count-requires
+count-requires c κs = search needs
+
+returns-2 : tie.Need-returns-2
+returns-2 c = let a = c .before .before .before in law.quorum-is (a .before .before .args .book) _ _ _ _ (a .book .given .1) (c .before .wide .ensures) (c .count .ensures)
+
+pub has-quorum-spec : {M : Type 1} → statement M
+has-quorum-spec =
+    tie.close (tie.spec enum-known-book enum-told returns wide-requires count-requires returns-2)
