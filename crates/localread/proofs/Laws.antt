@@ -7,7 +7,7 @@ use Prim.Native.Nat.{ℕ, _+_, _*_, _≤_, _<_}
 use native.Mathlib.Nat.{zero-add}
 use native.Mathlib.Omega.{arith}
 use lib.Dec.{leb}
-use lib.ListN.{length, take, drop}
+use lib.ListN.{length, take, drop, length-map}
 use Rattle.words.specs.Choice.{if_then_else_, ifNone_then_else_}
 use Rattle.words.specs.Tab.{tab, length-tab, tab-snoc, map-tab}
 use Rattle.words.specs.Part.{part}
@@ -105,6 +105,9 @@ all-items f area s at i n g h e = let z : i ≡ n = omega arith in rw z at e
 
 -- ---- the slot at place c
 
+pub length-answers : (quorum : ℕ) (leader : Option ℕ) (i : machine.Instance) → length (answersOf quorum leader i) ≡ length (holdingOf i)
+length-answers quorum leader i = length-map (holdingOf i) (answerTo (isBound quorum i) leader (i .reqs))
+
 module _ (s : List ℕ) (c : ℕ) (cell : Cell) (e : cellOf cell ≡ shortAt s c) where
   book-here : shortAt s c .replicaBk ≡ bookOf (cell .«replica_bk»)
   book-here = sym (ap (λ (x : Short). x .replicaBk) e)
@@ -156,9 +159,9 @@ module _ (quorum : ℕ) (leader : Option ℕ) (s area : List ℕ) (c place n : �
       record {
         count = sym (ap (λ (z : List Item). length z) answers-are ∙ length-tab answerAt 0 n);
         items =
-          w
-          ∙ ap (λ (j : ℕ). writes area (place * 6) (encode (tab (λ i. answerTo bound leader (requestsOf (take j (drop (256 + c * 89) s))) (readAt (take l (drop (3104 + c * 145) s)) i)) 0 n))) x
-          ∙ ap (λ (j : ℕ). writes area (place * 6) (encode (tab (λ i. answerTo bound leader (batchAt s c) (readAt (take j (drop (3104 + c * 145) s)) i)) 0 n))) y
-          ∙ ap (λ (z : List Item). writes area (place * 6) (encode z)) (sym answers-are);
+            w
+            ∙ ap (λ (j : ℕ). writes area (place * 6) (encode (tab (λ i. answerTo bound leader (requestsOf (take j (drop (256 + c * 89) s))) (readAt (take l (drop (3104 + c * 145) s)) i)) 0 n))) x
+            ∙ ap (λ (j : ℕ). writes area (place * 6) (encode (tab (λ i. answerTo bound leader (batchAt s c) (readAt (take j (drop (3104 + c * 145) s)) i)) 0 n))) y
+            ∙ ap (λ (z : List Item). writes area (place * 6) (encode z)) (sym answers-are);
         emptied = p;
       }

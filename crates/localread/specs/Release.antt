@@ -8,7 +8,7 @@ use lib.ListN.{length}
 use Rattle.words.specs.Choice.{if_then_else_, ifNone_then_else_}
 use Rattle.words.specs.Writes.{writes}
 use Rattle.items.specs.Item.{Item, Value, Retry, encode}
-use Rattle.bodega.specs.Replica.{Request, ReadReq, Instance}
+use Rattle.bodega.specs.Replica.{Request, ReadReq, Instance, withReplicaBk, withHolding}
 use Rattle.bodega.specs.Localread.{isBound, lastPut}
 use Rattle.slots.specs.Slots.{shortAt, batchAt, instIn, Puts}
 
@@ -24,6 +24,10 @@ holdingOf i = ifNone i .replicaBk then [] else λ b. b .holding
 
 abbrev pub answersOf : ℕ → Option ℕ → Instance → List Item
 answersOf quorum leader i = map (answerTo (isBound quorum i) leader (i .reqs)) (holdingOf i)
+
+-- the slot without them
+abbrev pub emptied : Instance → Instance
+emptied i = ifNone i .replicaBk then i else λ b. withReplicaBk (withHolding [] b) i
 
 -- what a release of the slot at place c comes to: so many items r, the slots' words t, and the area after
 pub record Releases (quorum : ℕ) (leader : Option ℕ) (c place : ℕ) (s area : List ℕ) (r : ℕ) (t area′ : List ℕ) : Type 0 where

@@ -4,9 +4,6 @@ use borrow.Author.Needs.{needs}
 use Rattle.localread.proofs.Laws as law
 use Rattle.localread.proofs.answer_to.Statement.{statement}
 use Rattle.localread.proofs.answer_to.Tie as tie
-use Rattle.localread.proofs.answer_to.Reads as reads
-use Rattle.localread.proofs.answer_to.Lts as lts
-use Rattle.batch.proofs.last_put.Reads as last-put-reads
 
 returns : tie.Need-returns
 returns c = let a = c .before .before .args in law.open-retry (a .bound) _ (requestsOf (a .batch .now)) (readOf (a .read)) (c .if1 .taken)

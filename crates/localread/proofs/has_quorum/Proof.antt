@@ -2,10 +2,6 @@ use Rattle.localread.proofs.Laws as law
 use borrow.Author.Needs.{needs}
 use Rattle.localread.proofs.has_quorum.Statement.{statement}
 use Rattle.localread.proofs.has_quorum.Tie as tie
-use Rattle.localread.proofs.has_quorum.Reads as reads
-use Rattle.localread.proofs.has_quorum.Lts as lts
-use Rattle.bitmap.proofs.count.Reads as count-reads
-use Rattle.words.proofs.wide.Reads as wide-reads
 
 enum-known-book : tie.Need-enum-known-book
 enum-known-book c = search needs

@@ -4,10 +4,6 @@ use Prim.Native.Nat.{_+_, _*_}
 use borrow.Author.Needs.{needs}
 use Rattle.localread.proofs.holding.Statement.{statement}
 use Rattle.localread.proofs.holding.Tie as tie
-use Rattle.localread.proofs.holding.Reads as reads
-use Rattle.localread.proofs.holding.Lts as lts
-use Rattle.held.proofs.count.Reads as count-reads
-use Rattle.slots.proofs.load.Reads as load-reads
 
 load-requires : tie.Need-load-requires
 load-requires c κs = search needs

@@ -2,9 +2,6 @@ use Rattle.localread.proofs.Laws as law
 use borrow.Author.Needs.{needs}
 use Rattle.localread.proofs.is_bound.Statement.{statement}
 use Rattle.localread.proofs.is_bound.Tie as tie
-use Rattle.localread.proofs.is_bound.Reads as reads
-use Rattle.localread.proofs.is_bound.Lts as lts
-use Rattle.localread.proofs.has_quorum.Reads as has-quorum-reads
 
 enum-told : tie.Need-enum-told
 enum-told c = search needs

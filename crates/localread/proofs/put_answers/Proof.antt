@@ -16,11 +16,6 @@ use Rattle.held.specs.Held.{readAt}
 use Rattle.localread.specs.Release.{answerTo}
 use Rattle.localread.proofs.put_answers.Statement.{statement}
 use Rattle.localread.proofs.put_answers.Tie as tie
-use Rattle.localread.proofs.put_answers.Reads as reads
-use Rattle.localread.proofs.put_answers.Lts as lts
-use Rattle.held.proofs.get.Reads as get-reads
-use Rattle.items.proofs.put_item.Reads as put-item-reads
-use Rattle.localread.proofs.answer_to.Reads as answer-to-reads
 
 abbrev answerAt : Bool → Leader → List ℕ → List ℕ → ℕ → Item
 answerAt bound leader batch reads i = answerTo bound (leaderOf leader) (requestsOf batch) (readAt reads i)
@@ -53,7 +48,7 @@ loop-less : tie.Need-loop-less Inv-loop μ-loop
 loop-less c = search needs
 
 loop-again : tie.Need-loop-again Inv-loop μ-loop
-loop-again c = 
+loop-again c =
     let put = c .before .before in
     let b = put .before .before .before .before in
     let l = b .before .loop in
@@ -68,7 +63,7 @@ same-length : tie.Need-same-length Inv-loop μ-loop
 same-length c = search needs
 
 returns : tie.Need-returns Inv-loop μ-loop
-returns c = 
+returns c =
     let l = c .before .loop in
     let start = c .before .before .before .before .before in
     let a = start .args in

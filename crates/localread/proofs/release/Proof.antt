@@ -4,13 +4,6 @@ use Prim.Native.Nat.{_+_, _*_}
 use borrow.Author.Needs.{needs}
 use Rattle.localread.proofs.release.Statement.{statement}
 use Rattle.localread.proofs.release.Tie as tie
-use Rattle.localread.proofs.release.Reads as reads
-use Rattle.localread.proofs.release.Lts as lts
-use Rattle.localread.proofs.holding.Reads as holding-reads
-use Rattle.localread.proofs.is_bound.Reads as is-bound-reads
-use Rattle.localread.proofs.put_answers.Reads as put-answers-reads
-use Rattle.slots.proofs.clear_reads.Reads as clear-reads-reads
-use Rattle.slots.proofs.load.Reads as load-reads
 
 holding-requires : tie.Need-holding-requires
 holding-requires c κs = search needs

@@ -1,0 +1,63 @@
+// The call *release*: the reads that a slot holds are answered, and its queue is emptied.
+use ids::Slot;
+use node::Answered;
+use node::Node;
+ghost use mathlib.Core.Path.{_≡_};
+ghost use Rattle.bodega.specs.Replica.{Release};
+ghost use Rattle.bodega.specs.Answers.{Answers};
+ghost use Rattle.node.specs.View.{view, ready, givenOf};
+ghost use Rattle.release.specs.Release.{releaseRefusal};
+
+// The number of a release's refusal but 20, 0 where there is none.
+fn release_refusal(start: u64, slots: usize, slot: u64) -> u64
+    ensures { λ r. ⌜ r ≡ releaseRefusal start slots slot ⌝ }
+{
+    if 0xffff_ffff_ffff < slot {
+        return 8;
+    }
+    if slot < start {
+        return 16;
+    }
+    if slots as u64 <= slot - start {
+        return 16;
+    }
+    0
+}
+
+pub fn release(node: Node, mem: &mut [u64], area: &mut [u64], slot: Slot) -> Answered
+    ensures { λ r. ⌜ Answers ready view (Release (slot .0)) node (now (mem .entry)) (now (area .entry)) (givenOf r) (now (mem .exit)) (now (area .exit)) ⌝ }
+{
+    if !node::is_ready(node, mem) {
+        return Answered {
+            number: 2,
+            count: 0,
+            node,
+        };
+    }
+    let start = node.start_slot;
+    let refusal = release_refusal(start.0, node.slots, slot.0);
+    if refusal != 0 {
+        return Answered {
+            number: refusal,
+            count: 0,
+            node,
+        };
+    }
+    let c = (slot.0 % 32) as usize;
+    let held = localread::holding(&mem[512..8256], c);
+    if area.len() / 6 < held {
+        return Answered {
+            number: 20,
+            count: 0,
+            node,
+        };
+    }
+    let conf = node.bodega_conf;
+    let leader = conf.leader;
+    let count = localread::release(&mut mem[512..8256], c, node.quorum, leader, area, 0);
+    Answered {
+        number: 0,
+        count,
+        node,
+    }
+}
