@@ -3,7 +3,7 @@ use mathlib.Core.Path.{_≡_, refl, sym, ap, _∙_}
 use mathlib.Core.Bool.{Bool, true, false, _&&_}
 use mathlib.Core.Logic.{inl, inr}
 use mathlib.Core.List.{List, _∷_, _++_, []}
-use mathlib.Core.Option.{some}
+use mathlib.Core.Option.{Option, none, some}
 use Prim.Native.Nat.{ℕ, zero, suc, _+_, _-_, _*_, _^_, _≤_, _<_}
 use native.Mathlib.Numerals.{add-one}
 use native.Mathlib.Nat.{lt-of-le-of-lt, lt-of-lt-of-le, lt-irrefl}
@@ -28,7 +28,9 @@ use Rattle.keyrange.specs.declared.Cut.{Cut}
 use Rattle.keyrange.specs.declared.Cut.the-variants.{Below, Above, Without}
 use Rattle.keyrange.specs.declared.Stored.{Stored}
 use Rattle.keyrange.specs.declared.Stored.the-variants.{Rows, Full}
-use Rattle.keyrange.specs.Rows.{rangeOf, rowWords, rangeAt, rangesOf, extendsLast, kept, Stores}
+use Rattle.keyrange.specs.declared.Lookup.{Lookup}
+use Rattle.keyrange.specs.declared.Lookup.the-variants.{Mask, Nothing}
+use Rattle.keyrange.specs.Rows.{rangeOf, rowWords, rangeAt, rangesOf, maskIn, extendsLast, kept, Stores}
 
 -- ---- rows
 
@@ -115,22 +117,30 @@ above-row r x v t e f g = rw (← e) (sym (simp (lt-leb v (r .to) (ltb-true (r .
 pub below-row : (r x : Range) (v : ℕ) (u : Bool) → r ≡ x → u ≡ ltb v (r .from) → u ≡ true → false ≡ inside x v
 below-row r x v u e f g = rw (← e) (sym (simp (lt-leb (r .from) v (ltb-true v (r .from) (sym f ∙ g)))))
 
-pub from-start : (s : List ℕ) (n d v : ℕ) → maskAt d (rowsFrom s 0 n) v ≡ maskAt d (rangesOf s n) v
-from-start s n d v = ap (λ (l : List Range). maskAt d l v) (from-all s n)
+pub from-start : (s : List ℕ) (n v : ℕ) → at (rowsFrom s 0 n) v ≡ at (rangesOf s n) v
+from-start s n v = ap (λ (l : List Range). at l v) (from-all s n)
 
-module _ (s : List ℕ) (n d v i : ℕ) (m : ℕ) where
-  pub found : (t : Bool) (k : ℕ) → i < n → t ≡ inside (rangeAt s (i * 5)) v → t ≡ true → k ≡ rangeAt s (i * 5) .mask → maskAt d (rowsFrom s i n) v ≡ m → k ≡ m
+module _ (s : List ℕ) (n v i : ℕ) (o : Option ℕ) where
+  pub found : (t : Bool) (k : ℕ) → i < n → t ≡ inside (rangeAt s (i * 5)) v → t ≡ true → k ≡ rangeAt s (i * 5) .mask → at (rowsFrom s i n) v ≡ o → some k ≡ o
   found t k h e f q g =
-      q ∙ sym (ap (λ (b : Bool). ifNone if b then some (rangeAt s (i * 5) .mask) else at (rowsFrom s (i + 1) n) v then d else λ x. x) (sym e ∙ f))
-      ∙ sym (ap (λ (l : List Range). maskAt d l v) (from-first s i n h)) ∙ g
+      ap some q ∙ sym (ap (λ (b : Bool). if b then some (rangeAt s (i * 5) .mask) else at (rowsFrom s (i + 1) n) v) (sym e ∙ f))
+      ∙ sym (ap (λ (l : List Range). at l v) (from-first s i n h)) ∙ g
 
-  pub passed : (t : Bool) → i < n → t ≡ inside (rangeAt s (i * 5)) v → t ≡ false → maskAt d (rowsFrom s i n) v ≡ m → maskAt d (rowsFrom s (i + 1) n) v ≡ m
+  pub passed : (t : Bool) → i < n → t ≡ inside (rangeAt s (i * 5)) v → t ≡ false → at (rowsFrom s i n) v ≡ o → at (rowsFrom s (i + 1) n) v ≡ o
   passed t h e f g =
-      sym (ap (λ (b : Bool). ifNone if b then some (rangeAt s (i * 5) .mask) else at (rowsFrom s (i + 1) n) v then d else λ x. x) (sym e ∙ f))
-      ∙ sym (ap (λ (l : List Range). maskAt d l v) (from-first s i n h)) ∙ g
+      sym (ap (λ (b : Bool). if b then some (rangeAt s (i * 5) .mask) else at (rowsFrom s (i + 1) n) v) (sym e ∙ f))
+      ∙ sym (ap (λ (l : List Range). at l v) (from-first s i n h)) ∙ g
 
-  pub lost : n ≤ i → maskAt d (rowsFrom s i n) v ≡ m → d ≡ m
-  lost h g = sym (ap (λ (l : List Range). maskAt d l v) (from-none s i n h)) ∙ g
+  pub lost : n ≤ i → at (rowsFrom s i n) v ≡ o → none ≡ o
+  lost h g = sym (ap (λ (l : List Range). at l v) (from-none s i n h)) ∙ g
+
+-- the mask where one is stored, and the default where none is
+module _ (d v : ℕ) (l : List Range) (r : Lookup) (e : maskIn r ≡ at l v) where
+  pub mask-found : (m : ℕ) → r ≡ Mask m → m ≡ maskAt d l v
+  mask-found m f = ap (λ (x : Lookup). ifNone maskIn x then d else λ k. k) (sym f) ∙ ap (λ (o : Option ℕ). ifNone o then d else λ k. k) e
+
+  pub mask-default : r ≡ Nothing → d ≡ maskAt d l v
+  mask-default f = ap (λ (x : Lookup). ifNone maskIn x then d else λ k. k) (sym f) ∙ ap (λ (o : Option ℕ). ifNone o then d else λ k. k) e
 
 -- ---- a push
 

@@ -17,6 +17,8 @@ use Rattle.keyrange.specs.declared.Cut.{Cut}
 use Rattle.keyrange.specs.declared.Cut.the-variants.{Below, Above, Without}
 use Rattle.keyrange.specs.declared.Stored.{Stored}
 use Rattle.keyrange.specs.declared.Stored.the-variants.{Rows, Full}
+use Rattle.keyrange.specs.declared.Lookup.{Lookup}
+use Rattle.keyrange.specs.declared.Lookup.the-variants.{Mask, Nothing}
 
 abbrev pub rangeOf : Row → Range
 rangeOf r = record { from = valueOf (r .start); to = valueOf (r .end); mask = r .mask }
@@ -36,6 +38,10 @@ rangeAt s p =
 -- the first n rows
 unfoldable pub rangesOf : List ℕ → ℕ → List Range
 rangesOf s n = tab (λ i. rangeAt s (i * 5)) 0 n
+
+abbrev pub maskIn : Lookup → Option ℕ
+maskIn (Mask m) = some m
+maskIn Nothing = none
 
 -- whether r goes on from the last range
 abbrev pub extendsLast : List Range → Range → Bool

@@ -8,9 +8,9 @@ ghost use Prim.Native.Nat.{ℕ, _+_, _*_, _<_, _≤_};
 ghost use lib.ListN.{length, take};
 ghost use Rattle.words.specs.Writes.{writes};
 ghost use Rattle.inty.specs.Value.{valueOf};
-ghost use Rattle.ranges.specs.Range.{inside, maskAt, goesOn, joined, push as pushed, pushAll, cutBelow, cutAbove, below, above, each, overwrite, remask, remasked};
+ghost use Rattle.ranges.specs.Range.{inside, at, maskAt, goesOn, joined, push as pushed, pushAll, cutBelow, cutAbove, below, above, each, overwrite, remask, remasked};
 ghost use Rattle.bitmap.specs.Bitmap.{setTo};
-ghost use Rattle.keyrange.specs.Rows.{rangeOf, rowWords, rangeAt, rangesOf, extendsLast, kept, Stores, Untouched};
+ghost use Rattle.keyrange.specs.Rows.{rangeOf, rowWords, rangeAt, rangesOf, maskIn, extendsLast, kept, Stores, Untouched};
 
 pub struct Row {
     pub start: Inty,
@@ -29,6 +29,12 @@ pub enum Cut {
 pub enum Stored {
     Rows(usize),
     Full,
+}
+
+// The mask that is stored at a key, where one is.
+pub enum Lookup {
+    Mask(u64),
+    Nothing,
 }
 
 pub fn get_row(rows: &[u64], i: usize) -> Row
@@ -97,19 +103,30 @@ fn mask_of(rows: &[u64], i: usize) -> u64
     rows[p4]
 }
 
-// The mask at n.
-pub fn get(rows: &[u64], count: usize, default: u64, n: Inty) -> u64
+// The mask stored at n.
+pub fn at(rows: &[u64], count: usize, n: Inty) -> Lookup
     requires { ⌜ count * 5 ≤ length (now rows) ⌝ }
-    ensures { λ r. ⌜ r ≡ maskAt default (rangesOf (now (rows .entry)) count) (valueOf n) ⌝ }
+    ensures { λ r. ⌜ maskIn r ≡ at (rangesOf (now (rows .entry)) count) (valueOf n) ⌝ }
 {
     let mut i = 0;
     while i < count {
         if holds(rows, i, n) {
-            return mask_of(rows, i);
+            return Lookup::Mask(mask_of(rows, i));
         }
         i += 1;
     }
-    default
+    Lookup::Nothing
+}
+
+// The mask at n, the default where none is stored.
+pub fn get(rows: &[u64], count: usize, default: u64, n: Inty) -> u64
+    requires { ⌜ count * 5 ≤ length (now rows) ⌝ }
+    ensures { λ r. ⌜ r ≡ maskAt default (rangesOf (now (rows .entry)) count) (valueOf n) ⌝ }
+{
+    let Lookup::Mask(mask) = at(rows, count, n) else {
+        return default;
+    };
+    mask
 }
 
 fn goes_on(x: Row, r: Row) -> bool

@@ -1,55 +1,22 @@
 use Rattle.keyrange.proofs.Laws as law
-use native.Mathlib.Omega.{arith}
 use borrow.Author.Needs.{needs}
-use mathlib.Core.Path.{_≡_}
-use Prim.Native.Nat.{_-_, _≤_}
-use Rattle.inty.specs.Value.{valueOf}
-use Rattle.ranges.specs.Range.{maskAt}
-use Rattle.keyrange.specs.Rows.{rangesOf}
 use Rattle.keyrange.proofs.get.Statement.{statement}
 use Rattle.keyrange.proofs.get.Tie as tie
 
-abbrev Inv-loop : tie.InvT-loop
-Inv-loop rows count default n i₀ i = (i ≤ count) × (maskAt default (law.rowsFrom rows i count) (valueOf n) ≡ maskAt default (rangesOf rows count) (valueOf n))
+at-requires : tie.Need-at-requires
+at-requires c κs = search needs
 
-abbrev μ-loop : tie.MeasureT-loop
-μ-loop rows count default n i₀ i = count - i
+enum-known-mask : tie.Need-enum-known-mask
+enum-known-mask c = search needs
 
-loop-holds : tie.Need-loop-holds Inv-loop μ-loop
-loop-holds c = (omega arith, law.from-start _ _ _ _)
+enum-told : tie.Need-enum-told
+enum-told c = search needs
 
-holds-requires : tie.Need-holds-requires Inv-loop μ-loop
-holds-requires c κs = search needs
+returns : tie.Need-returns
+returns c = search (needs, law.mask-default)
 
-mask-of-requires : tie.Need-mask-of-requires Inv-loop μ-loop
-mask-of-requires c κs = search needs
-
-returns : tie.Need-returns Inv-loop μ-loop
-returns c = search (needs, law.found)
-
-add-i : tie.Need-add-i Inv-loop μ-loop
-add-i c = search needs
-
-loop-less : tie.Need-loop-less Inv-loop μ-loop
-loop-less c = search needs
-
-loop-again : tie.Need-loop-again Inv-loop μ-loop
-loop-again c = (omega arith, search (needs, law.passed))
-
-returns-2 : tie.Need-returns-2 Inv-loop μ-loop
-returns-2 c = search (needs, law.lost)
+returns-2 : tie.Need-returns-2
+returns-2 c = search (needs, law.mask-found)
 
 pub get-spec : {M : Type 1} → statement M
-get-spec =
-    tie.close
-    (tie.spec
-    Inv-loop
-    μ-loop
-    loop-holds
-    holds-requires
-    mask-of-requires
-    returns
-    add-i
-    loop-less
-    loop-again
-    returns-2)
+get-spec = tie.close (tie.spec at-requires enum-known-mask enum-told returns returns-2)
