@@ -9,20 +9,21 @@ use native.Mathlib.Nat.{zero-add, not-suc-le-zero}
 use native.Mathlib.Decide.{decLt}
 use native.Mathlib.Numerals.{add-one}
 use native.Mathlib.Omega.{arith}
-use lib.ListN.{length, set, take, drop, replicate, getElem?, length-set}
+use lib.ListN.{length, set, take, drop, replicate, getElem?, length-set, length-append}
 use lib.Dec.{ltb}
 use lib.Seq.{take-length}
-use borrow.Author.Tests.{not-true, not-false}
+use borrow.Author.Tests.{le-leb, not-true, not-false}
 use Rattle.words.specs.Choice.{if_then_else_, ifNone_then_else_}
 use Rattle.words.specs.Tab.{tab, tab-ext, tab-set, tab-snoc, tab-shift, drop-tab, take-tab, elem-tab, elem-past, length-tab}
 use Rattle.words.specs.Part.{part, splice, part-here, part-before, part-after, length-splice, length-part, getD-splice, part-set-below}
 use Rattle.words.specs.Writes.{writes, length-writes, part-writes, writes-all}
 use Rattle.bodega.specs.Replica as machine
+use Rattle.bodega.specs.Localread.{lastPut}
 use Rattle.bodega.specs.Grounds.{any, holds}
 use Rattle.cells.specs.Cell.{Notices, Short, cellAt, cellWords, withStatus, hasBook}
 use Rattle.cells.proofs.Laws.{cell-same, cell-other, cell-near, status-same, status-other}
 use Rattle.batch.specs.Batch.{requestsOf}
-use Rattle.held.specs.Held.{readsOf}
+use Rattle.held.specs.Held.{readsOf, capped, Pushes}
 use Rattle.slots.specs.Slots.{slotWords, shortAt, batchAt, readsAt, instOf, instIn, instsOf, nullShort, SamePlace, Puts, bookOf}
 
 -- how long a part is that is lent from a to a + k
@@ -138,6 +139,35 @@ module _ (s : List ℕ) (c : ℕ) (h : slotWords ≤ length s) (b : c < 32) wher
     pub reads-cleared : n ≡ 145 → (readsOf w ≡ []) × (w ≡ set (take n (drop (3104 + c * 145) s)) 0 0) → Puts s c (shortAt s c) (batchAt s c) [] (splice s (3104 + c * 145) n w)
     reads-cleared k e =
         puts-reads n w k (ap length (e .1) ∙ length-set (take n (drop (3104 + c * 145) s)) 0 0 ∙ lent (3104 + c * 145) n (omega arith) ∙ k) [] (e .0)
+
+-- a push that has room
+kept-all : (r : Bool) (a b : List machine.ReadReq) → (if r then some a else none) ≡ some b → a ≡ b
+kept-all true a b e = cc
+kept-all false a b e = cc
+
+module _ (s : List ℕ) (c : ℕ) (h : slotWords ≤ length s) (b : c < 32) (n : ℕ) (k : n ≡ 145) where
+  lent-reads : take n (drop (3104 + c * 145) s) ≡ part s (3104 + c * 145) 145
+  unfolding part
+  lent-reads = ap (λ (j : ℕ). take j (drop (3104 + c * 145) s)) k
+
+  pub reads-counted : (r : ℕ) → (r ≡ length (readsOf (take n (drop (3104 + c * 145) s)))) × (r ≤ 16) → (r ≡ length (readsAt s c)) × (r ≤ 16)
+  unfolding readsAt
+  reads-counted r e = (e .0 ∙ ap (λ (l : List ℕ). length (readsOf l)) lent-reads, e .1)
+
+  pub read-pushed : (w : List ℕ) (x : machine.ReadReq) (r : Bool) → length w ≡ length (take n (drop (3104 + c * 145) s)) → length (readsAt s c) < 16
+      → Pushes (take n (drop (3104 + c * 145) s)) x r w → Puts s c (shortAt s c) (batchAt s c) (readsAt s c ++ (x ∷ [])) (splice s (3104 + c * 145) n w)
+  unfolding readsAt
+  read-pushed w x r l f p =
+      let e : length (readsOf (part s (3104 + c * 145) 145) ++ (x ∷ [])) ≤ 16 = simp length-append (omega arith) in
+      let q : (if r then some (readsOf w) else none) ≡ some (readsOf (part s (3104 + c * 145) 145) ++ (x ∷ [])) =
+      p .outcome ∙ ap (λ (y : List ℕ). capped (readsOf y ++ (x ∷ []))) lent-reads
+      ∙ rw (le-leb (length (readsOf (part s (3104 + c * 145) 145) ++ (x ∷ []))) 16 e) in
+      puts-reads s c h b n w k (l ∙ lent s c h b (3104 + c * 145) n (omega arith) ∙ k) (readsAt s c ++ (x ∷ []))
+      (kept-all r (readsOf w) (readsOf (part s (3104 + c * 145) 145) ++ (x ∷ [])) q)
+
+pub last-put-at : (s : List ℕ) (c n : ℕ) (key : List ℕ) (o : Option ℕ) → n ≡ 89 → o ≡ lastPut key (requestsOf (take n (drop (256 + c * 89) s))) → o ≡ lastPut key (batchAt s c)
+unfolding batchAt part
+last-put-at s c n key o k e = e ∙ ap (λ (j : ℕ). lastPut key (requestsOf (take j (drop (256 + c * 89) s)))) k
 
 -- ---- one change after another
 

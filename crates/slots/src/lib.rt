@@ -1,16 +1,22 @@
 // The slots that a replica holds, in 7,744 lent words: cells, batches and held reads. Slot s has place s % 32.
+use batch::Latest;
 use cells::Cell;
 use cells::LeaderBk;
 use cells::ReplicaBk;
 use cells::Status;
+use held::ReadReq;
 use ids::Ballot;
+use packed::Key;
 ghost use mathlib.Core.Path.{_≡_};
-ghost use mathlib.Core.List.{[], _++_};
+ghost use mathlib.Core.List.{[], _∷_, _++_};
 ghost use Prim.Native.Nat.{_-_, _≤_, _<_};
 ghost use lib.ListN.{length, replicate};
 ghost use Rattle.bodega.specs.Replica.{nullInstance, Instance, isOpen};
+ghost use Rattle.bodega.specs.Localread.{lastPut};
+ghost use Rattle.packed.specs.Key.{bytesOf};
 ghost use Rattle.cells.specs.Cell.{cellOf, statusOf, withStatus};
-ghost use Rattle.batch.specs.Batch.{requestsOf};
+ghost use Rattle.batch.specs.Batch.{requestsOf, valueIn};
+ghost use Rattle.held.specs.Held.{readOf};
 ghost use Rattle.slots.specs.Slots.{shortAt, batchAt, readsAt, instsOf, nullShort, Puts, instIn};
 ghost use Rattle.bodega.specs.Grounds.{any, holds};
 
@@ -55,6 +61,36 @@ pub fn clear_reads(s: &mut [u64], c: usize)
     let a = 3104 + c * 145;
     let e = a + 145;
     held::clear(&mut s[a..e]);
+}
+
+// How many reads the slot at place c holds.
+pub fn count_reads(s: &[u64], c: usize) -> usize
+    requires { ⌜ (c < 32) × (7744 ≤ length (now s)) ⌝ }
+    ensures { λ r. ⌜ (r ≡ length (readsAt (now (s .entry)) c)) × (r ≤ 16) ⌝ }
+{
+    let from = 3104 + c * 145;
+    let to = from + 145;
+    held::count(&s[from..to])
+}
+
+// A read after the others that the slot at place c holds.
+pub fn push_read(s: &mut [u64], c: usize, x: ReadReq)
+    requires { ⌜ (c < 32) × (7744 ≤ length (now s)) × (length (readsAt (now s) c) < 16) ⌝ }
+    ensures { λ _. ⌜ Puts (now (s .entry)) c (shortAt (now (s .entry)) c) (batchAt (now (s .entry)) c) (readsAt (now (s .entry)) c ++ (readOf x ∷ [])) (now (s .exit)) ⌝ }
+{
+    let at = 3104 + c * 145;
+    let end = at + 145;
+    held::push(&mut s[at..end], x);
+}
+
+// The value of the last Put of a key in the batch at place c.
+pub fn last_put(s: &[u64], c: usize, key: Key) -> Latest
+    requires { ⌜ (c < 32) × (7744 ≤ length (now s)) ⌝ }
+    ensures { λ r. ⌜ valueIn r ≡ lastPut (bytesOf key) (batchAt (now (s .entry)) c) ⌝ }
+{
+    let from = 256 + c * 89;
+    let to = from + 89;
+    batch::last_put(&s[from..to], key)
 }
 
 // A null slot at place c; the reads held there are not seen without a notice book.
