@@ -1,0 +1,257 @@
+// The call *record*: a batch into a slot at the current ballot; null slots before it where they are not held, and the keys that it writes.
+use cells::Cell;
+use cells::LeaderBk;
+use cells::NoticeBook;
+use cells::ReplicaBk;
+use cells::Status;
+use ids::Ballot;
+use ids::Slot;
+use node::Answered;
+use node::Node;
+use node::is_ready;
+use node::leads;
+ghost use mathlib.Core.Path.{_≡_};
+ghost use Prim.Native.Nat.{_+_, _≤_, _<_};
+ghost use lib.ListN.{length};
+ghost use Rattle.words.specs.Choice.{if_then_else_};
+ghost use Rattle.bodega.specs.Replica.{Record};
+ghost use Rattle.bodega.specs.Answers.{Answers};
+ghost use Rattle.cells.specs.Cell.{bookOf, acksOf};
+ghost use Rattle.batch.specs.Batch.{requestsOf};
+ghost use Rattle.requests.specs.Given.{given};
+ghost use Rattle.slots.specs.Slots.{shortAt, batchAt, readsAt, instsOf, Puts};
+ghost use Rattle.node.specs.View.{view, ready, givenOf};
+ghost use Rattle.record.specs.Records.{freshAcks, batchRefusal, slotRefusal, ended, keptBook, acceptingShort, seenReads, Pads, Records};
+
+// 5, 8, 9: the number of the refusal that the batch and the slot's number meet, 0 where there is none.
+fn batch_refusal(rows: &[u64], text: &[u8], slot: u64) -> u64
+    ensures { λ r. ⌜ r ≡ batchRefusal (given (now (rows .entry)) (now (text .entry))) slot ⌝ }
+{
+    if requests::any_long(rows, text) {
+        return 5;
+    }
+    if 0xffff_ffff_ffff < slot {
+        return 8;
+    }
+    if 8 < requests::count(rows) {
+        return 9;
+    }
+    0
+}
+
+// What *record* must be at.
+fn current(leader: bool, prepared: u64, seen: u64) -> u64
+    ensures { λ r. ⌜ r ≡ (if leader then prepared else seen) ⌝ }
+{
+    if leader {
+        return prepared;
+    }
+    seen
+}
+
+// 14: below the start, or held and no longer open.
+fn is_ended(s: &[u64], start: u64, n: usize, slot: u64) -> bool
+    requires { ⌜ (start ≤ 281474976710655) × (n ≤ 32) × (7744 ≤ length (now s)) ⌝ }
+    ensures { λ r. ⌜ r ≡ ended start (instsOf start n (now (s .entry))) slot ⌝ }
+{
+    if slot < start {
+        return true;
+    }
+    if start + n as u64 <= slot {
+        return false;
+    }
+    let c = (slot % 32) as usize;
+    !slots::is_open(s, c)
+}
+
+// 13, 14, 15, 18: the number of the refusal, 0 where there is none.
+fn slot_refusal(
+    s: &[u64],
+    start: u64,
+    n: usize,
+    slot: u64,
+    ballot: u64,
+    current: u64,
+    full: bool,
+) -> u64
+    requires { ⌜ (start ≤ 281474976710655) × (n ≤ 32) × (7744 ≤ length (now s)) ⌝ }
+    ensures { λ r. ⌜ r ≡ slotRefusal start (instsOf start n (now (s .entry))) slot ballot current full ⌝ }
+{
+    if ballot != current {
+        return 13;
+    }
+    if current == 0 {
+        return 13;
+    }
+    if is_ended(s, start, n, slot) {
+        return 14;
+    }
+    if start + 32 <= slot {
+        return 15;
+    }
+    if full {
+        return 18;
+    }
+    0
+}
+
+// Null slots up to and with the k-th from start on, where it is not held; how many slots there are then.
+fn padded(s: &mut [u64], start: u64, n: usize, k: usize) -> usize
+    requires { ⌜ (start ≤ 281474976710655) × (n ≤ 32) × (k < 32) × (7744 ≤ length (now s)) ⌝ }
+    ensures { λ r. ⌜ Pads start n k (now (s .entry)) (now (s .exit)) r ⌝ }
+{
+    if k < n {
+        return n;
+    }
+    let to = k + 1;
+    slots::pad(s, start, n, to);
+    to
+}
+
+// No reads wait where there is no notice book.
+fn clear_unseen(s: &mut [u64], c: usize)
+    requires { ⌜ (c < 32) × (7744 ≤ length (now s)) ⌝ }
+    ensures { λ _. ⌜ Puts (now (s .entry)) c (shortAt (now (s .entry)) c) (batchAt (now (s .entry)) c) (seenReads (shortAt (now (s .entry)) c .replicaBk) (readsAt (now (s .entry)) c)) (now (s .exit)) ⌝ }
+{
+    if cells::has_book(s, c) {
+        return;
+    }
+    slots::clear_reads(s, c);
+}
+
+// Fresh empty acks for a leader.
+fn fresh_acks(leader: bool) -> LeaderBk
+    ensures { λ r. ⌜ acksOf r ≡ freshAcks leader ⌝ }
+{
+    if leader {
+        return LeaderBk::Some(0);
+    }
+    LeaderBk::None
+}
+
+// For any other replica a notice book if there is none.
+fn kept_book(leader: bool, book: ReplicaBk) -> ReplicaBk
+    ensures { λ r. ⌜ bookOf r ≡ keptBook leader (bookOf book) ⌝ }
+{
+    if leader {
+        return book;
+    }
+    match book {
+        ReplicaBk::None => {
+            let bal = Ballot(0);
+            let fresh = NoticeBook { bal, notices: 0 };
+            ReplicaBk::Some(fresh)
+        }
+        ReplicaBk::Some(b) => ReplicaBk::Some(b),
+    }
+}
+
+// The slot at place c Accepting, with the batch in 89 words.
+fn accept_at(s: &mut [u64], c: usize, ballot: Ballot, leader: bool, words: &[u64])
+    requires { ⌜ (c < 32) × (7744 ≤ length (now s)) × (length (now words) ≡ 89) ⌝ }
+    ensures { λ _. ⌜ Puts (now (s .entry)) c (acceptingShort leader (ballot .0) (shortAt (now (s .entry)) c .replicaBk)) (requestsOf (now (words .entry))) (seenReads (shortAt (now (s .entry)) c .replicaBk) (readsAt (now (s .entry)) c)) (now (s .exit)) ⌝ }
+{
+    clear_unseen(s, c);
+    slots::put_batch(s, c, words);
+    let old = slots::load(s, c);
+    let book = old.replica_bk;
+    let status = Status::Accepting;
+    let leader_bk = fresh_acks(leader);
+    let replica_bk = kept_book(leader, book);
+    let cell = Cell {
+        bal: ballot,
+        status,
+        leader_bk,
+        replica_bk,
+    };
+    slots::store(s, c, cell);
+}
+
+// The batch into the slot, one of the 32 from start on; how many slots there are then.
+fn accept(
+    s: &mut [u64],
+    start: u64,
+    n: usize,
+    slot: u64,
+    ballot: Ballot,
+    leader: bool,
+    words: &[u64],
+) -> usize
+    requires { ⌜ (start ≤ 281474976710655) × (n ≤ 32) × (start ≤ slot) × (slot < start + 32) × (7744 ≤ length (now s)) × (length (now words) ≡ 89) ⌝ }
+    ensures { λ r. ⌜ Records start n slot (ballot .0) leader (requestsOf (now (words .entry))) (now (s .entry)) (now (s .exit)) r ⌝ }
+{
+    let k = (slot - start) as usize;
+    let held = padded(s, start, n, k);
+    let place = (slot % 32) as usize;
+    accept_at(s, place, ballot, leader, words);
+    held
+}
+
+pub fn record(
+    node: Node,
+    mem: &mut [u64],
+    area: &[u64],
+    slot: Slot,
+    ballot: Ballot,
+    rows: &[u64],
+    text: &[u8],
+) -> Answered
+    ensures { λ r. ⌜ Answers ready view (Record (slot .0) (ballot .0) (given (now (rows .entry)) (now (text .entry)))) node (now (mem .entry)) (now (area .entry)) (givenOf r) (now (mem .exit)) (now (area .entry)) ⌝ }
+{
+    if !is_ready(node, mem) {
+        return Answered {
+            number: 2,
+            count: 0,
+            node,
+        };
+    }
+    let of_batch = batch_refusal(rows, text, slot.0);
+    if of_batch != 0 {
+        return Answered {
+            number: of_batch,
+            count: 0,
+            node,
+        };
+    }
+    let mut reqs = [0u64; 89];
+    requests::load(rows, text, &mut reqs);
+    let conf = node.bodega_conf;
+    let chosen = conf.leader;
+    let leader = leads(chosen, node.id);
+    let bal = current(leader, node.bal_prepared.0, node.bal_max_seen.0);
+    let full = refresh::overflows(&mem[8256..10305], &reqs);
+    let start = node.start_slot.0;
+    let refusal = slot_refusal(
+        &mem[512..8256],
+        start,
+        node.slots,
+        slot.0,
+        ballot.0,
+        bal,
+        full,
+    );
+    if refusal != 0 {
+        return Answered {
+            number: refusal,
+            count: 0,
+            node,
+        };
+    }
+    refresh::refresh(&mut mem[8256..10305], &reqs, slot);
+    let held = accept(
+        &mut mem[512..8256],
+        start,
+        node.slots,
+        slot.0,
+        ballot,
+        leader,
+        &reqs,
+    );
+    let mut next = node;
+    next.slots = held;
+    Answered {
+        number: 0,
+        count: 0,
+        node: next,
+    }
+}
