@@ -242,9 +242,6 @@ module _ (n : Node) (m area : List ℕ) (start accept commit exec : Slot) (t : B
           kept (n .«start_slot» .0) (n .«commit_bar» .0) (n .«exec_bar» .0) (n .slots) (start .0) (commit .0) (exec .0) (d .0)
           (ap (λ (j : ℕ). inOrder (start .0) (exec .0) (commit .0) (n .«start_slot» .0 + j)) (sym (length-insts (n .«start_slot» .0) (n .slots) words)) ∙ not-false order (d .1))
 
-      pub executable : (n .«start_slot» .0 ≤ 281474976710655) × (exec .0 - n .«start_slot» .0 ≤ 32) × (7744 ≤ length words)
-      executable = (r .start-low, omega (arith, kept-bars, r .window), omega (arith, words-long))
-
       start-low : start .0 ≤ 281474976710655
       unfolding grounds view part
       start-low =

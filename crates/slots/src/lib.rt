@@ -141,9 +141,9 @@ pub fn holds_reads(s: &[u64], c: usize) -> bool
     if !cells::has_book(s, c) {
         return false;
     }
-    let a = 3104 + c * 145;
-    let e = a + 145;
-    0 < held::count(&s[a..e])
+    let row = 3104 + c * 145;
+    let end = row + 145;
+    0 < held::count(&s[row..end])
 }
 
 pub fn set_status(s: &mut [u64], c: usize, status: Status)

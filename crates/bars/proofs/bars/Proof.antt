@@ -69,7 +69,7 @@ execute-requires c κs =
     let j = c .before .before in
     let i = j .before .before .before .before in
     let a = i .before .before .before .before .before .args in
-    law.executable (a .node) (a .mem .now) (a .area .now) (a .start) (a .accept) (a .commit) (a .exec) _ (i .before .is-ready .ensures) (i .if1 .left) _ (j .before .bars-refusal .ensures) (j .if2 .left)
+    omega (arith, law.asked (a .node) (a .mem .now) (a .area .now) (a .start) (a .accept) (a .commit) (a .exec) _ (i .before .is-ready .ensures) (i .if1 .left), law.kept-bars (a .node) (a .mem .now) (a .area .now) (a .start) (a .accept) (a .commit) (a .exec) _ (i .before .is-ready .ensures) (i .if1 .left) _ (j .before .bars-refusal .ensures) (j .if2 .left))
 
 sub-next : tie.Need-sub-next
 sub-next c =

@@ -12,14 +12,14 @@ returns : tie.Need-returns
 unfolding shortAt
 returns c = law.no-book _ _ _ (c .before .has-book .ensures) (c .if1 .taken)
 
-mul-a : tie.Need-mul-a
-mul-a c = search needs
+mul-row : tie.Need-mul-row
+mul-row c = search needs
 
-add-a : tie.Need-add-a
-add-a c = search needs
+add-row : tie.Need-add-row
+add-row c = search needs
 
-add-e : tie.Need-add-e
-add-e c = search needs
+add-end : tie.Need-add-end
+add-end c = search needs
 
 mul-count : tie.Need-mul-count
 mul-count c = search needs
@@ -49,9 +49,9 @@ holds-reads-spec =
     (tie.spec
     has-book-requires
     returns
-    mul-a
-    add-a
-    add-e
+    mul-row
+    add-row
+    add-end
     mul-count
     sub-count
     part-count-start
