@@ -296,11 +296,8 @@ module _ (s : List ℕ) (c : ℕ) (t : Bool) (e : t ≡ hasBook (shortAt s c)) w
   pub no-book : not t ≡ true → false ≡ holds (instIn s c)
   no-book f = sym (holds-by s c ∙ ap (λ (b : Bool). if b then ltb 0 (length (readsAt s c)) else false) (sym e ∙ not-true t f))
 
-  pub reads-wait : not t ≡ false → (n k : ℕ) → k ≡ 145 → n ≡ length (readsOf (take k (drop (3104 + c * 145) s))) → ltb 0 n ≡ holds (instIn s c)
-  unfolding readsAt part
-  reads-wait f n k w g =
-      ap (ltb 0) (g ∙ ap (λ (j : ℕ). length (readsOf (take j (drop (3104 + c * 145) s)))) w)
-      ∙ sym (holds-by s c ∙ ap (λ (b : Bool). if b then ltb 0 (length (readsAt s c)) else false) (sym e ∙ not-false t f))
+  pub reads-wait : not t ≡ false → (n : ℕ) → n ≡ length (readsAt s c) → ltb 0 n ≡ holds (instIn s c)
+  reads-wait f n g = ap (ltb 0) g ∙ sym (holds-by s c ∙ ap (λ (b : Bool). if b then ltb 0 (length (readsAt s c)) else false) (sym e ∙ not-false t f))
 
 -- ---- one slot after another: whether one of those from the i-th on is such
 

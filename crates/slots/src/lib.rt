@@ -141,9 +141,7 @@ pub fn holds_reads(s: &[u64], c: usize) -> bool
     if !cells::has_book(s, c) {
         return false;
     }
-    let row = 3104 + c * 145;
-    let end = row + 145;
-    0 < held::count(&s[row..end])
+    0 < count_reads(s, c)
 }
 
 pub fn set_status(s: &mut [u64], c: usize, status: Status)
