@@ -185,7 +185,7 @@ inspected quorum key slot o =
     if not (local.isBound quorum i) then local.Notices slot else
     ifNone local.lastPut key (i .reqs) then local.MissingPut slot else local.FoundPut
 
-abbrev waited : ℕ → Option machine.Instance → local.Answer
+abbrev pub waited : ℕ → Option machine.Instance → local.Answer
 waited slot o = ifNone o then local.Again else λ i. if local.waits i then local.HeldBy slot else local.Again
 
 abbrev filled : Option machine.Instance → Bool
@@ -407,3 +407,52 @@ fills-slot r a slot b e f = f ∙ ap (λ (x : Answer). overfills r (answerIn x))
 pub item-by : (v : Standing) (rows s w : List ℕ) (q : machine.ReadReq) (x y : Answer) → x ≡ y
     → answered (seen v rows s w) q (answerIn x) .items ≡ answered (seen v rows s w) q (answerIn y) .items
 item-by v rows s w q x y e = ap (λ (z : Answer). answered (seen v rows s w) q (answerIn z) .items) e
+
+-- ---- a read that is held waits in the notice book of a slot that is held
+
+pub record Waiting (r : machine.Replica) (slot : ℕ) : Type 0 where
+  pub inst : machine.Instance
+  pub book : machine.Book
+  pub found : machine.instAt r slot ≡ some inst
+  pub has : inst .replicaBk ≡ some book
+
+in-book : (r : machine.Replica) (slot : ℕ) (i : machine.Instance) → machine.instAt r slot ≡ some i → (o : Option machine.Book) → i .replicaBk ≡ o
+    → (ifNone o then false else λ b. true) ≡ true → Waiting r slot
+in-book r slot i e none f g = let z : _≡_ {A = ℕ} 0 1 = cc in absurd (omega arith)
+in-book r slot i e (some b) f g = record { inst = i; book = b; found = e; has = f }
+
+in-slot : (r : machine.Replica) (s slot : ℕ) (i : machine.Instance) → machine.instAt r s ≡ some i → (b : Bool) → local.waits i ≡ b
+    → (if b then local.HeldBy s else local.Again) ≡ local.HeldBy slot → Waiting r slot
+in-slot r s slot i e false f g = let z : _≡_ {A = ℕ} 0 1 = cc in absurd (omega arith)
+in-slot r s slot i e true f g =
+    let z : s ≡ slot = cc in
+    in-book r slot i (ap (machine.instAt r) (sym z) ∙ e) (i .replicaBk) refl (and-both (machine.isAccepting (i .status)) (ifNone i .replicaBk then false else λ b. true) f .1)
+
+in-window : (r : machine.Replica) (s slot : ℕ) (o : Option machine.Instance) → machine.instAt r s ≡ o → waited s o ≡ local.HeldBy slot → Waiting r slot
+in-window r s slot none e f = let z : _≡_ {A = ℕ} 0 1 = cc in absurd (omega arith)
+in-window r s slot (some i) e f = in-slot r s slot i e (local.waits i) refl f
+
+not-improper : (b : Bool) (slot : ℕ) → (if b then local.Again else local.Consensus) ≡ local.HeldBy slot → ⊥
+not-improper true slot e = let z : _≡_ {A = ℕ} 0 1 = cc in omega arith
+not-improper false slot e = let z : _≡_ {A = ℕ} 0 1 = cc in omega arith
+
+not-unwritten : (b : Bool) (slot : ℕ) → (if b then local.Missing else local.FromStore) ≡ local.HeldBy slot → ⊥
+not-unwritten true slot e = let z : _≡_ {A = ℕ} 0 1 = cc in omega arith
+not-unwritten false slot e = let z : _≡_ {A = ℕ} 0 1 = cc in omega arith
+
+module _ (r : machine.Replica) (slot : ℕ) where
+  abbrev improperly : Bool
+  improperly = not (machine.isLeader r) || eqb (r .bal .prepared) 0
+
+  pub waiting : (y : local.Settled) → local.answerOf r y ≡ local.HeldBy slot → Waiting r slot
+  waiting local.StableLeader e = let z : _≡_ {A = ℕ} 0 1 = cc in absurd (omega arith)
+  waiting local.FewLeases e = absurd (not-improper improperly slot e)
+  waiting local.UnreadKey e = absurd (not-improper improperly slot e)
+  waiting local.StoredRange e = absurd (not-improper improperly slot e)
+  waiting local.DefaultRoster e = absurd (not-improper improperly slot e)
+  waiting local.Bar e = absurd (not-improper improperly slot e)
+  waiting local.NoSlot e = absurd (not-unwritten (eqb (r .bar .start) 0) slot e)
+  waiting (local.SlotStatus s) e = let z : _≡_ {A = ℕ} 0 1 = cc in absurd (omega arith)
+  waiting (local.Notices s) e = in-window r s slot (machine.instAt r s) refl e
+  waiting (local.FoundPut v) e = let z : _≡_ {A = ℕ} 0 1 = cc in absurd (omega arith)
+  waiting (local.MissingPut s) e = in-window r s slot (machine.instAt r s) refl e

@@ -259,7 +259,8 @@ pub fn settled_by(
     if is_stable_leader(v, leases) {
         return Settled::StableLeader;
     }
-    if leases < wide(v.quorum) {
+    let quorum = wide(v.quorum);
+    if leases < quorum {
         return Settled::FewLeases;
     }
     let KeyRead::Number(n) = keys::key_to_inty(key) else {
