@@ -1,7 +1,7 @@
 -- A read's condition and answer, test by test as the code comes to them. Assumes nothing.
 use mathlib.Core.Path.{_≡_, refl, sym, ap, _∙_}
 use mathlib.Core.Bool.{Bool, true, false, not, _&&_, _||_}
-use mathlib.Core.Logic.{_⊎_, ⊎-elim}
+use mathlib.Core.Logic.{⊎-elim}
 use mathlib.Core.List.{List, [], _∷_}
 use mathlib.Core.Option.{Option, none, some}
 use Prim.Native.Nat.{ℕ, _+_, _-_, _%_, _≤_, _<_}
@@ -21,14 +21,14 @@ use Rattle.keys.specs.declared.KeyRead.{KeyRead}
 use Rattle.keys.specs.declared.KeyRead.the-variants.{Number, Unread}
 use Rattle.inty.specs.Value.{valueOf}
 use Rattle.inty.specs.declared.Inty.{Inty}
-use Rattle.ranges.specs.Range.{at, maskAt}
+use Rattle.ranges.specs.Range.{at}
 use Rattle.keyrange.specs.Rows.{rangesOf, maskIn}
 use Rattle.keyrange.specs.declared.Lookup.{Lookup}
 use Rattle.keyrange.specs.declared.Lookup.the-variants.{Mask, Nothing}
 use Rattle.responders.specs.Edits.{view as rosterOf}
 use Rattle.bodega.specs.Replica as machine
 use Rattle.bodega.specs.Localread as local
-use Rattle.bodega.specs.Request.{settled, notResponder, answered}
+use Rattle.bodega.specs.Request.{settled, answered}
 use Rattle.bodega.specs.Grounds.{full, overfills}
 use Rattle.cells.specs.Cell.{Notices, statusOf, bookOf, cellOf}
 use Rattle.cells.specs.declared.Cell.{Cell}
@@ -51,6 +51,14 @@ use Rattle.inspect.specs.declared.Settled.{Settled}
 use Rattle.inspect.specs.declared.Answer.{Answer}
 use Rattle.inspect.specs.declared.Answer.the-variants.{Found, Missing, FromStore, Consensus, HeldBy, Again}
 use Rattle.inspect.proofs.Answer.{the-type}
+
+-- ---- leases against a quorum that was widened
+
+pub few : {q n k : ℕ} → k ≡ q → n < k → n < q
+few e h = omega arith
+
+pub enough : {q n k : ℕ} → k ≡ q → k ≤ n → q ≤ n
+enough e h = omega arith
 
 -- ---- leaders
 

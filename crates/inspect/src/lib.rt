@@ -26,7 +26,7 @@ ghost use Rattle.packed.specs.Key.{bytesOf};
 ghost use Rattle.items.specs.Item.{itemOf};
 ghost use Rattle.cells.specs.Cell.{statusOf, bookOf, cellOf};
 ghost use Rattle.slots.specs.Slots.{instOf};
-ghost use Rattle.bodega.specs.Replica.{Request, ReadReq, order, isAccepting, isLeader};
+ghost use Rattle.bodega.specs.Replica.{Request, ReadReq, order, isLeader};
 ghost use Rattle.bodega.specs.Localread as local;
 ghost use Rattle.bodega.specs.Localread.{isStableLeader, isBound, inspectHighestSlot, inspectLatestWrite, waits, waitsAt, improper, answerOf};
 ghost use Rattle.bodega.specs.Request.{settled, answered};

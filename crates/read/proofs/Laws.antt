@@ -3,7 +3,7 @@ use mathlib.Core.Path.{_≡_, refl, sym, ap, _∙_}
 use mathlib.Core.Bool.{Bool, true, false, not}
 use mathlib.Core.List.{List, [], _∷_, _++_}
 use mathlib.Core.Option.{Option, none, some}
-use Prim.Native.Nat.{ℕ, _+_, _*_, _%_, _≤_, _<_}
+use Prim.Native.Nat.{ℕ, _+_, _%_, _≤_, _<_}
 use native.Mathlib.Decide.{decLt}
 use native.Mathlib.Omega.{arith}
 use types.Run.{OneOf}
@@ -19,18 +19,17 @@ use Rattle.packed.specs.Key.{bytesOf, keyIn, atMost48}
 use Rattle.packed.specs.declared.Key.{Key}
 use Rattle.packed.specs.declared.Packed.{Packed}
 use Rattle.packed.specs.declared.Packed.the-variants as packed
-use Rattle.items.specs.Item.{Item, itemOf, itemWords, encode, encode-snoc, places}
+use Rattle.items.specs.Item.{Item, itemOf, encode, encode-snoc, places}
 use Rattle.items.specs.Area.{Put, putItem}
 use Rattle.items.specs.declared.Item as code
 use Rattle.cells.specs.Cell.{Notices, Short}
-use Rattle.slots.specs.Slots.{shortAt, batchAt, readsAt, instOf, instIn, instsOf, bookOf, Puts}
+use Rattle.slots.specs.Slots.{shortAt, batchAt, readsAt, instOf, instIn, bookOf, Puts}
 use Rattle.bodega.specs.Replica as machine
 use Rattle.bodega.specs.Localread as local
 use Rattle.bodega.specs.Request.{settled, readAnswer, answered, treatRead}
 use Rattle.bodega.specs.Grounds.{grounds, full, overfills}
 use Rattle.bodega.specs.Step.{effect}
 use Rattle.bodega.specs.Answers.{Answers}
-use Rattle.responders.specs.Ground.{_when_or_}
 use Rattle.inspect.specs.Seen.{seen, Lent, settledOf, answerIn}
 use Rattle.inspect.specs.declared.Standing.{Standing}
 use Rattle.inspect.specs.declared.Settled.{Settled}

@@ -6,7 +6,6 @@ use node::Answered;
 use node::Node;
 use node::is_ready;
 use packed::Packed;
-ghost use mathlib.Core.Path.{_≡_};
 ghost use Rattle.bodega.specs.Replica.{Read};
 ghost use Rattle.bodega.specs.Answers.{Answers};
 ghost use Rattle.node.specs.View.{view, ready, givenOf};

@@ -19,7 +19,9 @@ count-requires : tie.Need-count-requires
 count-requires c κs = search needs
 
 returns-2 : tie.Need-returns-2
-returns-2 c = let k = c .before .before .before in law.quorum-is (k .before .before .args .quorum) (k .before .before .args .book) _ _ _ (k .book .given .1) (c .before .wide .ensures) (c .count .ensures)
+returns-2 c =
+    let k = c .before .before .before in
+    law.quorum-is (k .before .before .args .quorum) (k .before .before .args .book) _ _ _ (k .book .given .1) (c .before .wide .ensures) (c .count .ensures)
 
 pub has-quorum-spec : {M : Type 1} → statement M
 has-quorum-spec =

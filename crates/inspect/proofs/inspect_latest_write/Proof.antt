@@ -14,16 +14,28 @@ enum-told : tie.Need-enum-told
 enum-told c = search needs
 
 returns : tie.Need-returns
-returns c = let h = c .before .before in let a = h .before .before .before .args in λ rows. law.latest-none (a .v) rows (a .s .now) (a .w .now) (bytesOf (a .key)) _ (h .highest .ensures) (c .enum-told .given .1)
+returns c =
+    let h = c .before .before in
+    let a = h .before .before .before .args in
+    λ rows. law.latest-none (a .v) rows (a .s .now) (a .w .now) (bytesOf (a .key)) _ (h .highest .ensures) (c .enum-told .given .1)
 
 returns-2 : tie.Need-returns-2
-returns-2 c = let k = c .before .before .before .before .before in let h = k .before .before in let a = h .before .before .before .args in λ rows. law.latest-low (a .v) rows (a .s .now) (a .w .now) (bytesOf (a .key)) _ (h .highest .ensures) _ (k .slot .given .1) (c .if1 .taken)
+returns-2 c =
+    let k = c .before .before .before .before .before in
+    let h = k .before .before in
+    let a = h .before .before .before .args in
+    λ rows. law.latest-low (a .v) rows (a .s .now) (a .w .now) (bytesOf (a .key)) _ (h .highest .ensures) _ (k .slot .given .1) (c .if1 .taken)
 
 inspect-highest-slot-requires : tie.Need-inspect-highest-slot-requires
 inspect-highest-slot-requires c κs = search needs
 
 returns-3 : tie.Need-returns-3
-returns-3 c = let i = c .before in let k = i .before .before .before .before .before in let h = k .before .before in let a = h .before .before .before .args in λ rows. law.latest-at (a .v) rows (a .s .now) (a .w .now) (bytesOf (a .key)) _ (h .highest .ensures) _ (k .slot .given .1) (i .if1 .left) _ (c .inspect-highest-slot .ensures rows (a .w .now))
+returns-3 c =
+    let i = c .before in
+    let k = i .before .before .before .before .before in
+    let h = k .before .before in
+    let a = h .before .before .before .args in
+    λ rows. law.latest-at (a .v) rows (a .s .now) (a .w .now) (bytesOf (a .key)) _ (h .highest .ensures) _ (k .slot .given .1) (i .if1 .left) _ (c .inspect-highest-slot .ensures rows (a .w .now))
 
 pub inspect-latest-write-spec : {M : Type 1} → statement M
 inspect-latest-write-spec =

@@ -24,19 +24,30 @@ enum-told-5 : tie.Need-enum-told-5
 enum-told-5 c = search needs
 
 returns : tie.Need-returns
-returns c = let a = c .before .before .args in λ reqs reads. law.bound-by (a .quorum) (a .cell) _ reqs reads (c .enum-told .given .1)
+returns c =
+    let a = c .before .before .args in
+    λ reqs reads. law.bound-by (a .quorum) (a .cell) _ reqs reads (c .enum-told .given .1)
 
 returns-2 : tie.Need-returns-2
-returns-2 c = let a = c .before .before .args in λ reqs reads. law.bound-by (a .quorum) (a .cell) _ reqs reads (c .enum-told2 .given .1)
+returns-2 c =
+    let a = c .before .before .args in
+    λ reqs reads. law.bound-by (a .quorum) (a .cell) _ reqs reads (c .enum-told2 .given .1)
 
 returns-3 : tie.Need-returns-3
-returns-3 c = let a = c .before .before .before .args in let x = a .cell in λ reqs reads. c .has-quorum .ensures ∙ law.quorum-book (a .quorum) (bookOf (x .«replica_bk»)) reads ∙ law.bound-by (a .quorum) x _ reqs reads (c .before .enum-told3 .given .1)
+returns-3 c =
+    let a = c .before .before .before .args in
+    let x = a .cell in
+    λ reqs reads. c .has-quorum .ensures ∙ law.quorum-book (a .quorum) (bookOf (x .«replica_bk»)) reads ∙ law.bound-by (a .quorum) x _ reqs reads (c .before .enum-told3 .given .1)
 
 returns-4 : tie.Need-returns-4
-returns-4 c = let a = c .before .before .args in λ reqs reads. law.bound-by (a .quorum) (a .cell) _ reqs reads (c .enum-told4 .given .1)
+returns-4 c =
+    let a = c .before .before .args in
+    λ reqs reads. law.bound-by (a .quorum) (a .cell) _ reqs reads (c .enum-told4 .given .1)
 
 returns-5 : tie.Need-returns-5
-returns-5 c = let a = c .before .before .args in λ reqs reads. law.bound-by (a .quorum) (a .cell) _ reqs reads (c .enum-told5 .given .1)
+returns-5 c =
+    let a = c .before .before .args in
+    λ reqs reads. law.bound-by (a .quorum) (a .cell) _ reqs reads (c .enum-told5 .given .1)
 
 pub is-bound-spec : {M : Type 1} → statement M
 is-bound-spec =

@@ -16,10 +16,14 @@ get-requires-2 : tie.Need-get-requires-2
 get-requires-2 c κs = search needs
 
 returns : tie.Need-returns
-returns c = let a = c .before .before .before .before .args in law.in-mask (a .default) (a .id .0) _ _ _ (c .before .before .stored .given .1) (c .get .ensures)
+returns c =
+    let a = c .before .before .before .before .args in
+    law.in-mask (a .default) (a .id .0) _ _ _ (c .before .before .stored .given .1) (c .get .ensures)
 
 returns-2 : tie.Need-returns-2
-returns-2 c = let a = c .before .before .before .args in law.in-default (a .default) (a .id .0) _ _ (c .before .enum-told .given .1) (c .get2 .ensures)
+returns-2 c =
+    let a = c .before .before .before .args in
+    law.in-default (a .default) (a .id .0) _ _ (c .before .enum-told .given .1) (c .get2 .ensures)
 
 pub is-responder-spec : {M : Type 1} → statement M
 is-responder-spec =

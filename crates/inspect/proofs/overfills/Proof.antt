@@ -14,7 +14,9 @@ is-full-requires : tie.Need-is-full-requires
 is-full-requires c κs = search needs
 
 returns-2 : tie.Need-returns-2
-returns-2 c = let k = c .before .before in λ rows w. law.fills-slot _ _ _ _ (k .answer .given .1) (c .is-full .ensures rows w)
+returns-2 c =
+    let k = c .before .before in
+    λ rows w. law.fills-slot _ _ _ _ (k .answer .given .1) (c .is-full .ensures rows w)
 
 pub overfills-spec : {M : Type 1} → statement M
 overfills-spec = tie.close (tie.spec enum-known-answer returns is-full-requires returns-2)

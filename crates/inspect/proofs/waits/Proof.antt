@@ -30,7 +30,9 @@ returns-2 : tie.Need-returns-2
 returns-2 c = λ reqs reads. law.waits-by (c .before .before .args .cell) _ reqs reads (c .enum-told2 .given .1)
 
 returns-3 : tie.Need-returns-3
-returns-3 c = let x = c .before .before .before .args .cell in λ reqs reads. c .has-book .ensures ∙ law.some-book (bookOf (x .«replica_bk»)) reads ∙ law.waits-by x _ reqs reads (c .before .enum-told3 .given .1)
+returns-3 c =
+    let x = c .before .before .before .args .cell in
+    λ reqs reads. c .has-book .ensures ∙ law.some-book (bookOf (x .«replica_bk»)) reads ∙ law.waits-by x _ reqs reads (c .before .enum-told3 .given .1)
 
 returns-4 : tie.Need-returns-4
 returns-4 c = λ reqs reads. law.waits-by (c .before .before .args .cell) _ reqs reads (c .enum-told4 .given .1)

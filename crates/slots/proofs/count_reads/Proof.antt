@@ -29,7 +29,10 @@ count-requires : tie.Need-count-requires
 count-requires c κs = search needs
 
 returns : tie.Need-returns
-returns c = let g = c .before .before .before in let a = g .args in law.reads-counted (a .s .now) (a .c) (g .pre .1) (g .pre .0) _ (law.width (3104 + a .c * 145) 145) _ (c .count .ensures)
+returns c =
+    let g = c .before .before .before in
+    let a = g .args in
+    law.reads-counted (a .s .now) (a .c) (g .pre .1) (g .pre .0) _ (law.width (3104 + a .c * 145) 145) _ (c .count .ensures)
 
 pub count-reads-spec : {M : Type 1} → statement M
 count-reads-spec =

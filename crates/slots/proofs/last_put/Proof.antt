@@ -30,7 +30,9 @@ last-put-requires : tie.Need-last-put-requires
 last-put-requires c κs = search needs
 
 returns : tie.Need-returns
-returns c = let a = c .before .before .before .args in law.last-put-at (a .s .now) (a .c) _ (bytesOf (a .key)) _ (law.width (256 + a .c * 89) 89) (c .last-put .ensures)
+returns c =
+    let a = c .before .before .before .args in
+    law.last-put-at (a .s .now) (a .c) _ (bytesOf (a .key)) _ (law.width (256 + a .c * 89) 89) (c .last-put .ensures)
 
 pub last-put-spec : {M : Type 1} → statement M
 last-put-spec =

@@ -33,7 +33,10 @@ same-length : tie.Need-same-length
 same-length c = search needs
 
 returns : tie.Need-returns
-returns c = let g = c .before .before .before .before .before in let a = g .args in law.read-pushed (a .s .now) (a .c) (g .pre .1) (g .pre .0) _ (law.width (3104 + a .c * 145) 145) _ (readOf (a .x)) _ (c .before .before .push .kept .0) (g .pre .2) (c .before .before .push .ensures)
+returns c =
+    let g = c .before .before .before .before .before in
+    let a = g .args in
+    law.read-pushed (a .s .now) (a .c) (g .pre .1) (g .pre .0) _ (law.width (3104 + a .c * 145) 145) _ (readOf (a .x)) _ (c .before .before .push .kept .0) (g .pre .2) (c .before .before .push .ensures)
 
 pub push-read-spec : {M : Type 1} → statement M
 push-read-spec =
