@@ -201,7 +201,7 @@ pub here-is : {s t : List ℕ} {c : ℕ} {x : Short} {a : List machine.Request} 
 unfolding instIn
 here-is p = rw (p .short, p .batch, p .held)
 
-there-is : {s t : List ℕ} {d : ℕ} → SamePlace s t d → instIn t d ≡ instIn s d
+pub there-is : {s t : List ℕ} {d : ℕ} → SamePlace s t d → instIn t d ≡ instIn s d
 unfolding instIn
 there-is p = rw (p .short, p .batch, p .reads)
 
@@ -210,10 +210,10 @@ unfolding instsOf
 length-insts start n s = length-tab (λ i. instIn s ((start + i) % 32)) 0 n
 
 -- two of 32 slots in a row have different places
-apart : (start i j : ℕ) → i < 32 → j < 32 → i ≢ j → (start + i) % 32 ≢ (start + j) % 32
+pub apart : (start i j : ℕ) → i < 32 → j < 32 → i ≢ j → (start + i) % 32 ≢ (start + j) % 32
 apart start i j a b n e = omega arith
 
-place : (a : ℕ) → a % 32 < 32
+pub place : (a : ℕ) → a % 32 < 32
 place a = omega arith
 
 module _ {s t : List ℕ} {x : Short} {a : List machine.Request} {l : List machine.ReadReq} (start n k : ℕ) (p : Puts s ((start + k) % 32) x a l t) where
