@@ -1,0 +1,126 @@
+// `advance_commit_bar`: from the commit bar on, slots below a peer's commit bar become Committed. The slots stand in lent words of crate slots.
+use cells::Status;
+use ids::Slot;
+use items::Item;
+ghost use mathlib.Core.Path.{_≡_};
+ghost use Prim.Native.Nat.{_+_, _-_, _≤_, _<_, min};
+ghost use lib.Dec.{ltb};
+ghost use lib.ListN.{length};
+ghost use Rattle.items.specs.Item.{places};
+ghost use Rattle.bodega.specs.Replica.{order};
+ghost use Rattle.cells.specs.Cell.{statusOf};
+ghost use Rattle.slots.specs.Slots.{instIn};
+ghost use Rattle.advance.specs.Walk.{stopsAt, commitsAt, Marks, walked, Advances};
+
+// `status < Accepting`.
+fn is_below_accepting(status: Status) -> bool
+    ensures { λ r. ⌜ r ≡ ltb (order (statusOf status)) 2 ⌝ }
+{
+    match status {
+        Status::Null => true,
+        Status::Preparing => true,
+        Status::Accepting => false,
+        Status::Committed => false,
+        Status::Executed => false,
+    }
+}
+
+// Whether the walk ends before the slot at place c.
+fn stops(s: &[u64], c: usize, ballot: u64) -> bool
+    requires { ⌜ (c < 32) × (7744 ≤ length (now s)) ⌝ }
+    ensures { λ r. ⌜ r ≡ stopsAt ballot (instIn (now (s .entry)) c) ⌝ }
+{
+    let cell = slots::load(s, c);
+    if cell.bal.0 < ballot {
+        return true;
+    }
+    let status = cell.status;
+    is_below_accepting(status)
+}
+
+// How many items a slot gives that the walk passes.
+fn commits(s: &[u64], c: usize) -> usize
+    requires { ⌜ (c < 32) × (7744 ≤ length (now s)) ⌝ }
+    ensures { λ r. ⌜ r ≡ commitsAt (instIn (now (s .entry)) c) ⌝ }
+{
+    if slots::is_open(s, c) {
+        return 1;
+    }
+    0
+}
+
+// A slot that the walk passes: marked Committed, with its item, unless it was already. Gives the next place of the area.
+fn mark(s: &mut [u64], c: usize, area: &mut [u64], place: usize, slot: u64) -> usize
+    requires { ⌜ (c < 32) × (7744 ≤ length (now s)) × (place + commitsAt (instIn (now s) c) ≤ places (now area)) ⌝ }
+    ensures { λ r. ⌜ Marks c place slot (now (s .entry)) (now (area .entry)) r (now (s .exit)) (now (area .exit)) ⌝ }
+{
+    if !slots::is_open(s, c) {
+        return place;
+    }
+    slots::set_status(s, c, Status::Committed);
+    let marked = Slot(slot);
+    items::put_item(area, place, Item::Commit(marked));
+    place + 1
+}
+
+// How many of n slots from start on are below the bar.
+fn reach(start: u64, n: usize, bar: u64) -> usize
+    ensures { λ r. ⌜ r ≡ min n (bar - start) ⌝ }
+{
+    if bar <= start {
+        return 0;
+    }
+    let below = (bar - start) as usize;
+    if n < below {
+        return n;
+    }
+    below
+}
+
+// How many items the walk has.
+pub fn count_commits(s: &[u64], start: u64, n: usize, commit: u64, ballot: u64, bar: u64) -> usize
+    requires { ⌜ (start ≤ commit) × (commit ≤ start + n) × (start ≤ 281474976710655) × (n ≤ 32) × (7744 ≤ length (now s)) ⌝ }
+    ensures { λ r. ⌜ r ≡ length (walked start n commit ballot bar (now (s .entry)) .items) ⌝ }
+{
+    let to = reach(start, n, bar);
+    let mut k = (commit - start) as usize;
+    let mut count = 0;
+    while k < to {
+        let c = ((start + k as u64) % 32) as usize;
+        if stops(s, c, ballot) {
+            return count;
+        }
+        count += commits(s, c);
+        k += 1;
+    }
+    count
+}
+
+// The walk, with its items from a place of the area on. Gives the place after them.
+pub fn advance(
+    s: &mut [u64],
+    area: &mut [u64],
+    place: usize,
+    start: u64,
+    n: usize,
+    commit: u64,
+    ballot: u64,
+    bar: u64,
+) -> usize
+    requires { ⌜ (start ≤ commit) × (commit ≤ start + n) × (start ≤ 281474976710655) × (n ≤ 32) × (7744 ≤ length (now s)) × (place + length (walked start n commit ballot bar (now s) .items) ≤ places (now area)) ⌝ }
+    ensures { λ r. ⌜ Advances place start n commit ballot bar (now (s .entry)) (now (area .entry)) r (now (s .exit)) (now (area .exit)) ⌝ }
+{
+    let to = reach(start, n, bar);
+    let mut k = (commit - start) as usize;
+    let mut at = place;
+    while k < to {
+        let slot = start + k as u64;
+        let c = (slot % 32) as usize;
+        if stops(s, c, ballot) {
+            return at;
+        }
+        at = mark(s, c, area, at, slot);
+        k += 1;
+    }
+    at
+}
