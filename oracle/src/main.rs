@@ -6,6 +6,7 @@ use std::path::Path;
 use std::process::ExitCode;
 use std::time::{Duration, Instant};
 
+use bodega_oracle::calls;
 use bodega_oracle::compare::{self, Difference, Program};
 use bodega_oracle::coverage::Coverage;
 use bodega_oracle::generate;
@@ -23,6 +24,7 @@ usage: oracle                              event lines on standard input, answer
        oracle extract FILE FOLDER          write them as NAME.in and NAME.out
        oracle recorded FILE PROGRAM [ARG ...]
                                            run PROGRAM on them, name those that differ
+       oracle calls FOLDER                 write calls and the answers to them as stdin and stdout
        oracle mutants LIST FILE WORK [SEEDS]
                                            build each mutant of LIST in the folder WORK and
                                            tell whether the recorded answers in FILE show it
@@ -45,6 +47,7 @@ fn main() -> ExitCode {
         ["extract", file, folder] => extract(file, folder),
         ["recorded", file, program @ ..] if !program.is_empty() => run_recorded(file, program),
         ["mutants", list, file, work, rest @ ..] => run_mutants(list, file, work, rest),
+        ["calls", folder] => calls(folder),
         ["compare", rest @ ..] => return compare_with(rest),
         _ => {
             eprint!("{USAGE}");
@@ -103,6 +106,16 @@ fn generate_script(args: &[&str]) -> io::Result<()> {
     let mut input = Vec::new();
     generate::script(seed, lines, &mut input, &mut Vec::new(), None);
     io::stdout().lock().write_all(&input)
+}
+
+fn calls(folder: &str) -> io::Result<()> {
+    let recording = calls::make();
+    for ((name, refusal), count) in &recording.reached {
+        println!("{name} {refusal}: {count}");
+    }
+    let folder = Path::new(folder);
+    std::fs::write(folder.join("stdin"), &recording.input)?;
+    std::fs::write(folder.join("stdout"), &recording.output)
 }
 
 fn coverage(args: &[&str]) -> io::Result<()> {

@@ -302,6 +302,17 @@ impl Replay {
     /// reads and written keys. Bytes of keys are written as they are.
     pub fn write_node(&self, out: &mut Vec<u8>) {
         let Some(host) = &self.host else { return };
+        self.write_slots(out);
+        let mut written: Vec<_> = host.node.highest_slot.iter().collect();
+        written.sort_unstable();
+        for (key, slot) in written {
+            write_written(out, *slot as u64, key);
+        }
+    }
+
+    /// Of `write_node` all but the written keys.
+    pub(crate) fn write_slots(&self, out: &mut Vec<u8>) {
+        let Some(host) = &self.host else { return };
         let node = &host.node;
         write_numbers(
             out,
@@ -350,15 +361,6 @@ impl Replay {
             for (client, req) in book.iter().flat_map(|book| &book.holding_reads) {
                 write_request(out, b"held", *client, req);
             }
-        }
-        let mut written: Vec<_> = node.highest_slot.iter().collect();
-        written.sort_unstable();
-        for (key, slot) in written {
-            out.extend_from_slice(b"written,");
-            write_u64(out, *slot as u64);
-            out.push(b',');
-            out.extend_from_slice(&key_bytes(key));
-            out.push(b'\n');
         }
     }
 
@@ -633,7 +635,7 @@ impl Host {
 }
 
 /// A roster's spans, ascending, and the rest.
-fn spans(conf: &RespondersConf<()>) -> Vec<Item> {
+pub(crate) fn spans(conf: &RespondersConf<()>) -> Vec<Item> {
     let mut items: Vec<Item> = conf
         .responders
         .iter()
@@ -678,6 +680,15 @@ fn write_request(out: &mut Vec<u8>, name: &[u8], client: u64, req: &ApiRequest) 
     out.extend_from_slice(&key_bytes(key));
     out.push(b',');
     out.extend_from_slice(value.as_bytes());
+    out.push(b'\n');
+}
+
+/// The line of a written key.
+pub(crate) fn write_written(out: &mut Vec<u8>, slot: u64, key: &str) {
+    out.extend_from_slice(b"written,");
+    write_u64(out, slot);
+    out.push(b',');
+    out.extend_from_slice(&key_bytes(key));
     out.push(b'\n');
 }
 
