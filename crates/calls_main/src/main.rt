@@ -57,7 +57,7 @@ fn told(host: Host, a: Answered, mem: &[u64], out: &mut [u8]) -> Host {
     next
 }
 
-fn fresh(host: Host, f: &[u64], mem: &mut [u64], out: &mut [u8]) -> Host {
+fn node_line(host: Host, f: &[u64], mem: &mut [u64], out: &mut [u8]) -> Host {
     let lent = least(host.lent, mem.len());
     let id = Replica(fields::small(f, 1));
     let population = fields::small(f, 2);
@@ -79,21 +79,21 @@ fn fresh(host: Host, f: &[u64], mem: &mut [u64], out: &mut [u8]) -> Host {
     }
 }
 
-fn guard(host: Host, f: &[u64], mem: &mut [u64], area: &[u64], out: &mut [u8]) -> Host {
+fn guard_line(host: Host, f: &[u64], mem: &mut [u64], area: &[u64], out: &mut [u8]) -> Host {
     let lent = least(host.lent, mem.len());
     let node = host.node;
     let peer = Replica(fields::small(f, 1));
     let number = Ballot(fields::value(f, 2));
     let bar = Slot(fields::value(f, 3));
-    let a = node.guard(&mut mem[0..lent], area, peer, number, bar);
+    let a = guard::guard(node, &mut mem[0..lent], area, peer, number, bar);
     told(host, a, mem, out)
 }
 
-fn prepared(host: Host, f: &[u64], mem: &mut [u64], area: &[u64], out: &mut [u8]) -> Host {
+fn prepared_line(host: Host, f: &[u64], mem: &mut [u64], area: &[u64], out: &mut [u8]) -> Host {
     let lent = least(host.lent, mem.len());
     let node = host.node;
     let ballot = Ballot(fields::value(f, 1));
-    let a = node.prepared(&mem[0..lent], area, ballot);
+    let a = prepared::prepared(node, &mem[0..lent], area, ballot);
     told(host, a, mem, out)
 }
 
@@ -211,13 +211,13 @@ fn step(
     out: &mut [u8],
 ) -> Host {
     if named(line, b"node") {
-        return fresh(host, f, mem, out);
+        return node_line(host, f, mem, out);
     }
     if named(line, b"guard") {
-        return guard(host, f, mem, area, out);
+        return guard_line(host, f, mem, area, out);
     }
     if named(line, b"prepared") {
-        return prepared(host, f, mem, area, out);
+        return prepared_line(host, f, mem, area, out);
     }
     other(host, line, n, f, mem, out)
 }
