@@ -1,7 +1,10 @@
 // Times the proved functions against plain Rust in the same run: key reading, an insert into 64 ranges, lookup at 64 ranges.
+mod timing;
+
+use std::cell::RefCell;
 use std::collections::BTreeMap;
 use std::hint::black_box;
-use std::time::Instant;
+use timing::{both, line, rounds, Side, BATCH, ROUNDS};
 
 #[repr(C)]
 #[derive(Clone, Copy)]
@@ -104,49 +107,6 @@ impl RangeMap {
     }
 }
 
-// A round is far shorter than a scheduler's time slice, so that on a busy machine the median falls on rounds that were not
-// interrupted: it is the time of the code and not the share of the processor.
-const ROUNDS: usize = 1001;
-const CALLS: u64 = 1000;
-const BATCH: usize = 16;
-
-fn median(mut v: Vec<f64>) -> f64 {
-    v.sort_by(|a, b| a.total_cmp(b));
-    v[v.len() / 2]
-}
-
-// ns a call of each side, rounds of the two in turn
-fn both(mut ours: impl FnMut(), mut theirs: impl FnMut()) -> (f64, f64) {
-    let mut a = Vec::new();
-    let mut b = Vec::new();
-    for round in 0..ROUNDS + 1 {
-        let t = Instant::now();
-        for _ in 0..CALLS {
-            ours();
-        }
-        let x = t.elapsed().as_nanos() as f64 / CALLS as f64;
-        let t = Instant::now();
-        for _ in 0..CALLS {
-            theirs();
-        }
-        let y = t.elapsed().as_nanos() as f64 / CALLS as f64;
-        if round > 0 {
-            a.push(x);
-            b.push(y);
-        }
-    }
-    (median(a), median(b))
-}
-
-fn line(name: &str, (ours, theirs): (f64, f64), goal: Option<f64>) {
-    let verdict = match goal {
-        Some(g) if ours < g => format!("  goal {g} ns: met"),
-        Some(g) => format!("  goal {g} ns: MISSED"),
-        None => String::new(),
-    };
-    println!("{name:<48} {ours:>9.1} {theirs:>9.1} {:>7.2}{verdict}", ours / theirs);
-}
-
 // 64 ranges of 10 keys with a gap of 10 after each, no two of the same mask side by side
 fn table() -> (Vec<u64>, usize, RangeMap) {
     let mut rows = vec![0u64; 320];
@@ -200,34 +160,24 @@ fn main() {
         } else {
             assert_eq!((r.number, r.count), (17, count));
         }
-        let mut ours = vec![rows.clone(); BATCH];
-        let mut theirs = vec![map.clone(); BATCH];
-        let mut x = Vec::new();
-        let mut y = Vec::new();
-        for round in 0..ROUNDS + 1 {
-            for w in ours.iter_mut() {
-                w.copy_from_slice(&rows);
-            }
-            let t = Instant::now();
-            for w in ours.iter_mut() {
-                black_box(range(w, count, 64, black_box(s.as_bytes()), black_box(e.as_bytes()), mask));
-            }
-            let took = t.elapsed().as_nanos() as f64 / BATCH as f64;
-            for m in theirs.iter_mut() {
-                *m = map.clone();
-            }
-            let t = Instant::now();
-            for m in theirs.iter_mut() {
-                m.insert(plain_key(black_box(&s)).unwrap(), plain_key(black_box(&e)).unwrap(), mask);
-                black_box(&m);
-            }
-            let other = t.elapsed().as_nanos() as f64 / BATCH as f64;
-            if round > 0 {
-                x.push(took);
-                y.push(other);
-            }
-        }
-        line(name, (median(x), median(y)), Some(1000.0));
+        let work = RefCell::new(vec![rows.clone(); BATCH]);
+        let maps = RefCell::new(vec![map.clone(); BATCH]);
+        let t = rounds(
+            BATCH,
+            Side {
+                ready: || work.borrow_mut().iter_mut().for_each(|w| w.copy_from_slice(&rows)),
+                call: |i| { black_box(range(&mut work.borrow_mut()[i], count, 64, black_box(s.as_bytes()), black_box(e.as_bytes()), mask)); },
+            },
+            Side {
+                ready: || maps.borrow_mut().iter_mut().for_each(|m| *m = map.clone()),
+                call: |i| {
+                    let m = &mut maps.borrow_mut()[i];
+                    m.insert(plain_key(black_box(&s)).unwrap(), plain_key(black_box(&e)).unwrap(), mask);
+                    black_box(&m);
+                },
+            },
+        );
+        line(name, t, Some(1000.0));
     }
 
     for (name, n) in [

@@ -11,6 +11,7 @@ mod server;
 mod time;
 mod utils;
 
+pub mod bare;
 pub mod calls;
 pub mod compare;
 pub mod coverage;

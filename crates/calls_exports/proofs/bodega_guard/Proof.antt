@@ -1,0 +1,23 @@
+use Rattle.calls_exports.proofs.Laws as law
+use borrow.Author.Needs.{needs}
+use Rattle.calls_exports.proofs.bodega_guard.Statement.{statement}
+use Rattle.calls_exports.proofs.bodega_guard.Tie as tie
+
+node-of-requires : tie.Need-node-of-requires
+node-of-requires c κs = search needs
+
+guard-requires : tie.Need-guard-requires
+guard-requires c κs = search needs
+
+told-requires : tie.Need-told-requires
+told-requires c κs = search needs
+
+same-length : tie.Need-same-length
+same-length c = search needs
+
+returns : tie.Need-returns
+returns c = search (needs, law.answers)
+
+pub bodega-guard-spec : {M : Type 1} → statement M
+bodega-guard-spec =
+    tie.close (tie.spec node-of-requires guard-requires told-requires same-length returns)

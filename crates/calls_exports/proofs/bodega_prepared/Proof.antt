@@ -1,0 +1,20 @@
+use Rattle.calls_exports.proofs.Laws as law
+use borrow.Author.Needs.{needs}
+use Rattle.calls_exports.proofs.bodega_prepared.Statement.{statement}
+use Rattle.calls_exports.proofs.bodega_prepared.Tie as tie
+
+node-of-requires : tie.Need-node-of-requires
+node-of-requires c κs = search needs
+
+prepared-requires : tie.Need-prepared-requires
+prepared-requires c κs = search needs
+
+told-requires : tie.Need-told-requires
+told-requires c κs = search needs
+
+returns : tie.Need-returns
+returns c = search (needs, law.answers)
+
+pub bodega-prepared-spec : {M : Type 1} → statement M
+bodega-prepared-spec =
+    tie.close (tie.spec node-of-requires prepared-requires told-requires returns)
