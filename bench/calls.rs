@@ -5,8 +5,8 @@ mod timing;
 use std::cell::RefCell;
 use std::hint::black_box;
 
-use bodega_oracle::bare::Bare;
-use timing::{ROUNDS, both, line};
+use bodega_oracle::bare::{Bare, Batch};
+use timing::{ROUNDS, Side, both, line, rounds};
 
 #[repr(C)]
 #[derive(Clone, Copy, PartialEq, Debug)]
@@ -47,6 +47,10 @@ unsafe extern "C" {
     fn bodega_prepared(
         node: Plain, mem: *const u64, mem_len: usize, area: *const u64, area_len: usize,
         ballot: u64,
+    ) -> Called;
+    fn bodega_bars(
+        node: Plain, mem: *mut u64, mem_len: usize, area: *const u64, area_len: usize,
+        start: u64, accept: u64, commit: u64, exec: u64,
     ) -> Called;
 }
 
@@ -97,6 +101,28 @@ impl Ours {
         called.number
     }
 
+    // What the Rust's records and a commit event leave of slots 0 to 31: Committed, at BALLOT, with empty batches and notice books.
+    fn commit_32(&mut self) {
+        for c in 0..32 {
+            self.mem[512 + 8 * c..][..7].copy_from_slice(&[BALLOT, 3, 0, 0, 1, 0, 0]);
+            self.mem[768 + 89 * c] = 0;
+            self.mem[3616 + 145 * c] = 0;
+        }
+        self.node.slots = 32;
+    }
+
+    #[inline]
+    fn bars(&mut self, start: u64, accept: u64, commit: u64, exec: u64) -> u64 {
+        let called = unsafe {
+            bodega_bars(
+                self.node, self.mem.as_mut_ptr(), self.mem.len(), AREA.as_ptr(), 0,
+                start, accept, commit, exec,
+            )
+        };
+        self.node = called.node;
+        called.number
+    }
+
     #[inline]
     fn prepared(&mut self, ballot: u64) -> u64 {
         let called = unsafe {
@@ -135,6 +161,10 @@ fn main() {
     );
     println!("{:<48} {:>9} {:>9} {:>7}", "", "ours", "other", "ratio");
 
+    let mut ours = Ours { mem: Vec::new(), ..Ours::fresh(1, 5, 3) };
+    let (t, _) = both(|| { assert_eq!(black_box(ours.guard(0, BALLOT, 0)), 2); }, || ());
+    alone("no buffer lent: the node handed over and back", t);
+
     for population in [5, 64] {
         let quorum = population / 2 + 1;
         let mut ours = Ours::fresh(1, population, quorum);
@@ -148,27 +178,30 @@ fn main() {
     for population in [5, 64] {
         let (ours, theirs) = guarded(population);
         let (ours, theirs) = (RefCell::new(ours), RefCell::new(theirs));
-        // the last of the quorum comes down from a bar that the rounds do not use up, one by one: each guard moves the reading bar
-        let mut bars = (2_000_000, 2_000_000);
-        let t = both(
-            || {
-                bars.0 -= 1;
-                black_box(ours.borrow_mut().guard(0, BALLOT, black_box(bars.0)));
-            },
-            || {
-                bars.1 -= 1;
-                theirs.borrow_mut().guard(0, BALLOT, black_box(bars.1));
-            },
-        );
+        // the last of the quorum comes down from `top`, one by one, so that each guard moves the reading bar
+        for (far, top) in [("near", 32), ("far", 1 << 40)] {
+            let t = rounds(
+                32,
+                Side {
+                    ready: || (ours.borrow_mut().mem[0], ours.borrow_mut().mem[64]) = (BALLOT, top),
+                    call: |i| { black_box(ours.borrow_mut().guard(0, BALLOT, black_box(top - 1 - i as u64))); },
+                },
+                Side {
+                    ready: || theirs.borrow_mut().set_pair(0, BALLOT, top),
+                    call: |i| theirs.borrow_mut().guard(0, BALLOT, black_box(top - 1 - i as u64)),
+                },
+            );
+            let last = top - 32;
+            assert_eq!((ours.borrow().node.peer_accept_max, theirs.borrow().reading_bar()), (last, last));
+            line(&format!("guard that moves the bar, population {population}, {far}"), t, None);
+        }
         let (mut ours, mut theirs) = (ours.into_inner(), theirs.into_inner());
-        assert_eq!((ours.node.peer_accept_max, theirs.reading_bar()), (bars.0, bars.1));
-        line(&format!("guard that moves the bar, population {population}"), t, None);
-
+        let stands = ours.node;
         let t = both(
-            || { black_box(ours.guard(0, BALLOT, black_box(3_000_000))); },
-            || theirs.guard(0, BALLOT, black_box(3_000_000)),
+            || { black_box(ours.guard(0, BALLOT, black_box(1 << 41))); },
+            || theirs.guard(0, BALLOT, black_box(1 << 41)),
         );
-        assert_eq!((ours.node.peer_accept_max, theirs.reading_bar()), (bars.0, bars.1));
+        assert_eq!((ours.node, stands.peer_accept_max), (stands, theirs.reading_bar()));
         line(&format!("guard that changes nothing, population {population}"), t, None);
 
         let (t, _) = both(|| { black_box(ours.guard(black_box(population), BALLOT, 0)); }, || ());
@@ -184,4 +217,47 @@ fn main() {
         || theirs.prepared(black_box(BALLOT)),
     );
     line("prepared", t, None);
+
+    let (mut ours, mut theirs) = guarded(5);
+    let t = both(
+        || { black_box(ours.bars(0, black_box(7), 0, 0)); },
+        || theirs.bars(0, black_box(7), 0, 0),
+    );
+    line("bars, no slot held", t, None);
+
+    // 32 slots are Committed; each call executes one and drops it
+    ours.commit_32();
+    let (node, mem) = (ours.node, ours.mem.clone());
+    let (ours, theirs) = (RefCell::new(ours), RefCell::new(theirs));
+    let t = rounds(
+        32,
+        Side {
+            ready: || {
+                let mut ours = ours.borrow_mut();
+                ours.node = node;
+                ours.mem.copy_from_slice(&mem);
+            },
+            call: |i| {
+                let next = i as u64 + 1;
+                black_box(ours.borrow_mut().bars(next, next, 32, next));
+            },
+        },
+        Side {
+            ready: || {
+                let (_, mut again) = guarded(5);
+                for slot in 0..32 {
+                    again.record(slot, BALLOT, Batch::of(&[]));
+                }
+                again.commit(0, BALLOT, 32);
+                *theirs.borrow_mut() = again;
+            },
+            call: |i| {
+                let next = i as u64 + 1;
+                theirs.borrow_mut().bars(next, next, 32, next);
+            },
+        },
+    );
+    assert_eq!((ours.borrow().node.start_slot, ours.borrow().node.slots), (32, 0));
+    assert_eq!(theirs.borrow().held_slots(), (32, 0));
+    line("bars, one of 32 slots executed and dropped", t, None);
 }

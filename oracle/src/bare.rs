@@ -70,6 +70,11 @@ impl Bare {
         self.0.sent.drain_into(&mut Vec::new());
     }
 
+    /// Sets a replica's guard pair.
+    pub fn set_pair(&mut self, peer: u8, number: u64, bar: u64) {
+        self.0.peer_accept_bar.insert(peer, (number, bar as usize));
+    }
+
     /// Forgets written keys, of which `keep` says no.
     pub fn forget(&mut self, keep: impl Fn(&str) -> bool) {
         self.0.highest_slot.retain(|key, _| keep(key));
@@ -78,6 +83,11 @@ impl Bare {
     #[must_use]
     pub fn reading_bar(&self) -> u64 {
         self.0.peer_accept_max as u64
+    }
+
+    #[must_use]
+    pub fn held_slots(&self) -> (u64, usize) {
+        (self.0.start_slot as u64, self.0.insts.len())
     }
 
     #[must_use]

@@ -16,7 +16,7 @@ use crate::rng::Rng;
 use crate::server::{ApiRequest, Command};
 
 /// The calls that the program has, besides a fresh node.
-pub const CALLS: [&str; 2] = ["guard", "prepared"];
+pub const CALLS: [&str; 3] = ["guard", "prepared", "bars"];
 
 /// Where the tables stand in the buffer (crates/node/specs/View.antt).
 const BARS: usize = 64;

@@ -8,7 +8,7 @@ use node::Fresh;
 use node::Node;
 use responders::RespondersConf;
 ghost use mathlib.Core.Path.{_≡_};
-ghost use Rattle.bodega.specs.Replica.{Guard, Prepared};
+ghost use Rattle.bodega.specs.Replica.{Guard, Prepared, Bars};
 ghost use Rattle.bodega.specs.Answers.{Answers};
 ghost use Rattle.node.specs.View.{view, ready};
 ghost use Rattle.node.specs.Begins.{Begins};
@@ -223,5 +223,29 @@ pub extern "C" fn bodega_prepared(node: Plain, mem: &[u64], area: &[u64], ballot
     ensures { λ r. ⌜ Answers ready view (Prepared ballot) (nodeOf node) (now (mem .entry)) (now (area .entry)) (given r) (now (mem .entry)) (now (area .entry)) ⌝ }
 {
     let a = prepared::prepared(node_of(node), mem, area, Ballot(ballot));
+    told(a)
+}
+
+#[no_mangle]
+pub extern "C" fn bodega_bars(
+    node: Plain,
+    mem: &mut [u64],
+    area: &[u64],
+    start: u64,
+    accept: u64,
+    commit: u64,
+    exec: u64,
+) -> Called
+    ensures { λ r. ⌜ Answers ready view (Bars start accept commit exec) (nodeOf node) (now (mem .entry)) (now (area .entry)) (given r) (now (mem .exit)) (now (area .entry)) ⌝ }
+{
+    let a = bars::bars(
+        node_of(node),
+        mem,
+        area,
+        Slot(start),
+        Slot(accept),
+        Slot(commit),
+        Slot(exec),
+    );
     told(a)
 }

@@ -97,6 +97,17 @@ fn prepared_line(host: Host, f: &[u64], mem: &mut [u64], area: &[u64], out: &mut
     told(host, a, mem, out)
 }
 
+fn bars_line(host: Host, f: &[u64], mem: &mut [u64], area: &[u64], out: &mut [u8]) -> Host {
+    let lent = least(host.lent, mem.len());
+    let node = host.node;
+    let start = Slot(fields::value(f, 1));
+    let accept = Slot(fields::value(f, 2));
+    let commit = Slot(fields::value(f, 3));
+    let exec = Slot(fields::value(f, 4));
+    let a = bars::bars(node, &mut mem[0..lent], area, start, accept, commit, exec);
+    told(host, a, mem, out)
+}
+
 fn leader(length: u64, first: u8, n: u8) -> Leader {
     if length == 1 {
         if first == b'-' {
@@ -218,6 +229,9 @@ fn step(
     }
     if named(line, b"prepared") {
         return prepared_line(host, f, mem, area, out);
+    }
+    if named(line, b"bars") {
+        return bars_line(host, f, mem, area, out);
     }
     other(host, line, n, f, mem, out)
 }

@@ -1,0 +1,23 @@
+use Rattle.calls_exports.proofs.Laws as law
+use borrow.Author.Needs.{needs}
+use Rattle.calls_exports.proofs.bodega_bars.Statement.{statement}
+use Rattle.calls_exports.proofs.bodega_bars.Tie as tie
+
+node-of-requires : tie.Need-node-of-requires
+node-of-requires c κs = search needs
+
+bars-requires : tie.Need-bars-requires
+bars-requires c κs = search needs
+
+told-requires : tie.Need-told-requires
+told-requires c κs = search needs
+
+same-length : tie.Need-same-length
+same-length c = search needs
+
+returns : tie.Need-returns
+returns c = search (needs, law.answers)
+
+pub bodega-bars-spec : {M : Type 1} → statement M
+bodega-bars-spec =
+    tie.close (tie.spec node-of-requires bars-requires told-requires same-length returns)
