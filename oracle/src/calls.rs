@@ -16,7 +16,7 @@ use crate::rng::Rng;
 use crate::server::{ApiRequest, Command};
 
 /// The calls that the program has, besides a fresh node.
-pub const CALLS: [&str; 3] = ["guard", "prepared", "bars"];
+pub const CALLS: [&str; 4] = ["guard", "prepared", "record", "bars"];
 
 /// Where the tables stand in the buffer (crates/node/specs/View.antt).
 const BARS: usize = 64;

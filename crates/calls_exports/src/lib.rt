@@ -8,7 +8,8 @@ use node::Fresh;
 use node::Node;
 use responders::RespondersConf;
 ghost use mathlib.Core.Path.{_≡_};
-ghost use Rattle.bodega.specs.Replica.{Guard, Prepared, Bars};
+ghost use Rattle.bodega.specs.Replica.{Guard, Prepared, Bars, Record};
+ghost use Rattle.requests.specs.Given.{given as batchOf};
 ghost use Rattle.bodega.specs.Answers.{Answers};
 ghost use Rattle.node.specs.View.{view, ready};
 ghost use Rattle.node.specs.Begins.{Begins};
@@ -246,6 +247,30 @@ pub extern "C" fn bodega_bars(
         Slot(accept),
         Slot(commit),
         Slot(exec),
+    );
+    told(a)
+}
+
+#[no_mangle]
+pub extern "C" fn bodega_record(
+    node: Plain,
+    mem: &mut [u64],
+    area: &[u64],
+    slot: u64,
+    ballot: u64,
+    rows: &[u64],
+    text: &[u8],
+) -> Called
+    ensures { λ r. ⌜ Answers ready view (Record slot ballot (batchOf (now (rows .entry)) (now (text .entry)))) (nodeOf node) (now (mem .entry)) (now (area .entry)) (given r) (now (mem .exit)) (now (area .entry)) ⌝ }
+{
+    let a = record::record(
+        node_of(node),
+        mem,
+        area,
+        Slot(slot),
+        Ballot(ballot),
+        rows,
+        text,
     );
     told(a)
 }

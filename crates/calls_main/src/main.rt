@@ -12,7 +12,7 @@ use node::Answered;
 use node::Fresh;
 use node::Node;
 use responders::RespondersConf;
-ghost use Prim.Native.Nat.{_<_, _≤_};
+ghost use Prim.Native.Nat.{_+_, _<_, _≤_};
 ghost use lib.ListN.{length};
 
 // The node, how many words of its buffer the calls are lent, and how many lines were read.
@@ -105,6 +105,58 @@ fn bars_line(host: Host, f: &[u64], mem: &mut [u64], area: &[u64], out: &mut [u8
     let commit = Slot(fields::value(f, 3));
     let exec = Slot(fields::value(f, 4));
     let a = bars::bars(node, &mut mem[0..lent], area, start, accept, commit, exec);
+    told(host, a, mem, out)
+}
+
+// A request in six words; an empty value is a Get.
+fn put_row(f: &[u64], k: usize, rows: &mut [u64], p: usize)
+    requires { ⌜ (k + 3 < 1000) × (p < 3000) ⌝ }
+{
+    let kind = if fields::length(f, k + 3) == 0 { 0 } else { 1 };
+    fields::set(rows, p, fields::value(f, k));
+    fields::set(rows, p + 1, fields::value(f, k + 1));
+    fields::set(rows, p + 2, kind);
+    fields::set(rows, p + 3, fields::value(f, k + 3));
+    fields::set(rows, p + 4, fields::start(f, k + 2));
+    fields::set(rows, p + 5, fields::length(f, k + 2));
+}
+
+// The groups of four fields as rows, and how many words they are.
+fn batch(f: &[u64], n: usize, rows: &mut [u64]) -> usize {
+    let mut k = 3;
+    let mut p = 0;
+    while k < 990 && k + 3 < n {
+        put_row(f, k, rows, p);
+        k += 4;
+        p += 6;
+    }
+    p
+}
+
+fn record_line(
+    host: Host,
+    line: &[u8],
+    n: usize,
+    f: &[u64],
+    mem: &mut [u64],
+    area: &[u64],
+    out: &mut [u8],
+) -> Host {
+    let lent = least(host.lent, mem.len());
+    let node = host.node;
+    let slot = Slot(fields::value(f, 1));
+    let ballot = Ballot(fields::value(f, 2));
+    let mut rows = [0u64; 1200];
+    let used = least(batch(f, n, &mut rows), 1200);
+    let a = record::record(
+        node,
+        &mut mem[0..lent],
+        area,
+        slot,
+        ballot,
+        &rows[0..used],
+        line,
+    );
     told(host, a, mem, out)
 }
 
@@ -232,6 +284,9 @@ fn step(
     }
     if named(line, b"bars") {
         return bars_line(host, f, mem, area, out);
+    }
+    if named(line, b"record") {
+        return record_line(host, line, n, f, mem, area, out);
     }
     other(host, line, n, f, mem, out)
 }
