@@ -14,7 +14,7 @@ use lib.Dec.{ltb, leb, eqb}
 use lib.ListN.{length, getElem?}
 use Rattle.words.specs.Choice.{if_then_else_, ifNone_then_else_}
 use Rattle.ids.specs.declared.Slot.{Slot}
-use Rattle.bitmap.specs.Bitmap.{get, count}
+use Rattle.bitmap.specs.Bitmap.{get}
 use Rattle.keys.specs.Read.{readKey}
 use Rattle.keys.specs.Shown.{shown}
 use Rattle.keys.specs.declared.KeyRead.{KeyRead}
@@ -33,9 +33,6 @@ use Rattle.bodega.specs.Grounds.{full, overfills}
 use Rattle.cells.specs.Cell.{Notices, statusOf, bookOf, cellOf}
 use Rattle.cells.specs.declared.Cell.{Cell}
 use Rattle.cells.specs.declared.Status.{Status}
-use Rattle.cells.specs.declared.NoticeBook.{NoticeBook}
-use Rattle.cells.specs.declared.ReplicaBk.{ReplicaBk}
-use Rattle.cells.specs.declared.ReplicaBk.the-variants.{Some}
 use Rattle.batch.specs.Batch.{valueIn}
 use Rattle.batch.specs.declared.Latest.{Latest}
 use Rattle.batch.specs.declared.Latest.the-variants as latest
@@ -44,6 +41,7 @@ use Rattle.written.specs.declared.LastWrite.{LastWrite}
 use Rattle.written.specs.declared.LastWrite.the-variants as last
 use Rattle.slots.specs.Slots.{shortAt, batchAt, readsAt, instOf, instIn, instsOf, bookOf as heldBook}
 use Rattle.slots.proofs.Laws.{inst-at, inst-none}
+use Rattle.localread.specs.Release.{holdingOf}
 use Rattle.node.proofs.Laws.{and-both}
 use Rattle.inspect.specs.Seen.{seen, heldAt, settledOf, answerIn}
 use Rattle.inspect.specs.declared.Standing.{Standing}
@@ -148,16 +146,6 @@ pub some-book : (o : Option Notices) (l : List machine.ReadReq) → (ifNone o th
 some-book none l = refl
 some-book (some b) l = refl
 
-pub quorum-book : (q : ℕ) (o : Option Notices) (l : List machine.ReadReq)
-    → (ifNone o then false else λ b. leb q (count (b .notices))) ≡ (ifNone heldBook o l then false else λ b. leb q (count (b .notices)))
-quorum-book q none l = refl
-quorum-book q (some b) l = refl
-
-pub quorum-is : (q : ℕ) (x : ReplicaBk) (b : NoticeBook) (a n : ℕ) → x ≡ Some b → a ≡ q → n ≡ count (b .notices)
-    → leb a n ≡ (ifNone bookOf x then false else λ y. leb q (count (y .notices)))
-quorum-is q x b a n e f g =
-    ap (λ (k : ℕ). leb k n) f ∙ ap (leb q) g ∙ ap (λ (y : ReplicaBk). ifNone bookOf y then false else λ z. leb q (count (z .notices))) (sym e)
-
 -- by the status that the match told
 abbrev waitsBy : machine.Status → Option Notices → List machine.ReadReq → Bool
 waitsBy t o l = machine.isAccepting t && (ifNone heldBook o l then false else λ b. true)
@@ -166,23 +154,9 @@ pub waits-by : (x : Cell) (y : Status) (reqs : List machine.Request) (reads : Li
     → waitsBy (statusOf y) (bookOf (x .«replica_bk»)) reads ≡ local.waits (instOf (cellOf x) reqs reads)
 waits-by x y reqs reads e = ap (λ (z : Status). waitsBy (statusOf z) (bookOf (x .«replica_bk»)) reads) (sym e)
 
-abbrev boundBy : ℕ → machine.Status → Option Notices → List machine.ReadReq → Bool
-boundBy q t o l = if machine.isAccepting t then (ifNone heldBook o l then false else λ b. leb q (count (b .notices))) else not (machine.isOpen t)
-
-pub bound-by : (q : ℕ) (x : Cell) (y : Status) (reqs : List machine.Request) (reads : List machine.ReadReq) → x .status ≡ y
-    → boundBy q (statusOf y) (bookOf (x .«replica_bk»)) reads ≡ local.isBound q (instOf (cellOf x) reqs reads)
-unfolding local.isBound
-bound-by q x y reqs reads e = ap (λ (z : Status). boundBy q (statusOf z) (bookOf (x .«replica_bk»)) reads) (sym e)
-
-full-book : (o : Option Notices) (l : List machine.ReadReq) → (ifNone o then false else λ b. true) ≡ true
-    → leb 16 (length l) ≡ (ifNone heldBook o l then false else λ b. leb 16 (length (b .holding)))
-full-book none l e = let z : _≡_ {A = ℕ} 0 1 = cc in absurd (omega arith)
-full-book (some b) l e = refl
-
-no-book : (o : Option Notices) (l : List machine.ReadReq) → (ifNone o then false else λ b. true) ≡ false
-    → false ≡ (ifNone heldBook o l then false else λ b. leb 16 (length (b .holding)))
-no-book none l e = refl
-no-book (some b) l e = let z : _≡_ {A = ℕ} 0 1 = cc in absurd (omega arith)
+full-book : (o : Option machine.Book) → leb 16 (length (ifNone o then [] else λ b. b .holding)) ≡ (ifNone o then false else λ b. leb 16 (length (b .holding)))
+full-book none = refl
+full-book (some b) = refl
 
 -- ---- `inspect_highest_slot`, `waits_at` and `full`, by the instance that is found
 
@@ -213,6 +187,11 @@ module _ (v : Standing) (rows s w : List ℕ) (slot : ℕ) (t : Bool) (e : t ≡
 
   pub full-none : not t ≡ true → false ≡ full (seen v rows s w) slot
   full-none f = ap filled (sym (no-slot v rows s w slot t e f))
+
+  pub full-counted : not t ≡ false → (c n : ℕ) → c ≡ slot % 32 → (n ≡ length (holdingOf (instIn s c))) × (n ≤ 16) → leb 16 n ≡ full (seen v rows s w) slot
+  full-counted f c n k j =
+      ap (leb 16) (j .0) ∙ ap (λ (y : ℕ). leb 16 (length (holdingOf (instIn s y)))) k ∙ full-book (instIn s (slot % 32) .replicaBk)
+      ∙ ap filled (sym (slot-at v rows s w slot t e f))
 
   module _ (f : not t ≡ false) (c : ℕ) (x : Cell) (k : c ≡ slot % 32) (l : cellOf x ≡ shortAt s c) where
     abbrev here : machine.Instance
@@ -246,13 +225,6 @@ module _ (v : Standing) (rows s w : List ℕ) (slot : ℕ) (t : Bool) (e : t ≡
 
       pub wait-again : u ≡ false → local.Again ≡ local.waitsAt (seen v rows s w) slot
       wait-again h = sym (rw (sym g ∙ h)) ∙ ap (waited slot) (sym found-here)
-
-    module _ (u : Bool) (g : u ≡ (ifNone bookOf (x .«replica_bk») then false else λ b. true)) where
-      pub full-unbooked : not u ≡ true → false ≡ full (seen v rows s w) slot
-      full-unbooked h = no-book (bookOf (x .«replica_bk»)) (readsAt s c) (sym g ∙ not-true u h) ∙ ap filled (sym found-here)
-
-      pub full-counted : not u ≡ false → (n : ℕ) → (n ≡ length (readsAt s c)) × (n ≤ 16) → leb 16 n ≡ full (seen v rows s w) slot
-      full-counted h n j = ap (leb 16) (j .0) ∙ full-book (bookOf (x .«replica_bk»)) (readsAt s c) (sym g ∙ not-false u h) ∙ ap filled (sym found-here)
 
 -- ---- `inspect_latest_write`
 

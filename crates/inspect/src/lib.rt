@@ -17,10 +17,10 @@ ghost use mathlib.Core.Path.{_≡_};
 ghost use mathlib.Core.Bool.{true, false};
 ghost use mathlib.Core.List.{List, [], _∷_};
 ghost use Prim.Native.Nat.{ℕ, _%_, _≤_};
-ghost use lib.Dec.{ltb, leb};
+ghost use lib.Dec.{ltb};
 ghost use lib.ListN.{length};
 ghost use Rattle.words.specs.Choice.{ifNone_then_else_};
-ghost use Rattle.bitmap.specs.Bitmap.{get, count};
+ghost use Rattle.bitmap.specs.Bitmap.{get};
 ghost use Rattle.keyrange.specs.Rows.{maskIn};
 ghost use Rattle.packed.specs.Key.{bytesOf};
 ghost use Rattle.items.specs.Item.{itemOf};
@@ -28,7 +28,7 @@ ghost use Rattle.cells.specs.Cell.{statusOf, bookOf, cellOf};
 ghost use Rattle.slots.specs.Slots.{instOf};
 ghost use Rattle.bodega.specs.Replica.{Request, ReadReq, order, isLeader};
 ghost use Rattle.bodega.specs.Localread as local;
-ghost use Rattle.bodega.specs.Localread.{isStableLeader, isBound, inspectHighestSlot, inspectLatestWrite, waits, waitsAt, improper, answerOf};
+ghost use Rattle.bodega.specs.Localread.{isStableLeader, inspectHighestSlot, inspectLatestWrite, waits, waitsAt, improper, answerOf};
 ghost use Rattle.bodega.specs.Request.{settled, answered};
 ghost use Rattle.bodega.specs.Grounds.{full, overfills};
 ghost use Rattle.inspect.specs.Seen.{seen, Lent, heldAt, settledOf, answerIn};
@@ -163,31 +163,6 @@ fn has_book(book: ReplicaBk) -> bool
     true
 }
 
-// Whether a quorum has sent notices.
-fn has_quorum(book: ReplicaBk, quorum: u8) -> bool
-    ensures { λ r. ⌜ r ≡ (ifNone bookOf book then false else λ b. leb quorum (count (b .notices))) ⌝ }
-{
-    let ReplicaBk::Some(b) = book else {
-        return false;
-    };
-    wide(quorum) <= bitmap::count(b.notices)
-}
-
-// Committed or later, or Accepting with a quorum of notices.
-fn is_bound(cell: Cell, quorum: u8) -> bool
-    ensures { λ r. ⌜ ((reqs : List Request) (reads : List ReadReq) → r ≡ isBound quorum (instOf (cellOf cell) reqs reads)) ⌝ }
-{
-    let status = cell.status;
-    let book = cell.replica_bk;
-    match status {
-        Status::Null => false,
-        Status::Preparing => false,
-        Status::Accepting => has_quorum(book, quorum),
-        Status::Committed => true,
-        Status::Executed => true,
-    }
-}
-
 // Accepting, with a notice book.
 fn waits(cell: Cell) -> bool
     ensures { λ r. ⌜ ((reqs : List Request) (reads : List ReadReq) → r ≡ waits (instOf (cellOf cell) reqs reads)) ⌝ }
@@ -219,7 +194,7 @@ fn inspect_highest_slot(v: Standing, s: &[u64], key: Key, slot: Slot) -> Settled
     if is_early(status) {
         return Settled::SlotStatus(slot);
     }
-    if !is_bound(cell, v.quorum) {
+    if !localread::is_bound(cell, v.quorum) {
         return Settled::Notices(slot);
     }
     let put = slots::last_put(s, c, key);
@@ -341,7 +316,7 @@ pub fn answer_of(v: Standing, s: &[u64], settled: Settled) -> Answer
     }
 }
 
-// The slot has a notice book and holds 16 reads.
+// The slot is held and its notice book holds 16 reads.
 fn is_full(v: Standing, s: &[u64], slot: Slot) -> bool
     requires { ⌜ 7744 ≤ length (now s) ⌝ }
     ensures { λ r. ⌜ ((rows w : List ℕ) → r ≡ full (seen v rows (now (s .entry)) w) (slot .0)) ⌝ }
@@ -350,13 +325,7 @@ fn is_full(v: Standing, s: &[u64], slot: Slot) -> bool
     if !is_held(start.0, v.slots, slot.0) {
         return false;
     }
-    let c = place_of(slot);
-    let cell = slots::load(s, c);
-    let book = cell.replica_bk;
-    if !has_book(book) {
-        return false;
-    }
-    16 <= slots::count_reads(s, c)
+    16 <= localread::holding(s, place_of(slot))
 }
 
 // A read would be held by a slot that holds 16.
