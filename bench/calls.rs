@@ -52,6 +52,10 @@ unsafe extern "C" {
         node: Plain, mem: *mut u64, mem_len: usize, area: *const u64, area_len: usize,
         start: u64, accept: u64, commit: u64, exec: u64,
     ) -> Called;
+    fn bodega_record(
+        node: Plain, mem: *mut u64, mem_len: usize, area: *const u64, area_len: usize,
+        slot: u64, ballot: u64, rows: *const u64, rows_len: usize, text: *const u8, text_len: usize,
+    ) -> Called;
 }
 
 const WORDS: usize = 10305;
@@ -117,6 +121,18 @@ impl Ours {
             bodega_bars(
                 self.node, self.mem.as_mut_ptr(), self.mem.len(), AREA.as_ptr(), 0,
                 start, accept, commit, exec,
+            )
+        };
+        self.node = called.node;
+        called.number
+    }
+
+    #[inline]
+    fn record(&mut self, slot: u64, ballot: u64, rows: &[u64], text: &[u8]) -> u64 {
+        let called = unsafe {
+            bodega_record(
+                self.node, self.mem.as_mut_ptr(), self.mem.len(), AREA.as_ptr(), 0,
+                slot, ballot, rows.as_ptr(), rows.len(), text.as_ptr(), text.len(),
             )
         };
         self.node = called.node;
@@ -260,4 +276,75 @@ fn main() {
     assert_eq!((ours.borrow().node.start_slot, ours.borrow().node.slots), (32, 0));
     assert_eq!(theirs.borrow().held_slots(), (32, 0));
     line("bars, one of 32 slots executed and dropped", t, None);
+
+    // slots 0 to 31 recorded one after the other, each with `puts` Puts; `known` keys are written before, and the batches' keys are among them, or the
+    // same few in every batch, after them in the table
+    for (puts, known, new) in [(1, 0, true), (1, 255, false), (8, 0, true), (8, 248, false), (8, 248, true)] {
+        let name = |i: usize| format!("k{}", 1000 + i);
+        let key = |i: usize| if new { 1000 + i } else { i };
+        let (mut ours, mut theirs) = guarded(5);
+        for at in (0..known).step_by(8) {
+            let count = 8.min(known - at);
+            let (rows, text) = rows_of(&(at..at + count).map(name).collect::<Vec<_>>());
+            assert_eq!(ours.record(0, BALLOT, &rows, &text), 0);
+            theirs.record(0, BALLOT, batch_of(&(at..at + count).map(name).collect::<Vec<_>>()));
+        }
+        let turns = 32;
+        let keys: Vec<Vec<String>> =
+            (0..turns).map(|i| (0..puts).map(|k| name(key(if new { k } else { (i * puts + k) % known }))).collect()).collect();
+        let rows: Vec<_> = keys.iter().map(|k| rows_of(k)).collect();
+        let batches: Vec<_> = keys.iter().map(|k| batch_of(k)).collect();
+        let (node, mem) = (ours.node, ours.mem.clone());
+        let (ours, theirs) = (RefCell::new(ours), RefCell::new(theirs));
+        let ready = RefCell::new(Vec::new());
+        let t = rounds(
+            turns,
+            Side {
+                ready: || {
+                    let mut ours = ours.borrow_mut();
+                    ours.node = node;
+                    ours.mem.copy_from_slice(&mem);
+                },
+                call: |i| {
+                    let (rows, text) = &rows[i];
+                    black_box(ours.borrow_mut().record(i as u64, BALLOT, rows, text));
+                },
+            },
+            Side {
+                // the batches are cloned outside the time: the original gets its strings made
+                ready: || {
+                    let (_, mut again) = guarded(5);
+                    for at in (0..known).step_by(8) {
+                        let count = 8.min(known - at);
+                        again.record(0, BALLOT, batch_of(&(at..at + count).map(name).collect::<Vec<_>>()));
+                    }
+                    *theirs.borrow_mut() = again;
+                    *ready.borrow_mut() = batches.iter().rev().cloned().collect();
+                },
+                call: |i| {
+                    let batch = ready.borrow_mut().pop().expect("a batch");
+                    theirs.borrow_mut().record(i as u64, BALLOT, batch);
+                },
+            },
+        );
+        assert_eq!(ours.borrow().node.slots, 32);
+        assert_eq!(theirs.borrow().held_slots(), (0, 32));
+        assert_eq!(ours.borrow().mem[8256] as usize, theirs.borrow().written());
+        let which = if new { format!("the same keys, {known} others before") } else { format!("among {known} keys") };
+        line(&format!("record, {puts} Puts, {which}"), t, None);
+    }
+}
+
+fn rows_of(keys: &[String]) -> (Vec<u64>, Vec<u8>) {
+    let (mut rows, mut text) = (Vec::new(), Vec::new());
+    for (i, key) in keys.iter().enumerate() {
+        rows.extend([7, i as u64, 1, 500, text.len() as u64, key.len() as u64]);
+        text.extend_from_slice(key.as_bytes());
+    }
+    (rows, text)
+}
+
+fn batch_of(keys: &[String]) -> Batch {
+    let requests: Vec<_> = keys.iter().enumerate().map(|(i, k)| (7, i as u64, k.as_bytes(), Some(500))).collect();
+    Batch::of(&requests)
 }
