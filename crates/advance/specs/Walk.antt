@@ -18,8 +18,8 @@ abbrev pub stopsAt : ℕ → Instance → Bool
 stopsAt ballot i = ltb (i .bal) ballot || ltb (order (i .status)) 2
 
 -- a slot that it passes has one item if it is open, else none
-abbrev pub commitsAt : Instance → ℕ
-commitsAt i = if isOpen (i .status) then 1 else 0
+abbrev pub oneIfOpen : Instance → ℕ
+oneIfOpen i = if isOpen (i .status) then 1 else 0
 
 abbrev pub markItems : ℕ → Instance → List Item
 markItems slot i = if isOpen (i .status) then Commit slot ∷ [] else []
@@ -29,7 +29,7 @@ markShort x = if isOpen (x .status) then withStatus Committed x else x
 
 -- the slot at place c passed: the slots' words t, the area after, and the next place r
 pub record Marks (c place slot : ℕ) (s area : List ℕ) (r : ℕ) (t area′ : List ℕ) : Type 0 where
-  pub next : r ≡ place + commitsAt (instIn s c)
+  pub next : r ≡ place + oneIfOpen (instIn s c)
   pub items : area′ ≡ writes area (place * 6) (encode (markItems slot (instIn s c)))
   pub marked : Puts s c (markShort (shortAt s c)) (batchAt s c) (readsAt s c) t
 

@@ -10,7 +10,7 @@ ghost use Rattle.items.specs.Item.{places};
 ghost use Rattle.bodega.specs.Replica.{order};
 ghost use Rattle.cells.specs.Cell.{statusOf};
 ghost use Rattle.slots.specs.Slots.{instIn};
-ghost use Rattle.advance.specs.Walk.{stopsAt, commitsAt, Marks, walked, Advances};
+ghost use Rattle.advance.specs.Walk.{stopsAt, oneIfOpen, Marks, walked, Advances};
 
 // `status < Accepting`.
 fn is_below_accepting(status: Status) -> bool
@@ -38,10 +38,10 @@ fn stops(s: &[u64], c: usize, ballot: u64) -> bool
     is_below_accepting(status)
 }
 
-// How many items a slot gives that the walk passes.
-fn commits(s: &[u64], c: usize) -> usize
+// How many items an open slot gives.
+pub fn one_if_open(s: &[u64], c: usize) -> usize
     requires { ⌜ (c < 32) × (7744 ≤ length (now s)) ⌝ }
-    ensures { λ r. ⌜ r ≡ commitsAt (instIn (now (s .entry)) c) ⌝ }
+    ensures { λ r. ⌜ r ≡ oneIfOpen (instIn (now (s .entry)) c) ⌝ }
 {
     if slots::is_open(s, c) {
         return 1;
@@ -51,7 +51,7 @@ fn commits(s: &[u64], c: usize) -> usize
 
 // A slot that the walk passes: marked Committed, with its item, unless it was already. Gives the next place of the area.
 fn mark(s: &mut [u64], c: usize, area: &mut [u64], place: usize, slot: u64) -> usize
-    requires { ⌜ (c < 32) × (7744 ≤ length (now s)) × (place + commitsAt (instIn (now s) c) ≤ places (now area)) ⌝ }
+    requires { ⌜ (c < 32) × (7744 ≤ length (now s)) × (place + oneIfOpen (instIn (now s) c) ≤ places (now area)) ⌝ }
     ensures { λ r. ⌜ Marks c place slot (now (s .entry)) (now (area .entry)) r (now (s .exit)) (now (area .exit)) ⌝ }
 {
     if !slots::is_open(s, c) {
@@ -90,7 +90,7 @@ pub fn count_commits(s: &[u64], start: u64, n: usize, commit: u64, ballot: u64, 
         if stops(s, c, ballot) {
             return count;
         }
-        count += commits(s, c);
+        count += one_if_open(s, c);
         k += 1;
     }
     count

@@ -1,3 +1,5 @@
+use Rattle.advance.specs.Walk.{stopsAt, markItems}
+use Rattle.advance.proofs.Pass as pass
 use Rattle.advance.proofs.Laws as law
 use Prim.Native.Nat.{_-_, _≤_}
 use native.Mathlib.Omega.{arith}
@@ -6,7 +8,7 @@ use Rattle.advance.proofs.advance.Statement.{statement}
 use Rattle.advance.proofs.advance.Tie as tie
 
 abbrev Inv-loop : tie.InvT-loop
-Inv-loop s₀ area₀ place start n commit ballot bar to k₀ at₀ s area k at = (k ≤ n) × law.Going start n ballot bar place commit s₀ area₀ k at s area
+Inv-loop s₀ area₀ place start n commit ballot bar to k₀ at₀ s area k at = (k ≤ n) × law.GoingAt start n ballot bar commit place s₀ area₀ k at s area
 
 abbrev μ-loop : tie.MeasureT-loop
 μ-loop s₀ area₀ place start n commit ballot bar to k₀ at₀ s area k at = n - k
@@ -18,7 +20,7 @@ sub-k : tie.Need-sub-k Inv-loop μ-loop
 sub-k c = omega arith
 
 loop-holds : tie.Need-loop-holds Inv-loop μ-loop
-loop-holds c = (omega arith, law.going-start _ _ _ _ _ _ _ _ (c .before .before .before .pre .0) (c .before .before .before .pre .1))
+loop-holds c = let a = c .before .before .before .args in (omega arith, pass.going-start (stopsAt (a .ballot)) law.marked markItems _ _ (a .bar - a .start) (a .commit - a .start) (a .place) (a .s .now) (a .area .now))
 
 add-slot : tie.Need-add-slot Inv-loop μ-loop
 add-slot c = omega arith
@@ -33,10 +35,10 @@ same-length-2 : tie.Need-same-length-2 Inv-loop μ-loop
 same-length-2 c = c .before .before .before .before .loop .inv .1 .room
 
 returns : tie.Need-returns Inv-loop μ-loop
-returns c = let l = c .before .before .before .before .loop in law.going-stop _ _ _ _ _ _ _ _ (l .k) (l .at) (l .s) (l .area) (l .inv .1) (omega arith) _ (c .before .stops .ensures) (c .if1 .taken)
+returns c = let a = c .before .before .before .before .before .before .before .before .args in let l = c .before .before .before .before .loop in law.advances _ _ _ _ _ _ _ _ (c .before .before .before .before .before .before .before .before .pre .0) (c .before .before .before .before .before .before .before .before .pre .1) (pass.going-stop (stopsAt (a .ballot)) law.marked markItems _ _ (a .bar - a .start) (a .commit - a .start) (a .place) (a .s .now) (a .area .now) (l .k) (l .at) (l .s) (l .area) (l .inv .1) (omega arith) _ (c .before .stops .ensures) (c .if1 .taken))
 
 mark-requires : tie.Need-mark-requires Inv-loop μ-loop
-mark-requires c κs = let l = c .before .before .before .before .before .before .loop in (omega arith, omega (arith, l .inv .1 .size), law.fits _ _ _ _ _ _ _ _ (l .k) (l .at) (l .s) (l .area) (l .inv .1) (omega arith) _ (c .before .before .before .stops .ensures) (c .before .before .if1 .left) (c .before .before .before .before .before .before .before .before .before .before .pre .5))
+mark-requires c κs = let a = c .before .before .before .before .before .before .before .before .before .before .args in let l = c .before .before .before .before .before .before .loop in (omega arith, omega (arith, l .inv .1 .size), law.mark-fits _ _ _ _ _ _ _ _ (l .k) (l .at) (l .s) (l .area) (l .inv .1) (omega arith) _ (c .before .before .before .stops .ensures) (c .before .before .if1 .left) (c .before .before .before .before .before .before .before .before .before .before .pre .0) (c .before .before .before .before .before .before .before .before .before .before .pre .1) (c .before .before .before .before .before .before .before .before .before .before .pre .5))
 
 add-k : tie.Need-add-k Inv-loop μ-loop
 add-k c = omega arith
@@ -45,7 +47,7 @@ loop-less : tie.Need-loop-less Inv-loop μ-loop
 loop-less c = omega arith
 
 loop-again : tie.Need-loop-again Inv-loop μ-loop
-loop-again c = let l = c .before .before .before .before .before .before .before .before .before .before .before .loop in (omega arith, law.going-step _ _ _ _ _ _ _ _ (l .k) (l .at) (l .s) (l .area) (l .inv .1) (omega arith) _ (c .before .before .before .before .before .before .before .before .stops .ensures) (c .before .before .before .before .before .before .before .if1 .left) (c .before .before .before .before .before .before .before .before .before .before .before .before .before .before .before .pre .3) _ _ _ (c .before .before .before .before .mark .ensures))
+loop-again c = let a = c .before .before .before .before .before .before .before .before .before .before .before .before .before .before .before .args in let l = c .before .before .before .before .before .before .before .before .before .before .before .loop in (omega arith, law.mark-step _ _ _ _ _ _ _ _ (l .k) (l .at) (l .s) (l .area) (l .inv .1) (omega arith) _ (c .before .before .before .before .before .before .before .before .stops .ensures) (c .before .before .before .before .before .before .before .if1 .left) (c .before .before .before .before .before .before .before .before .before .before .before .before .before .before .before .pre .3) _ _ _ (c .before .before .before .before .mark .ensures))
 
 same-length-3 : tie.Need-same-length-3 Inv-loop μ-loop
 same-length-3 c = c .before .loop .inv .1 .size
@@ -54,7 +56,7 @@ same-length-4 : tie.Need-same-length-4 Inv-loop μ-loop
 same-length-4 c = c .before .loop .inv .1 .room
 
 returns-2 : tie.Need-returns-2 Inv-loop μ-loop
-returns-2 c = let l = c .before .loop in law.going-end _ _ _ _ _ _ _ _ (l .k) (l .at) (l .s) (l .area) (l .inv .1) (l .inv .0) (omega arith)
+returns-2 c = let a = c .before .before .before .before .before .args in let l = c .before .loop in law.advances _ _ _ _ _ _ _ _ (c .before .before .before .before .before .pre .0) (c .before .before .before .before .before .pre .1) (pass.going-end (stopsAt (a .ballot)) law.marked markItems _ _ (a .bar - a .start) (a .commit - a .start) (a .place) (a .s .now) (a .area .now) (l .k) (l .at) (l .s) (l .area) (l .inv .1) (l .inv .0) (omega arith))
 
 pub advance-spec : {M : Type 1} → statement M
 advance-spec =
