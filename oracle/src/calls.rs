@@ -31,8 +31,8 @@ const WINDOW: usize = 32;
 
 /// Scripts by seed, the lines of each before those at the edges, and every
 /// how many scripts one has many written keys.
-const SEEDS: u64 = 20;
-const LINES: u64 = 170;
+const SEEDS: u64 = 14;
+const LINES: u64 = 250;
 const MANY_KEYS: u64 = 7;
 
 /// Where a script ends with a node of fewer bytes of text, it is written in
