@@ -16,7 +16,7 @@ use Rattle.slots.specs.Slots.{shortAt, batchAt, readsAt, bookOf, instOf, instIn
 use Rattle.localread.specs.Release.{answerTo, holdingOf, answersOf, emptied}
 
 -- an instance put back where it stands
-put-back : (l : List Instance) (k : ℕ) (i : Instance) → getElem? l k ≡ some i → set l k i ≡ l
+pub put-back : (l : List Instance) (k : ℕ) (i : Instance) → getElem? l k ≡ some i → set l k i ≡ l
 put-back [] k i e = refl
 put-back (x ∷ l) zero i e = let q : i ≡ x = cc in ap (λ (y : Instance). y ∷ l) q
 put-back (x ∷ l) (suc k) i e = ap (λ (r : List Instance). x ∷ r) (put-back l k i e)
