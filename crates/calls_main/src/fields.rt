@@ -5,12 +5,12 @@ ghost use Prim.Native.Nat.{_<_, _≤_};
 ghost use lib.ListN.{length};
 
 // The word at i, 0 past the end; such a word is not set.
-pub fn word(s: &[u64], i: usize) -> u64 {
+pub(crate) fn word(s: &[u64], i: usize) -> u64 {
     if i < s.len() { s[i] } else { 0 }
 }
 
 // Where the byte b is next, from `at` on, or the end.
-pub fn end_of(line: &[u8], at: usize, b: u8) -> usize
+pub(crate) fn end_of(line: &[u8], at: usize, b: u8) -> usize
     requires { ⌜ at ≤ length (now line) ⌝ }
     ensures { λ r. ⌜ (at ≤ r) × (r ≤ length (now (line .entry))) ⌝ }
 {
@@ -55,7 +55,7 @@ fn number(s: &[u8]) -> u64 {
     n
 }
 
-pub fn set(s: &mut [u64], i: usize, w: u64) {
+pub(crate) fn set(s: &mut [u64], i: usize, w: u64) {
     if i < s.len() {
         s[i] = w;
     }
@@ -70,7 +70,7 @@ fn put(f: &mut [u64], k: usize, start: usize, end: usize, n: u64) {
 }
 
 // Finds the fields of a line, and says how many there are.
-pub fn split(line: &[u8], f: &mut [u64]) -> usize {
+pub(crate) fn split(line: &[u8], f: &mut [u64]) -> usize {
     let mut at = 0;
     let mut k = 0;
     loop {
@@ -85,13 +85,13 @@ pub fn split(line: &[u8], f: &mut [u64]) -> usize {
     }
 }
 
-pub fn start(f: &[u64], k: usize) -> u64
+pub(crate) fn start(f: &[u64], k: usize) -> u64
     requires { ⌜ k < 1000 ⌝ }
 {
     word(f, 3 * k)
 }
 
-pub fn length(f: &[u64], k: usize) -> u64
+pub(crate) fn length(f: &[u64], k: usize) -> u64
     requires { ⌜ k < 1000 ⌝ }
 {
     let a = word(f, 3 * k);
@@ -99,14 +99,14 @@ pub fn length(f: &[u64], k: usize) -> u64
     if e < a { 0 } else { e - a }
 }
 
-pub fn value(f: &[u64], k: usize) -> u64
+pub(crate) fn value(f: &[u64], k: usize) -> u64
     requires { ⌜ k < 1000 ⌝ }
 {
     word(f, 3 * k + 2)
 }
 
 // A number that is a byte, the last one for any other.
-pub fn small(f: &[u64], k: usize) -> u8
+pub(crate) fn small(f: &[u64], k: usize) -> u8
     requires { ⌜ k < 1000 ⌝ }
 {
     let n = value(f, k);

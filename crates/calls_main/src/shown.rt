@@ -291,7 +291,7 @@ fn written(out: &mut [u8], at: usize, mem: &[u64]) -> usize {
     e
 }
 
-pub fn whole(out: &mut [u8], at: usize, mem: &[u64], node: Node) -> usize {
+pub(crate) fn whole(out: &mut [u8], at: usize, mem: &[u64], node: Node) -> usize {
     let conf = node.bodega_conf;
     let a = state(out, at, node);
     let b = pairs(out, a, mem, node.population);

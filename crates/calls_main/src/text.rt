@@ -3,7 +3,7 @@ use decimal::Written;
 use inty::Inty;
 ghost use Prim.Native.Nat.{_<_};
 
-pub fn byte(out: &mut [u8], at: usize, b: u8) -> usize {
+pub(crate) fn byte(out: &mut [u8], at: usize, b: u8) -> usize {
     if at < out.len() {
         out[at] = b;
         return at + 1;
@@ -11,7 +11,7 @@ pub fn byte(out: &mut [u8], at: usize, b: u8) -> usize {
     at
 }
 
-pub fn text(out: &mut [u8], at: usize, s: &[u8]) -> usize {
+pub(crate) fn text(out: &mut [u8], at: usize, s: &[u8]) -> usize {
     let mut end = at;
     let mut i = 0;
     while i < s.len() {
@@ -21,25 +21,25 @@ pub fn text(out: &mut [u8], at: usize, s: &[u8]) -> usize {
     end
 }
 
-pub fn long_number(out: &mut [u8], at: usize, n: Inty) -> usize {
+pub(crate) fn long_number(out: &mut [u8], at: usize, n: Inty) -> usize {
     let Written::End(end) = decimal::write(out, at, n) else {
         return at;
     };
     end
 }
 
-pub fn number(out: &mut [u8], at: usize, n: u64) -> usize {
+pub(crate) fn number(out: &mut [u8], at: usize, n: u64) -> usize {
     long_number(out, at, Inty { hi: 0, lo: n })
 }
 
 // A comma and a number.
-pub fn field(out: &mut [u8], at: usize, n: u64) -> usize {
+pub(crate) fn field(out: &mut [u8], at: usize, n: u64) -> usize {
     let p = byte(out, at, b',');
     number(out, p, n)
 }
 
 // A comma and a number, or `-` where there is none.
-pub fn optional(out: &mut [u8], at: usize, has: u64, n: u64) -> usize {
+pub(crate) fn optional(out: &mut [u8], at: usize, has: u64, n: u64) -> usize {
     if has == 0 {
         return text(out, at, b",-");
     }
@@ -54,7 +54,7 @@ fn more(sum: u64, b: u8) -> u64
 }
 
 // Tells two texts apart: their bytes, each and one more, as digits to the base 257, modulo a prime.
-pub fn sum(s: &[u8]) -> u64 {
+pub(crate) fn sum(s: &[u8]) -> u64 {
     let mut sum = 0;
     let mut i = 0;
     while i < s.len() {
