@@ -1,10 +1,11 @@
 -- A call that is taken meets none of its grounds; one that is refused is refused by the lowest. Assumes nothing.
-use Prim.Native.Nat.{ℕ, _≤_}
-use mathlib.Core.Bool.{true}
+use Prim.Native.Nat.{ℕ, _≤_, _<_}
+use mathlib.Core.Bool.{Bool, true, false}
+use mathlib.Core.List.{List, [], _∷_, _++_}
 use mathlib.Core.Option.{Option, none, some}
-use mathlib.Core.Path.{_≡_, refl}
+use mathlib.Core.Path.{_≡_, refl, sym, _∙_}
 use native.Mathlib.Omega.{arith}
-use Rattle.responders.specs.Ground.{Ascends, Applies}
+use Rattle.responders.specs.Ground.{Ground, Ascends, Applies, refusal}
 use Rattle.responders.proofs.Grounds.{zero-one, lowest, NoneApply, none-apply, none-before}
 use Rattle.bodega.specs.Replica.{Replica, Call, Heartbeat, Guard, Prepared, Record, Reply, Notice, CommitNotice, Bars, Read, Release, Done}
 use Rattle.bodega.specs.Grounds.{grounds}
@@ -36,3 +37,40 @@ ascends r (Release slot) places = (omega arith, (omega arith, (tt, tt)))
 pub lowest-first : (r : Replica) (c : Call) (places n : ℕ) → turnedAway r c places ≡ some n → Applies n (allGrounds r c places) × ((k : ℕ) → Applies k (allGrounds r c places) → n ≤ k)
 unfolding turnedAway
 lowest-first r c places n e = lowest (allGrounds r c places) n (ascends r c places) e
+
+-- no ground has the number 0
+abbrev pub Positive : List Ground → Type 0
+Positive [] = Unit {0}
+Positive (g ∷ gs) = (0 < g .number) × Positive gs
+
+pub positive : (r : Replica) (c : Call) → Positive (grounds r c)
+unfolding grounds
+positive r (Heartbeat peer ballot conf commit exec snap) = (omega arith, (omega arith, (omega arith, (omega arith, (omega arith, tt)))))
+positive r (Guard peer number bar) = (omega arith, (omega arith, (omega arith, tt)))
+positive r (Prepared ballot) = (omega arith, tt)
+positive r (Record slot ballot reqs) = (omega arith, (omega arith, (omega arith, (omega arith, (omega arith, (omega arith, (omega arith, tt)))))))
+positive r (Reply peer slot ballot) = (omega arith, (omega arith, (omega arith, tt)))
+positive r (Notice peer slot ballot) = (omega arith, (omega arith, (omega arith, tt)))
+positive r (CommitNotice peer ballot bar) = (omega arith, (omega arith, tt))
+positive r (Bars start accept commit exec) = (omega arith, (omega arith, tt))
+positive r (Read leases q) = (omega arith, (omega arith, tt))
+positive r (Release slot) = (omega arith, (omega arith, tt))
+
+both-positive : (gs hs : List Ground) → Positive gs → Positive hs → Positive (gs ++ hs)
+both-positive [] hs p q = q
+both-positive (g ∷ gs) hs p q = (p .0, both-positive gs hs (p .1) q)
+
+not-0 : (gs : List Ground) (n : ℕ) → Positive gs → refusal gs ≡ some n → 0 < n
+not-0 [] n p e = let z : _≡_ {A = ℕ} 0 1 = cc in absurd (zero-one z)
+not-0 (g ∷ gs) n p e = go (g .applies) refl (not-0 gs n (p .1))
+  where
+    go : (b : Bool) → g .applies ≡ b → (refusal gs ≡ some n → 0 < n) → 0 < n
+    go true f ih =
+        let s : some (g .number) ≡ some n = sym (simp f) ∙ e in
+        let is : g .number ≡ n = cc in
+        omega (arith, p .0)
+    go false f ih = ih (sym (simp f) ∙ e)
+
+pub refused-not-0 : (r : Replica) (c : Call) (places n : ℕ) → turnedAway r c places ≡ some n → 0 < n
+unfolding turnedAway
+refused-not-0 r c places n e = not-0 (allGrounds r c places) n (both-positive (grounds r c) _ (positive r c) (omega arith, tt)) e

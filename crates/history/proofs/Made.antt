@@ -1,40 +1,173 @@
 -- From the machine to code that meets `Answers`. Assumes nothing.
-use mathlib.Core.Path.{_≡_, refl, ap, _∙_}
-use mathlib.Core.Bool.{Bool, true}
-use mathlib.Core.List.{List}
-use Prim.Native.Nat.{ℕ}
+use mathlib.Core.Path.{_≡_, refl, sym, ap, _∙_}
+use mathlib.Core.Bool.{Bool, true, false, _&&_}
+use mathlib.Core.List.{List, [], _∷_, _++_, List·Memᴰ, List·Memᴰ·tail, List·Memᴰ·not-nil, List·Memᴰ·cases-cons}
+use mathlib.Core.Logic.{⊎-elim}
+use mathlib.Core.Option.{Option, none, some}
+use Prim.Native.Nat.{ℕ, _<_}
+use native.Mathlib.Omega.{arith}
+use lib.Dec.{eqb}
+use lib.ListN.{length}
+use borrow.Author.Tests.{ne-eqb}
 use Rattle.items.specs.Item.{places}
-use Rattle.bodega.specs.Replica.{Replica}
-use Rattle.bodega.specs.Step.{Step, Refused, Taken, step, stepOf, after, Event, run}
+use Rattle.bodega.specs.Replica.{Replica, fresh, Call, Guard, Done}
+use Rattle.bodega.specs.Step.{Step, Refused, Taken, step, stepBy, after, isTaken, allGrounds, turnedAway, effect}
 use Rattle.bodega.specs.Answers.{Given, due, Follows, Answers}
-use Rattle.history.specs.Made.{Made, none, call, CodeFigureStands}
-use Rattle.history.proofs.Figure.{figure-stands}
+use Rattle.bodega.proofs.Taken.{refused-not-0}
+use Rattle.history.specs.Table.{Table, Fed, freshTable, feed, feedAll}
+use Rattle.history.specs.History.{accepted}
+use Rattle.history.specs.Made as made-of
+use Rattle.history.specs.Made.{Made, Lived, CodeFigureStands, CodeOrderFree}
+use Rattle.history.proofs.View.{view as tableOf}
+use Rattle.history.proofs.Figure.{step-view, fresh-view, figure-of}
+use Rattle.history.proofs.Guards.{InsideAll, same-figure}
+use Rattle.history.proofs.OrderFree.{Sized, sized-if, sized, guard-inside, fresh-sized}
+
+-- ---- one call
+
+and-left : (b : Bool) → b && true ≡ true → b ≡ true
+and-left true h = refl
+and-left false h = h
+
+module _ {Node : Type 0} (view : Node → List ℕ → Replica) where
+  -- what a step tells of its answer, whatever `ready` is
+  record Tells (ready : Node → List ℕ → Bool) (r : Replica) (s : Step) (node : Node) (mem : List ℕ) (g : Given Node) (mem′ : List ℕ) : Type 0 where
+    taken : isTaken s ≡ eqb (g .number) 0
+    next : view (g .node) mem′ ≡ after r s
+    again : ready node mem ≡ true → ready (g .node) mem′ ≡ true
+
+  tells : (ready : Node → List ℕ → Bool) (o : Option ℕ) (d : Done) (node : Node) (mem area : List ℕ) (g : Given Node) (mem′ area′ : List ℕ) → ((n : ℕ) → o ≡ some n → 0 < n)
+      → Follows ready view (stepBy o d) node mem area g mem′ area′ → Tells ready (view node mem) (stepBy o d) node mem g mem′
+  tells ready none d node mem area g mem′ area′ p f = record { taken = rw (f .number); next = f .next; again = λ h. f .readyAgain }
+  tells ready (some n) d node mem area g mem′ area′ p f =
+      record {
+        taken = sym (ne-eqb (g .number) 0 (λ z. let q = p n refl in omega (arith, z, f .number)));
+        next = rw (f .sameNode, f .sameMem);
+        again = λ h. rw (f .sameNode, f .sameMem) h;
+      }
+
+  module _ (ready : Node → List ℕ → Bool) where
+    answered : (whole : Node → List ℕ → Bool) (c : Call) (node : Node) (mem area : List ℕ) (g : Given Node) (mem′ area′ : List ℕ) → whole node mem ≡ true
+        → Answers whole view c node mem area g mem′ area′ → Tells whole (view node mem) (step (view node mem) c (places area)) node mem g mem′
+    unfolding due step
+    answered whole c node mem area g mem′ area′ h a =
+        tells whole (turnedAway (view node mem) c (places area)) (effect (view node mem) c) node mem area g mem′ area′ (refused-not-0 (view node mem) c (places area)) (rw h at a)
+
+    -- what a call comes to: the node is ready again, the table is fed, and a guard that is taken is of a replica below the population
+    record Comes (c : Call) (node : Node) (mem : List ℕ) (g : Given Node) (mem′ : List ℕ) : Type 0 where
+      readied : ready (g .node) mem′ ≡ true
+      table : tableOf (view (g .node) mem′) ≡ feed (tableOf (view node mem)) (made-of.fedOf ready view c g)
+      inside : (peer number bar : ℕ) → c ≡ Guard peer number bar → eqb (g .number) 0 ≡ true → peer < tableOf (view node mem) .population
+
+    comes-by : (whole : Node → List ℕ → Bool) (c : Call) (node : Node) (mem area : List ℕ) (g : Given Node) (mem′ area′ : List ℕ) → whole node mem ≡ true
+        → (whole (g .node) mem′ ≡ true → ready (g .node) mem′ ≡ true) → Answers whole view c node mem area g mem′ area′ → Comes c node mem g mem′
+    comes-by whole c node mem area g mem′ area′ h w a =
+        let t = answered whole c node mem area g mem′ area′ h a in
+        record {
+          readied = w (t .again h);
+          table =
+              ap tableOf (t .next) ∙ step-view (view node mem) (record { call = c; places = places area })
+              ∙ ap (λ (b : Bool). feed (tableOf (view node mem)) (record { call = c; taken = b })) (t .taken);
+          inside = λ peer number bar e y. guard-inside (view node mem) peer number bar (places area) (rw (← e) (t .taken ∙ y));
+        }
+
+    comes : (c : Call) (node : Node) (mem area : List ℕ) (g : Given Node) (mem′ area′ : List ℕ) → ready node mem ≡ true → Answers ready view c node mem area g mem′ area′ → Comes c node mem g mem′
+    comes c node mem area g mem′ area′ h a = comes-by ready c node mem area g mem′ area′ h (λ w. w) a
+
+    comes-with : (whole : Bool) (c : Call) (node : Node) (mem area : List ℕ) (g : Given Node) (mem′ area′ : List ℕ) → ready node mem ≡ true
+        → Answers (λ n m. ready n m && whole) view c node mem area g mem′ area′ → Comes c node mem g mem′
+    unfolding due
+    comes-with true c node mem area g mem′ area′ h a = comes-by (λ n m. ready n m && true) c node mem area g mem′ area′ (rw h) (and-left (ready (g .node) mem′)) a
+    comes-with false c node mem area g mem′ area′ h a = refused (rw h at a)
+      where
+        refused : Follows (λ n m. ready n m && false) view (Refused 2) node mem area g mem′ area′ → Comes c node mem g mem′
+        refused f =
+            record {
+              readied = rw (f .sameNode, f .sameMem) h;
+              table = rw (f .sameNode, f .sameMem, f .number);
+              inside = λ peer number bar e y. let z : _≡_ {A = ℕ} 0 1 = cc in absurd (omega arith);
+            }
+
+-- ---- a list of calls
+
+feed-sized : (t : Table) (f : Fed) → Sized t (feed t f)
+feed-sized t f = sized-if (f .taken) (sized t (f .call))
+
+all-sized : (t : Table) (fs : List Fed) → length (feedAll t fs .pairs) ≡ length (t .pairs)
+unfolding feedAll
+all-sized t [] = refl
+all-sized t (f ∷ fs) = all-sized (feed t f) fs ∙ feed-sized t f .size
+
+feed-append : (t : Table) (fs gs : List Fed) → feedAll t (fs ++ gs) ≡ feedAll (feedAll t fs) gs
+unfolding feedAll
+feed-append t [] gs = refl
+feed-append t (f ∷ fs) gs = feed-append (feed t f) fs gs
+
+in-rest : (f : Fed) (fs gs : List Fed) → List·Memᴰ f gs → List·Memᴰ f (fs ++ gs)
+in-rest f [] gs m = m
+in-rest f (g ∷ fs) gs m = List·Memᴰ·tail (in-rest f fs gs m)
+
+rest-inside : (t : Table) (fs gs : List Fed) → InsideAll t (fs ++ gs) → InsideAll (feedAll t fs) gs
+rest-inside t fs gs i peer number bar m = rw (all-sized t fs) (i peer number bar (in-rest (accepted peer number bar) fs gs m))
 
 module _ {Node : Type 0} (ready : Node → List ℕ → Bool) (view : Node → List ℕ → Replica) where
-  -- a node that is ready stays so, and stands for what the machine leaves
-  abbrev Stays : Node → List ℕ → Replica → Type 0
-  Stays node mem r = (ready node mem ≡ true) × (view node mem ≡ r)
+  -- the table stands for what the calls left, and its guards are of replicas below the population
+  record Stands (node : Node) (mem : List ℕ) (fs : List Fed) (last : Node) (end : List ℕ) : Type 0 where
+    table : tableOf (view last end) ≡ feedAll (tableOf (view node mem)) fs
+    inside : InsideAll (tableOf (view node mem)) fs
 
-  follows : (s : Step) (node : Node) (mem area : List ℕ) (g : Given Node) (mem′ area′ : List ℕ) → ready node mem ≡ true → Follows ready view s node mem area g mem′ area′
-      → Stays (g .node) mem′ (after (view node mem) s)
-  follows (Refused n) node mem area g mem′ area′ h f = (rw (f .sameNode, f .sameMem) h, rw (f .sameNode, f .sameMem))
-  follows (Taken s l) node mem area g mem′ area′ h f = (f .readyAgain, f .next)
+  abbrev Full : Node → List ℕ → Type 0
+  Full node mem = length (tableOf (view node mem) .pairs) ≡ tableOf (view node mem) .population
 
-  one : (e : Event) (node : Node) (mem area : List ℕ) (g : Given Node) (mem′ area′ : List ℕ) → ready node mem ≡ true → places area ≡ e .places
-      → Answers ready view (e .call) node mem area g mem′ area′ → Stays (g .node) mem′ (after (view node mem) (stepOf (view node mem) e))
-  unfolding due
-  one e node mem area g mem′ area′ h p a =
-      rw (← p) (follows (step (view node mem) (e .call) (places area)) node mem area g mem′ area′ h (rw h at a))
+  one-more : (c : Call) (node last : Node) (mem : List ℕ) (g : Given Node) (mem′ end : List ℕ) (fs : List Fed) → Full node mem → Comes view ready c node mem g mem′
+      → (Full (g .node) mem′ → Stands (g .node) mem′ fs last end) → Stands node mem (made-of.fedOf ready view c g ∷ fs) last end
+  unfolding feedAll
+  one-more c node last mem g mem′ end fs h x rest =
+      let t = tableOf (view node mem) in
+      let f = made-of.fedOf ready view c g in
+      let z = feed-sized t f in
+      let full : Full (g .node) mem′ = rw (x .table) (z .size ∙ h ∙ sym (z .population)) in
+      let y = rest full in
+      record {
+        table = y .table ∙ ap (λ (u : Table). feedAll u fs) (x .table);
+        inside = λ peer number bar m. ⊎-elim
+            (λ q. rw h (x .inside peer number bar (sym (ap (λ (k : Fed). k .call) q)) (sym (ap (λ (k : Fed). k .taken) q))))
+            (λ m′. rw (← z .size) (rw (x .table) at (y .inside peer number bar m′)))
+            (List·Memᴰ·cases-cons m);
+      }
 
-  pub made : {node last : Node} {mem end : List ℕ} {es : List Event} → ready node mem ≡ true → Made ready view node mem es last end → Stays last end (run (view node mem) es)
-  unfolding run
-  made h none = (h, refl)
-  made {node} {last} {mem} {end} h (call {e = e} {es = es} area area′ g p a m) =
-      let s = one e node mem area g _ area′ h p a in
-      let t = made (s .0) m in
-      (t .0, t .1 ∙ ap (λ (r : Replica). run r es) (s .1))
+  stands : {node last : Node} {mem end : List ℕ} {fs : List Fed} → ready node mem ≡ true → Full node mem → Made ready view node mem fs last end → Stands node mem fs last end
+  unfolding feedAll
+  stands h f made-of.none = record { table = refl; inside = λ peer number bar m. absurd (List·Memᴰ·not-nil m) }
+  stands {node} {last} {mem} {end} h f (made-of.call {mem′ = mem′} {fs = fs} c area area′ g a m) =
+      let x = comes view ready c node mem area g mem′ area′ h a in
+      one-more c node last mem g mem′ end fs f x (λ f′. stands (x .readied) f′ m)
+  stands {node} {last} {mem} {end} h f (made-of.callWith {mem′ = mem′} {fs = fs} whole c area area′ g a m) =
+      let x = comes-with view ready whole c node mem area g mem′ area′ h a in
+      one-more c node last mem g mem′ end fs f x (λ f′. stands (x .readied) f′ m)
+
+  module _ (id population quorum : ℕ) (fs : List Fed) (bar : ℕ) (l : Lived ready view id population quorum fs bar) where
+    begin-is : tableOf (view (l .first) (l .begin)) ≡ freshTable id population quorum
+    begin-is = ap tableOf (l .stands) ∙ fresh-view id population quorum
+
+    lived : Stands (l .first) (l .begin) fs (l .last) (l .end)
+    lived = stands (l .readied) (rw (l .stands) (fresh-sized id population quorum)) (l .made)
+
+    all-inside : InsideAll (freshTable id population quorum) fs
+    all-inside = rw begin-is at (lived .inside)
 
   pub code-figure : CodeFigureStands ready view
-  code-figure id population quorum node last mem end es h e m =
-      let s = made h m in
-      ap (λ (r : Replica). r .peerAccept .max) (s .1 ∙ ap (λ (r : Replica). run r es) e) ∙ figure-stands id population quorum es
+  code-figure id population quorum fs bar l =
+      l .shows ∙ sym (figure-of (view (l .last) (l .end)))
+      ∙ ap (λ (t : Table). t .figure) (lived id population quorum fs bar l .table ∙ ap (λ (t : Table). feedAll t fs) (begin-is id population quorum fs bar l))
+
+  pub code-order-free : CodeOrderFree ready view
+  code-order-free id population quorum before rest₁ rest₂ bar₁ bar₂ l₁ l₂ g q₁ q₂ =
+      let t = freshTable id population quorum in
+      code-figure id population quorum (before ++ rest₁) bar₁ l₁
+      ∙ ap (λ (u : Table). u .figure) (feed-append t before rest₁)
+      ∙ same-figure (feedAll t before) rest₁ rest₂ q₁ q₂
+      (rest-inside t before rest₁ (all-inside id population quorum (before ++ rest₁) bar₁ l₁))
+      (rest-inside t before rest₂ (all-inside id population quorum (before ++ rest₂) bar₂ l₂)) g
+      ∙ sym (ap (λ (u : Table). u .figure) (feed-append t before rest₂))
+      ∙ sym (code-figure id population quorum (before ++ rest₂) bar₂ l₂)

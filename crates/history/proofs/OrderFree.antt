@@ -25,7 +25,7 @@ pub record Sized (t u : Table) : Type 0 where
   pub population : u .population ≡ t .population
   pub size : length (u .pairs) ≡ length (t .pairs)
 
-sized-if : {t u : Table} (b : Bool) → Sized t u → Sized t (if b then u else t)
+pub sized-if : {t u : Table} (b : Bool) → Sized t u → Sized t (if b then u else t)
 sized-if true s = s
 sized-if false s = record { population = refl; size = refl }
 
@@ -33,7 +33,7 @@ sized-adopting : (t : Table) (ballot : ℕ) (conf : Option Conf) → Sized t (ad
 sized-adopting t ballot none = record { population = refl; size = refl }
 sized-adopting t ballot (some c) = record { population = refl; size = length-set (t .pairs) (t .own) (pair ballot (t .accept)) }
 
-sized : (t : Table) (c : Call) → Sized t (hear t c)
+pub sized : (t : Table) (c : Call) → Sized t (hear t c)
 unfolding hear
 sized t (Heartbeat peer ballot conf commit exec snap) = sized-if (adopts t peer ballot conf) (sized-adopting t ballot conf)
 sized t (Guard peer number bar) =
@@ -52,7 +52,7 @@ step-sized r e = rw (step-view r e) (sized-if (isTaken (stepOf r e)) (sized (vie
 
 -- ---- a guard is taken only from a replica below the population
 
-guard-inside : (r : Replica) (peer number bar places : ℕ) → isTaken (step r (Guard peer number bar) places) ≡ true → peer < view r .population
+pub guard-inside : (r : Replica) (peer number bar places : ℕ) → isTaken (step r (Guard peer number bar) places) ≡ true → peer < view r .population
 unfolding grounds view
 guard-inside r peer number bar places h = leb-false (r .me .population) peer (taken-none r (Guard peer number bar) places h .0)
 
@@ -81,7 +81,7 @@ run-append r [] fs = refl
 run-append r (e ∷ es) fs = run-append (after r (stepOf r e)) es fs
 
 module _ (id population quorum : ℕ) where
-  fresh-sized : length (view (fresh id population quorum) .pairs) ≡ view (fresh id population quorum) .population
+  pub fresh-sized : length (view (fresh id population quorum) .pairs) ≡ view (fresh id population quorum) .population
   unfolding view fresh
   fresh-sized = length-replicate population _
 

@@ -21,6 +21,7 @@ use Rattle.bodega.specs.Replica as machine
 use Rattle.bodega.specs.Grounds.{grounds}
 use Rattle.bodega.specs.Step.{step, effect, turnedAway}
 use Rattle.bodega.specs.Answers.{due, Answers}
+use Rattle.bodega.proofs.Taken.{Positive, positive}
 use Rattle.node.proofs.Laws.{and-both}
 use Rattle.node.specs.declared.Node.{Node}
 use Rattle.node.specs.View.{size, view, inRange, barsInRange, sound, ready, lowest, leadsIt}
@@ -143,23 +144,6 @@ module _ (c : machine.Call) (n : Node) (m area : List ℕ) (t : Bool) (e : t ≡
     refused k g = rw (sym e ∙ not-false t f, g) (record { number = refl; count = refl; sameNode = refl; sameMem = refl; sameArea = refl })
 
 -- ---- grounds by number
-
-abbrev Positive : List Ground → Type 0
-Positive [] = Unit {0}
-Positive (g ∷ gs) = (0 < g .number) × Positive gs
-
-positive : (r : machine.Replica) (c : machine.Call) → Positive (grounds r c)
-unfolding grounds
-positive r (machine.Heartbeat peer ballot conf commit exec snap) = (omega arith, (omega arith, (omega arith, (omega arith, (omega arith, tt)))))
-positive r (machine.Guard peer number bar) = (omega arith, (omega arith, (omega arith, tt)))
-positive r (machine.Prepared ballot) = (omega arith, tt)
-positive r (machine.Record slot ballot reqs) = (omega arith, (omega arith, (omega arith, (omega arith, (omega arith, (omega arith, (omega arith, tt)))))))
-positive r (machine.Reply peer slot ballot) = (omega arith, (omega arith, (omega arith, tt)))
-positive r (machine.Notice peer slot ballot) = (omega arith, (omega arith, (omega arith, tt)))
-positive r (machine.CommitNotice peer ballot bar) = (omega arith, (omega arith, tt))
-positive r (machine.Bars start accept commit exec) = (omega arith, (omega arith, tt))
-positive r (machine.Read leases q) = (omega arith, (omega arith, tt))
-positive r (machine.Release slot) = (omega arith, (omega arith, tt))
 
 some-lowest : (gs hs : List Ground) → (lowest gs ≡ 0 → ⊥) → refusal (gs ++ hs) ≡ some (lowest gs)
 some-lowest [] hs h = absurd (h refl)
