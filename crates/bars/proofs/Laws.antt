@@ -22,16 +22,12 @@ use Rattle.slots.specs.Slots.{shortAt, batchAt, readsAt, instIn, instsOf, Puts}
 use Rattle.slots.proofs.Laws.{moved, dropped, first, inst-at, length-insts}
 use Rattle.node.specs.declared.Node.{Node}
 use Rattle.node.specs.View.{view, ready}
-use Rattle.node.proofs.Laws.{and-both}
+use Rattle.words.proofs.Tests.{and-both, or-both}
 use Rattle.node.proofs.Calls.{Ready, is-ready, made-ready, refused-by, taken-by, none-applies}
 use Rattle.node.proofs.Frames.{slots-back, slots-size}
 use Rattle.bars.specs.Moves.{anyFar, lowered, inOrder, openBelow, holdsBelow, broken, barsRefusal, Executes}
 
 -- ---- a test after another
-
-or-both : (a b : Bool) → a || b ≡ false → (a ≡ false) × (b ≡ false)
-or-both true b e = let z : _≡_ {A = ℕ} 0 1 = cc in absurd (omega arith)
-or-both false b e = (refl, e)
 
 module _ (start accept commit exec : ℕ) where
   pub far-start : 281474976710655 < start → true ≡ anyFar start accept commit exec

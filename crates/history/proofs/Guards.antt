@@ -10,6 +10,7 @@ use lib.ListN.{length, getD, length-set}
 use lib.Seq.{getD-set-same, getD-set-other, ext-getD}
 use borrow.Author.Tests.{eqb-true, eqb-false}
 use Rattle.words.specs.Choice.{if_then_else_}
+use Rattle.words.proofs.Tests.{and-both}
 use Rattle.ids.specs.Limits.{beyond}
 use Rattle.bodega.specs.Replica.{Pair, pair, Call, Heartbeat, Guard, Prepared, Record, Reply, Notice, CommitNotice, Bars, Read, Release}
 use Rattle.history.specs.Table.{Table, Fed, beats, alters, figureOf, guarded, adopts, adopting, raises, raised, hear, feed, feedAll}
@@ -188,14 +189,6 @@ module _ {t u v : Table} {f : Fed} {fs : List Fed} (a : Turned (λ g. g ≡ f) t
 abbrev pub InsideAll : Table → List Fed → Type 0
 InsideAll t fs = Inside t (λ g. List·Memᴰ g fs)
 
-and-left : (x y : Bool) → (x && y) ≡ true → x ≡ true
-and-left true y h = refl
-and-left false y h = h
-
-and-right : (x y : Bool) → (x && y) ≡ true → y ≡ true
-and-right true y h = h
-and-right false y h = let z : _≡_ {A = ℕ} 0 1 = cc in absurd (omega arith)
-
 pub all-turned : (t : Table) (fs : List Fed) → quiet t fs ≡ true → InsideAll t fs → Turned (λ g. List·Memᴰ g fs) t (feedAll t fs)
 unfolding quiet feedAll
 all-turned t [] h i =
@@ -209,16 +202,16 @@ all-turned t [] h i =
       figured = inl (refl, refl);
     }
 all-turned t (f ∷ fs) h i =
-    let a = turned t f (and-left _ _ h) (λ p n m e. i p n m (List·Memᴰ·head e)) in
-    both a (all-turned (feed t f) fs (and-right (not (f .taken && turns t (f .call))) _ h) (λ p n m e. rw (a .size) (i p n m (List·Memᴰ·tail e))))
+    let a = turned t f (and-both _ _ h .0) (λ p n m e. i p n m (List·Memᴰ·head e)) in
+    both a (all-turned (feed t f) fs (and-both (not (f .taken && turns t (f .call))) _ h .1) (λ p n m e. rw (a .size) (i p n m (List·Memᴰ·tail e))))
 
 pub all-covered : (t : Table) (fs : List Fed) → quiet t fs ≡ true → InsideAll t fs
     → (k number bar : ℕ) → List·Memᴰ (accepted k number bar) fs → Upto (pair number bar) (at (feedAll t fs) k)
 unfolding quiet feedAll
 all-covered t [] h i k number bar m = absurd (List·Memᴰ·not-nil m)
 all-covered t (f ∷ fs) h i k number bar m =
-    let a = turned t f (and-left _ _ h) (λ p n b e. i p n b (List·Memᴰ·head e)) in
-    let h′ = and-right (not (f .taken && turns t (f .call))) (quiet (feed t f) fs) h in
+    let a = turned t f (and-both _ _ h .0) (λ p n b e. i p n b (List·Memᴰ·head e)) in
+    let h′ = and-both (not (f .taken && turns t (f .call))) (quiet (feed t f) fs) h .1 in
     let i′ : InsideAll (feed t f) fs = λ p n b e. rw (a .size) (i p n b (List·Memᴰ·tail e)) in
     ⊎-elim
     (λ e. upto-trans (rw (← e) (covered t k number bar (i k number bar m))) (all-turned (feed t f) fs h′ i′ .grows k))

@@ -9,6 +9,7 @@ use native.Mathlib.Omega.{arith}
 use lib.Dec.{ltb, leb, eqb}
 use lib.ListN.{length, drop, getElem?, length-append, length-drop, length-map}
 use borrow.Author.Tests.{ltb-true, ltb-false, le-ltb, eqb-true, eqb-false, ne-eqb, not-false}
+use Rattle.words.proofs.Tests.{or-both}
 use Rattle.words.specs.Choice.{if_then_else_, ifNone_then_else_}
 use Rattle.bitmap.specs.Bitmap.{get, mark, count}
 use Rattle.responders.specs.Conf.{Conf, leads}
@@ -26,7 +27,7 @@ use Rattle.bodega.specs.Step.{effect, turnedAway, run}
 use Rattle.history.specs.Invariant.{core, Sound, EachSlot}
 use Rattle.history.specs.Capacity.{SlotSmall, Each, Small, Bounded, PlacesSuffice}
 use Rattle.bodega.proofs.Choices.{of-if, of-none, by-if, by-none}
-use Rattle.history.proofs.Reach.{or-left, or-right, appended, first-open}
+use Rattle.history.proofs.Reach.{appended, first-open}
 use Rattle.history.proofs.Slots.{each-drop, each-map, held-at, reach}
 use Rattle.history.proofs.Capacity.{at-each, from-each, release-small, appended-small, preparing-small, pad-small, marked-small, capacity}
 
@@ -78,7 +79,7 @@ walk-none ballot slot (suc n) m [] s = refl
 walk-none ballot slot (suc n) m (i ∷ is) s =
     by-if empty (ltb (i .bal) ballot || ltb (order (i .status)) 2) (λ t. refl) λ t.
     by-if empty (not (isOpen (i .status))) (λ o. walk-none ballot (slot + 1) n (suc m) is (s .1))
-    (λ o. absurd (between (order (i .status)) (or-right (ltb (i .bal) ballot) _ t) (not-false _ o) (s .0)))
+    (λ o. absurd (between (order (i .status)) (or-both (ltb (i .bal) ballot) _ t .1) (not-false _ o) (s .0)))
   where
     empty : Walk → Type 0
     empty w = w .items ≡ []
@@ -125,8 +126,8 @@ none-open : (is : List Instance) → anyOpen is ≡ false → firstOpen is ≡ l
 unfolding firstOpen anyOpen
 none-open [] e = refl
 none-open (i ∷ is) e =
-    let h = none-open is (or-right (isOpen (i .status)) (anyOpen is) e) in
-    rw (or-left (isOpen (i .status)) (anyOpen is) e) (ap suc h)
+    let h = none-open is (or-both (isOpen (i .status)) (anyOpen is) e .1) in
+    rw (or-both (isOpen (i .status)) (anyOpen is) e .0) (ap suc h)
 
 last-open : (is : List Instance) → anyOpen is ≡ true → lastOpen is < length is
 unfolding anyOpen lastOpen

@@ -9,6 +9,7 @@ use native.Mathlib.Omega.{arith}
 use lib.Dec.{eqb}
 use lib.ListN.{length}
 use borrow.Author.Tests.{ne-eqb}
+use Rattle.words.proofs.Tests.{and-both}
 use Rattle.items.specs.Item.{places}
 use Rattle.bodega.specs.Replica.{Replica, fresh, Call, Guard, Done}
 use Rattle.bodega.specs.Step.{Step, Refused, Taken, step, stepBy, after, isTaken, allGrounds, turnedAway, effect}
@@ -24,10 +25,6 @@ use Rattle.history.proofs.Guards.{InsideAll, same-figure}
 use Rattle.history.proofs.OrderFree.{Sized, sized-if, sized, guard-inside, fresh-sized}
 
 -- ---- one call
-
-and-left : (b : Bool) → b && true ≡ true → b ≡ true
-and-left true h = refl
-and-left false h = h
 
 module _ {Node : Type 0} (view : Node → List ℕ → Replica) where
   -- what a step tells of its answer, whatever `ready` is
@@ -77,7 +74,7 @@ module _ {Node : Type 0} (view : Node → List ℕ → Replica) where
     comes-with : (whole : Bool) (c : Call) (node : Node) (mem area : List ℕ) (g : Given Node) (mem′ area′ : List ℕ) → ready node mem ≡ true
         → Answers (λ n m. ready n m && whole) view c node mem area g mem′ area′ → Comes c node mem g mem′
     unfolding due
-    comes-with true c node mem area g mem′ area′ h a = comes-by (λ n m. ready n m && true) c node mem area g mem′ area′ (rw h) (and-left (ready (g .node) mem′)) a
+    comes-with true c node mem area g mem′ area′ h a = comes-by (λ n m. ready n m && true) c node mem area g mem′ area′ (rw h) (λ w. and-both (ready (g .node) mem′) true w .0) a
     comes-with false c node mem area g mem′ area′ h a = refused (rw h at a)
       where
         refused : Follows (λ n m. ready n m && false) view (Refused 2) node mem area g mem′ area′ → Comes c node mem g mem′

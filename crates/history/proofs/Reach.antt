@@ -9,6 +9,7 @@ use native.Mathlib.Omega.{arith}
 use lib.Dec.{ltb, leb, eqb}
 use lib.ListN.{length, getD, take, drop, set, replicate, length-set, length-append, length-map, length-drop, length-replicate, take-append-drop}
 use borrow.Author.Tests.{ltb-true, ltb-false, leb-true, leb-false, eqb-true, le-leb, not-false}
+use Rattle.words.proofs.Tests.{and-both, or-both}
 use Rattle.words.specs.Choice.{if_then_else_, ifNone_then_else_}
 use Rattle.ids.specs.Limits.{window}
 use Rattle.responders.specs.Conf.{Conf, leads, leaderWithout, intoFiltered, same}
@@ -26,22 +27,6 @@ use Rattle.bodega.proofs.Choices.{of-if, of-none}
 use Rattle.history.proofs.Keeps.{Keeps, release-keeps, from-keeps, read-keeps, reply-keeps, noticed-keeps}
 use Rattle.responders.proofs.Grounds.{NoneApply}
 use Rattle.bodega.proofs.Taken.{taken-none}
-
-pub or-left : (x y : Bool) → (x || y) ≡ false → x ≡ false
-or-left true y h = h
-or-left false y h = refl
-
-pub or-right : (x y : Bool) → (x || y) ≡ false → y ≡ false
-or-right true y h = let z : _≡_ {A = ℕ} 0 1 = cc in absurd (omega arith)
-or-right false y h = h
-
-pub and-left : (x y : Bool) → (x && y) ≡ true → x ≡ true
-and-left true y h = refl
-and-left false y h = h
-
-pub and-right : (x y : Bool) → (x && y) ≡ true → y ≡ true
-and-right true y h = h
-and-right false y h = let z : _≡_ {A = ℕ} 0 1 = cc in absurd (omega arith)
 
 -- ---- what keeps the core
 
@@ -214,7 +199,7 @@ module _ (r : Replica) (peer ballot : ℕ) (s : Sound (core r)) (high : leb (r .
   conf-sound (some c) h = go (installs r peer ballot c) refl
     where
       go : (b : Bool) → installs r peer ballot c ≡ b → Sound (core (if_then_else_ b (heardNewConf r ballot c) (done r []) .replica))
-      go true e = new-conf-sound c e (λ l o. leb-false window (length (r .insts)) (or-left (leb window (length (r .insts))) _ (rw (high, e, l, o) at h)))
+      go true e = new-conf-sound c e (λ l o. leb-false window (length (r .insts)) (or-both (leb window (length (r .insts))) _ (rw (high, e, l, o) at h) .0))
       go false e = s
 
 -- ---- the calls
@@ -332,10 +317,10 @@ module _ (r : Replica) (start accept commit exec : ℕ) (s : Sound (core r))
   bars-sound : Sound (core (bars r start accept commit exec))
   unfolding core bars
   bars-sound =
-      let a : r .bar .start ≤ start = ltb-false start (r .bar .start) (or-left (ltb start (r .bar .start)) (ltb commit (r .bar .commit)) (or-left _ _ rises)) in
-      let b : start ≤ exec = leb-true start exec (and-left (leb start exec) (leb exec commit) (and-left _ _ order)) in
-      let c : exec ≤ commit = leb-true exec commit (and-right (leb start exec) (leb exec commit) (and-left _ _ order)) in
-      let d : commit ≤ end r = leb-true commit (end r) (and-right (leb start exec && leb exec commit) _ order) in
+      let a : r .bar .start ≤ start = ltb-false start (r .bar .start) (or-both (ltb start (r .bar .start)) (ltb commit (r .bar .commit)) (or-both _ _ rises .0) .0) in
+      let b : start ≤ exec = leb-true start exec (and-both (leb start exec) (leb exec commit) (and-both _ _ order .0) .0) in
+      let c : exec ≤ commit = leb-true exec commit (and-both (leb start exec) (leb exec commit) (and-both _ _ order .0) .1) in
+      let d : commit ≤ end r = leb-true commit (end r) (and-both (leb start exec && leb exec commit) _ order .1) in
       let e : length (drop (start - r .bar .start) (executed (exec - r .bar .start) (r .insts))) ≡ length (r .insts) - (start - r .bar .start) =
       length-drop (start - r .bar .start) (executed (exec - r .bar .start) (r .insts))
       ∙ ap (λ (n : ℕ). n - (start - r .bar .start)) (executed-length (exec - r .bar .start) (r .insts)) in
@@ -356,14 +341,14 @@ effect-sound : (r : Replica) (c : Call) → Sound (core r) → NoneApply (ground
 unfolding effect grounds
 effect-sound r (Heartbeat peer ballot conf commit exec snap) s n = heartbeat-sound r peer ballot conf commit exec snap s (n .1 .1 .1 .1 .0)
 effect-sound r (Guard peer number bar) s n = rw (guard-core r peer number bar) s
-effect-sound r (Prepared ballot) s n = prepared-sound r ballot s (eqb-true ballot (r .bal .prepSent) (not-false _ (or-right (not (isLeader r) || eqb ballot 0) _ (n .0))))
+effect-sound r (Prepared ballot) s n = prepared-sound r ballot s (eqb-true ballot (r .bal .prepSent) (not-false _ (or-both (not (isLeader r) || eqb ballot 0) _ (n .0) .1)))
 effect-sound r (Record slot ballot reqs) s n = recorded-sound r slot ballot reqs s (leb-false (r .bar .start + window) slot (n .1 .1 .1 .1 .1 .0))
 effect-sound r (Reply peer slot ballot) s n = rw (reply-keeps core core-set r peer slot ballot) s
 effect-sound r (Notice peer slot ballot) s n = notice-sound r peer slot ballot s (n .1 .1 .0)
 effect-sound r (CommitNotice peer ballot bar) s n = rw (commit-core r ballot bar) s
 effect-sound r (Bars start accept commit exec) s n =
-    let h = or-left _ _ (or-left _ _ (n .1 .0)) in
-    bars-sound r start accept commit exec s (or-left _ _ h) (not-false _ (or-right (falls r start commit exec) _ h))
+    let h = or-both _ _ (or-both _ _ (n .1 .0) .0) .0 in
+    bars-sound r start accept commit exec s (or-both _ _ h .0) (not-false _ (or-both (falls r start commit exec) _ h .1))
 effect-sound r (Read leases q) s n = rw (read-keeps core core-set r leases q) s
 effect-sound r (Release slot) s n = rw (release-keeps core core-set slot r) s
 

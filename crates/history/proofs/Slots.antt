@@ -9,6 +9,7 @@ use native.Mathlib.Omega.{arith}
 use lib.Dec.{ltb, leb, eqb}
 use lib.ListN.{length, getD, take, drop, set, replicate, getElem?}
 use borrow.Author.Tests.{ltb-true, ltb-false, eqb-true, not-false}
+use Rattle.words.proofs.Tests.{or-both}
 use Rattle.words.specs.Choice.{if_then_else_, ifNone_then_else_}
 use Rattle.bitmap.specs.Bitmap.{get, mark, count}
 use Rattle.responders.specs.Conf.{Conf, leads}
@@ -26,7 +27,7 @@ use Rattle.history.specs.Invariant.{core, Sound, isExecuted, bookBal, Sl
 use Rattle.bodega.proofs.Choices.{of-if, of-none, by-if, by-none}
 use Rattle.responders.proofs.Grounds.{NoneApply}
 use Rattle.bodega.proofs.Taken.{taken-none}
-use Rattle.history.proofs.Reach.{or-left, or-right, appended, step-sound, run-sound, fresh-sound}
+use Rattle.history.proofs.Reach.{appended, step-sound, run-sound, fresh-sound}
 
 -- ---- lists of slots
 
@@ -192,7 +193,7 @@ unfolding takeAck
 ack-slots r peer slot ballot items s =
     by-none Ends (instAt r slot) s λ i e.
     by-if Ends (not (isAccepting (i .status)) || ltb ballot (i .bal)) (λ t. s)
-    (λ t. let o = accepting-open (i .status) (not-false (isAccepting (i .status)) (or-left _ _ t)) in
+    (λ t. let o = accepting-open (i .status) (not-false (isAccepting (i .status)) (or-both _ _ t .0)) in
     of-none Ends (i .leaderBk) s λ acks.
     of-if Ends (get acks peer) s
     (of-if Ends (commitCondition (mark acks peer) (i .reqs) (r .me .quorum) (r .conf))
@@ -374,7 +375,7 @@ found-open r slot hs i h e =
     (getElem-pad (r .insts) (slot + 1 - end r) (slot - r .bar .start) i (held-at (withHighestSlot hs (pad slot r)) slot i e))
   where
     there : getElem? (r .insts) (slot - r .bar .start) ≡ some i → isOpen (i .status) ≡ true
-    there q = not-false (isOpen (i .status)) (rw (or-left (ltb slot (r .bar .start)) (isClosed r slot) h, q) at (or-right (ltb slot (r .bar .start)) (isClosed r slot) h))
+    there q = not-false (isOpen (i .status)) (rw (or-both (ltb slot (r .bar .start)) (isClosed r slot) h .0, q) at (or-both (ltb slot (r .bar .start)) (isClosed r slot) h .1))
 
 current-bal : (r : Replica) → Sound (core r) → current r ≤ r .bal .maxSeen
 unfolding core
@@ -391,7 +392,7 @@ unfolding recorded pad
 recorded-slots r slot ballot reqs k s b h =
     let hs = refreshHighestSlot slot reqs (r .highestSlot) in
     let t = withHighestSlot hs (pad slot r) in
-    let q : ballot ≡ current r = eqb-true ballot (current r) (not-false (eqb ballot (current r)) (or-left _ _ b)) in
+    let q : ballot ≡ current r = eqb-true ballot (current r) (not-false (eqb ballot (current r)) (or-both _ _ b .0)) in
     let u : SlotsSound t = pad-slots r slot k s in
     by-none SlotsSound (instAt t slot) u
     (λ i e. set-slots t slot i (accepting r ballot reqs i) e (λ m x. record-sound r ballot reqs m i (found-open r slot hs i h e) (rw q (current-bal r k)) x) u)
@@ -410,12 +411,12 @@ module _ (bal commit exec commit′ exec′ : ℕ) (h : exec ≤ exec′) where
     where
       head-closed : (k : ℕ) → commit′ - m ≡ k → any (λ (i : Instance). isOpen (i .status)) (take k (i ∷ is)) ≡ false → m < commit′ → isOpen (i .status) ≡ false
       head-closed zero f a l = absurd (omega arith)
-      head-closed (suc k) f a l = or-left (isOpen (i .status)) _ a
+      head-closed (suc k) f a l = or-both (isOpen (i .status)) _ a .0
 
       rest : (k : ℕ) → commit′ - m ≡ k → any (λ (i : Instance). isOpen (i .status)) (take k (i ∷ is)) ≡ false
           → any (λ (i : Instance). isOpen (i .status)) (take (commit′ - suc m) is) ≡ false
       rest zero f a = let q : commit′ - suc m ≡ 0 = omega arith in rw q
-      rest (suc k) f a = let q : commit′ - suc m ≡ k = omega arith in rw q (or-right (isOpen (i .status)) _ a)
+      rest (suc k) f a = let q : commit′ - suc m ≡ k = omega arith in rw q (or-both (isOpen (i .status)) _ a .1)
 
       go : (n : ℕ) → exec′ - m ≡ n → (k : ℕ) → commit′ - m ≡ k → any (λ (i : Instance). isOpen (i .status)) (take k (i ∷ is)) ≡ false
           → (any (λ (i : Instance). isOpen (i .status)) (take (commit′ - suc m) is) ≡ false → EachSlot (SlotSound bal commit′ exec′) (suc m) (executed (exec′ - suc m) is))
@@ -447,8 +448,8 @@ bars-slots : (r : Replica) (start accept commit exec : ℕ) → SlotsSound r →
     → SlotsSound (bars r start accept commit exec)
 unfolding bars
 bars-slots r start accept commit exec s f u =
-    let a : r .bar .start ≤ start = ltb-false start (r .bar .start) (or-left (ltb start (r .bar .start)) (ltb commit (r .bar .commit)) (or-left _ _ f)) in
-    let b : r .bar .exec ≤ exec = ltb-false exec (r .bar .exec) (or-right (ltb start (r .bar .start) || ltb commit (r .bar .commit)) _ f) in
+    let a : r .bar .start ≤ start = ltb-false start (r .bar .start) (or-both (ltb start (r .bar .start)) (ltb commit (r .bar .commit)) (or-both _ _ f .0) .0) in
+    let b : r .bar .exec ≤ exec = ltb-false exec (r .bar .exec) (or-both (ltb start (r .bar .start) || ltb commit (r .bar .commit)) _ f .1) in
     let q : r .bar .start + (start - r .bar .start) ≡ start = omega arith in
     let t = bars-each (r .bal .maxSeen) (r .bar .commit) (r .bar .exec) commit exec b (r .bar .start) (r .insts) s u in
     rw q at (each-drop (SlotSound (r .bal .maxSeen) commit exec) (r .bar .start) (start - r .bar .start) (executed (exec - r .bar .start) (r .insts)) t)
@@ -465,8 +466,8 @@ effect-slots r (Reply peer slot ballot) k s n = reply-slots r peer slot ballot s
 effect-slots r (Notice peer slot ballot) k s n = notice-slots r peer slot ballot k s
 effect-slots r (CommitNotice peer ballot bar) k s n = commit-slots r ballot bar s
 effect-slots r (Bars start accept commit exec) k s n =
-    let h = or-left _ _ (n .1 .0) in
-    bars-slots r start accept commit exec s (or-left _ _ (or-left _ _ h)) (or-right (falls r start commit exec || not (ordered r start commit exec)) _ h)
+    let h = or-both _ _ (n .1 .0) .0 in
+    bars-slots r start accept commit exec s (or-both _ _ (or-both _ _ h .0) .0) (or-both (falls r start commit exec || not (ordered r start commit exec)) _ h .1)
 effect-slots r (Read leases q) k s n = read-slots r leases q s
 effect-slots r (Release slot) k s n = release-slots slot r s
 

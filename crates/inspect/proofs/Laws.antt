@@ -42,7 +42,7 @@ use Rattle.written.specs.declared.LastWrite.the-variants as last
 use Rattle.slots.specs.Slots.{shortAt, batchAt, readsAt, instOf, instIn, instsOf, bookOf as heldBook}
 use Rattle.slots.proofs.Laws.{inst-at, inst-none}
 use Rattle.localread.specs.Release.{holdingOf}
-use Rattle.node.proofs.Laws.{and-both}
+use Rattle.words.proofs.Tests.{and-both}
 use Rattle.inspect.specs.Seen.{seen, heldAt, settledOf, answerIn}
 use Rattle.inspect.specs.declared.Standing.{Standing}
 use Rattle.inspect.specs.declared.Settled.{Settled}

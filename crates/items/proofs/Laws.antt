@@ -17,6 +17,7 @@ use lib.Pow.{split}
 use Rattle.words.specs.Choice.{if_then_else_}
 use Rattle.words.specs.Tab.{run, run-part}
 use Rattle.words.specs.Writes.{writes, length-writes, writes-other, writes-same, run-writes, run-agrees, writes-append}
+use Rattle.words.proofs.Tests.{and-both}
 use Rattle.inty.specs.Value.{valueOf}
 use Rattle.inty.specs.declared.Inty.{Inty}
 use Rattle.items.specs.declared.Item as declared
@@ -89,10 +90,6 @@ same-eq (x ∷ xs) (y ∷ ys) e =
     let p = and-both (eqb x y) (sameWords xs ys) e in
     let q : x ≡ y = eqb-true x y (p .0) in
     rw (q, same-eq xs ys (p .1))
-  where
-    and-both : (a b : Bool) → (a && b) ≡ true → (a ≡ true) × (b ≡ true)
-    and-both true b e = (refl, e)
-    and-both false b e = absurd (true≢false (sym e))
 
 abbrev namedIn : List ℕ → Item
 namedIn ws = named (getD ws 0 0) (getD ws 1 0) (getD ws 2 0) (getD ws 3 0) (getD ws 4 0) (getD ws 5 0)

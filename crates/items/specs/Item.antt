@@ -124,6 +124,11 @@ unfolding encode
 length-encode [] = refl
 length-encode (x ∷ xs) = length-append (itemWords x) (encode xs) ∙ omega (arith, length-item x, length-encode xs)
 
+pub encode-append : (l m : List Item) → encode (l ++ m) ≡ encode l ++ encode m
+unfolding encode
+encode-append [] m = refl
+encode-append (x ∷ l) m = ap (λ (w : List ℕ). itemWords x ++ w) (encode-append l m) ∙ sym (append-assoc (itemWords x) (encode l) (encode m))
+
 append-nil : (l : List ℕ) → l ++ [] ≡ l
 append-nil [] = refl
 append-nil (y ∷ ys) = ap (λ (z : List ℕ). y ∷ z) (append-nil ys)

@@ -22,7 +22,7 @@ use Rattle.bodega.specs.Grounds.{grounds}
 use Rattle.bodega.specs.Step.{step, effect, turnedAway}
 use Rattle.bodega.specs.Answers.{due, Answers}
 use Rattle.bodega.proofs.Taken.{Positive, positive}
-use Rattle.node.proofs.Laws.{and-both}
+use Rattle.words.proofs.Tests.{and-both}
 use Rattle.node.specs.declared.Node.{Node}
 use Rattle.node.specs.View.{size, view, inRange, barsInRange, sound, ready, lowest, leadsIt}
 

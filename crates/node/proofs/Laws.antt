@@ -24,6 +24,7 @@ use Rattle.bodega.specs.Replica.{pair, freshPair, fresh}
 use Rattle.responders.specs.Conf.{empty}
 use Rattle.responders.specs.Edits.{view as rosterOf}
 use Rattle.words.specs.Tab.{tab, run, tab-ext}
+use Rattle.words.proofs.Tests.{and-both}
 
 -- ---- tests
 
@@ -180,10 +181,6 @@ module _ (s : List ℕ) (a : part s 0 64 ≡ replicate 64 0) (b : part s 64 64 �
 
 fresh-execs : (n : ℕ) → n ≤ 64 → run n (replicate 64 0) 0 ≡ replicate n 0
 fresh-execs n h = tab-ext (λ i. getD (replicate 64 0) i 0) (λ i. 0) 0 n (λ j a b. getD-replicate {A = ℕ} 64 j 0 0 (omega arith)) ∙ tab-const 0 0 n
-
-pub and-both : (a b : Bool) → a && b ≡ true → (a ≡ true) × (b ≡ true)
-and-both true b e = (refl, e)
-and-both false b e = let z : _≡_ {A = ℕ} 0 1 = cc in absurd (omega arith)
 
 module _ (id population quorum : ℕ) (s : List ℕ) (t : Bool) (e : t ≡ leb size (length s) && inRange id population quorum) where
   pub not-begun : not t ≡ true → Gives (leb size (length s) && inRange id population quorum) id population quorum s (Refused 2) s

@@ -4,6 +4,7 @@ use mathlib.Core.Path.{_≡_, refl, sym, ap, _∙_}
 use mathlib.Core.Bool.{Bool, true, false, _&&_}
 use mathlib.Core.Option.{Option, none, some}
 use Rattle.words.specs.Choice.{if_then_else_}
+use Rattle.words.proofs.Tests.{and-both}
 use mathlib.Core.List.{List, [], _∷_, _++_, append-nil, append-assoc}
 use Prim.Native.Nat.{ℕ, suc, _+_, _-_, _≤_, _<_}
 use native.Mathlib.Nat.{le-refl, le-trans, lt-of-lt-of-le}
@@ -19,13 +20,6 @@ use Rattle.ranges.specs.Canon.{Starts, Sorted, Apart, Canon, Same, Says,
 both-false : (b : Bool) → b && false ≡ false
 both-false true = refl
 both-false false = refl
-
-both-true : (a b : Bool) → a && b ≡ true → (a ≡ true) × (b ≡ true)
-both-true true b e = (refl, e)
-both-true false b e = absurd (never e)
-  where
-    never : false ≡ true → ⊥
-    never e = let z : _≡_ {A = ℕ} 0 1 = cc in omega arith
 
 -- by cases on a test, with what it says
 by-lt : {A : Type 0} (a b : ℕ) → (a < b → A) → (b ≤ a → A) → A
@@ -85,7 +79,7 @@ Ends (x ∷ y ∷ l) k = Ends (y ∷ l) k
 
 goes-on : (x r : Range) → goesOn x r ≡ true → (x .mask ≡ r .mask) × (x .to + 1 ≡ r .from)
 goes-on x r e =
-    let t = both-true (eqb (x .mask) (r .mask)) (eqb (x .to + 1) (r .from)) e in
+    let t = and-both (eqb (x .mask) (r .mask)) (eqb (x .to + 1) (r .from)) e in
     (eqb-true _ _ (t .0), eqb-true _ _ (t .1))
 
 ends-push : (l : List Range) (r : Range) (k : ℕ) → r .to < k → Ends (push l r) k

@@ -11,6 +11,7 @@ use lib.ListN.{length, take, drop}
 use borrow.Author.Tests.{lt-ltb, le-ltb, le-leb, lt-leb, ltb-false, leb-false, not-false}
 use Rattle.words.specs.Choice.{if_then_else_, ifNone_then_else_}
 use Rattle.words.specs.Part.{part, splice, length-part}
+use Rattle.words.proofs.Tests.{or-both}
 use Rattle.ids.specs.Leader.{leaderOf}
 use Rattle.items.specs.Item.{Item, places}
 use Rattle.responders.specs.Edits.{view as rosterOf}
@@ -78,10 +79,6 @@ module _ (n : Node) (m area : List ℕ) (slot : ℕ) (t : Bool) (e : t ≡ ready
   module _ (z : k ≡ 0) where
     r : Ready n m
     r = is-ready n m t e f
-
-    or-both : (a b : Bool) → a || b ≡ false → (a ≡ false) × (b ≡ false)
-    or-both false b p = (refl, p)
-    or-both true b p = let q : _≡_ {A = ℕ} 0 1 = cc in absurd (omega arith)
 
     in-window : (start ≤ slot) × (slot < start + n .slots)
     unfolding grounds

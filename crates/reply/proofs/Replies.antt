@@ -10,11 +10,11 @@ use lib.Dec.{ltb, leb, eqb}
 use lib.ListN.{length, take, drop, length-append, take-append-drop}
 use borrow.Author.Tests.{lt-ltb, le-ltb, le-leb, lt-leb, eq-eqb, ne-eqb, leb-false, ltb-false, eqb-true, not-true, not-false}
 use Rattle.words.specs.Choice.{if_then_else_, ifNone_then_else_}
-use Rattle.words.specs.Part.{part, splice, length-part}
+use Rattle.words.specs.Part.{part, splice, length-part, splice-same}
 use Rattle.words.specs.Writes.{writes, writes-append, length-writes}
 use Rattle.bitmap.specs.Bitmap.{get, mark}
 use Rattle.ids.specs.Leader.{leaderOf}
-use Rattle.items.specs.Item.{Item, Resend, Commit, encode, places, length-encode}
+use Rattle.items.specs.Item.{Item, Resend, Commit, encode, places, length-encode, encode-append}
 use Rattle.responders.specs.Edits.{view as rosterOf}
 use Rattle.bodega.specs.Replica as machine
 use Rattle.bodega.specs.Localread.{commitCondition}
@@ -26,7 +26,7 @@ use Rattle.cells.specs.Cell.{Short}
 use Rattle.slots.specs.Slots.{shortAt, batchAt, readsAt, instOf, instIn, instsOf}
 use Rattle.node.specs.declared.Node.{Node}
 use Rattle.node.specs.View.{view, ready, lowest, leadsIt}
-use Rattle.node.proofs.Laws.{and-both}
+use Rattle.words.proofs.Tests.{and-both}
 use Rattle.node.proofs.Calls.{Ready, is-ready, refused-by, none-applies, few-places, taken-with, taken-by}
 use Rattle.node.proofs.Frames.{slots-back, slots-size, slots-ready}
 use Rattle.node.proofs.Slots.{not-past, held-at, set-at}
@@ -38,7 +38,7 @@ use Rattle.reply.specs.declared.Taken.the-variants.{Items, Full}
 use Rattle.reply.specs.Resends.{missedOf, andMore, resendsOf}
 use Rattle.reply.specs.Acks.{acksWith, ackOf, commitsBy, commitItems, Acts}
 use Rattle.reply.specs.Replies.{unheld, replyRefusal, awaited, span, itemsOf, Replies}
-use Rattle.reply.proofs.Resends.{encode-append, no-resend}
+use Rattle.reply.proofs.Resends.{no-resend}
 
 -- ---- a test after another
 
@@ -251,9 +251,6 @@ module _ (n : Node) (m : List ℕ) (peer slot ballot : ℕ) where
   number-is : replyRefusal (n .population) (n .«start_slot» .0) (n .slots) (n .«bal_prepared» .0) peer slot ballot ≡ lowest (grounds (view n m) (machine.Reply peer slot ballot))
   unfolding grounds view
   number-is = ap (λ (b : Bool). if leb (n .population) peer then 3 else if ltb 281474976710655 slot then 8 else if b then 16 else 0) ground-16
-
-splice-same : (xs : List ℕ) (a n : ℕ) → splice xs a n (take n (drop a xs)) ≡ xs
-splice-same xs a n = ap (λ (l : List ℕ). take a xs ++ l) (take-append-drop n (drop a xs)) ∙ take-append-drop a xs
 
 acts-size : (a : Ack) (s t : List ℕ) (c : ℕ) → Acts a s c t → length t ≡ length s
 acts-size Ignored s t c x = ap length x

@@ -1,14 +1,14 @@
 -- The Accepts that are sent again, slot by slot. Assumes nothing.
 use mathlib.Core.Path.{_≡_, refl, sym, ap, _∙_}
 use mathlib.Core.Bool.{Bool, true, false, not}
-use mathlib.Core.List.{List, [], _∷_, _++_, append-assoc, append-nil}
+use mathlib.Core.List.{List, [], _∷_, _++_, append-nil}
 use Prim.Native.Nat.{ℕ, suc, _+_, _-_, _*_, _%_, _≤_, _<_}
 use native.Mathlib.Omega.{arith}
 use lib.ListN.{length, length-append}
 use borrow.Author.Tests.{eq-eqb, ne-eqb, not-true, not-false}
 use Rattle.words.specs.Writes.{writes, writes-append}
 use Rattle.bitmap.specs.Bitmap.{get}
-use Rattle.items.specs.Item.{Item, Resend, itemWords, encode, places, length-encode}
+use Rattle.items.specs.Item.{Item, Resend, itemWords, encode, places, length-encode, encode-append}
 use Rattle.items.specs.Area.{Put, putItem}
 use Rattle.items.proofs.Laws.{put-area}
 use Rattle.bodega.specs.Replica.{isAccepting}
@@ -50,11 +50,6 @@ module _ (x : Short) (peer prepared : ℕ) (k : Cell) (e : cellOf k ≡ x) (t : 
         skip-ballot q = sym (rw (sym f ∙ not-false t g, h, sym a ∙ w, ne-eqb (k .bal .0) prepared q)) ∙ back
 
 -- ---- items written
-
-pub encode-append : (xs ys : List Item) → encode (xs ++ ys) ≡ encode xs ++ encode ys
-unfolding encode
-encode-append [] ys = refl
-encode-append (x ∷ xs) ys = ap (λ (l : List ℕ). itemWords x ++ l) (encode-append xs ys) ∙ sym (append-assoc (itemWords x) (encode xs) (encode ys))
 
 pub none-written : (area : List ℕ) (at : ℕ) → area ≡ writes area at (encode [])
 unfolding encode

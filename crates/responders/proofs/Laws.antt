@@ -9,6 +9,7 @@ use lib.Dec.{ltb, leb}
 use lib.ListN.{length}
 use borrow.Author.Tests.{lt-ltb, le-ltb, le-leb, lt-leb, leb-true, leb-false, eq-eqb, ne-eqb, not-true, not-false}
 use Rattle.words.specs.Choice.{if_then_else_, ifNone_then_else_}
+use Rattle.words.proofs.Tests.{and-both}
 use Rattle.ids.specs.declared.Replica.{Replica}
 use Rattle.ids.specs.declared.Leader.{Leader}
 use Rattle.ids.specs.declared.Leader.the-variants.{None, Some}
@@ -37,10 +38,6 @@ use Rattle.responders.specs.Edits.{view, holdsRows, inRange, due, Leaves
 and-false : (a : Bool) → a && false ≡ false
 and-false true = refl
 and-false false = refl
-
-and-both : (a b : Bool) → a && b ≡ true → (a ≡ true) × (b ≡ true)
-and-both true b e = (refl, e)
-and-both false b e = let z : _≡_ {A = ℕ} 0 1 = cc in absurd (omega arith)
 
 module _ (len count : ℕ) where
   pub short-rows : len < 320 → false ≡ holdsRows len count
