@@ -1,0 +1,4 @@
+pub mod Bars
+pub mod Refusals
+pub mod Machine
+pub mod Call
