@@ -44,7 +44,7 @@ pub readied : (n : Node) (m : List ℕ) → ready n m ≡ true → Ready n m
 readied n m e = is-ready n m true (sym e) refl
 
 pub few-ranges : (count : ℕ) (rows : List ℕ) → whole count rows ≡ true → (count ≤ 64) × (320 ≤ length rows)
-few-ranges count rows e = let w = and-both (leb count 64) (leb 320 (length rows)) e in (leb-true count 64 (w .0), leb-true 320 (length rows) (w .1))
+few-ranges count rows e = let w = and-both (leb 320 (length rows)) (leb count 64) e in (leb-true count 64 (w .1), leb-true 320 (length rows) (w .0))
 
 pub rows-long : (m : List ℕ) → 10305 ≤ length m → length (take 320 (drop 192 m)) ≡ 320
 unfolding part

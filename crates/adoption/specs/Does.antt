@@ -1,14 +1,14 @@
 -- What a part of a call does: the machine's replica and items, the items from a place of the area on. Assumes nothing: these are definitions.
 use mathlib.Core.Path.{_≡_}
-use mathlib.Core.Bool.{Bool, true, _&&_}
+use mathlib.Core.Bool.{Bool, true}
 use mathlib.Core.List.{List}
 use Prim.Native.Nat.{ℕ, _*_}
-use lib.Dec.{leb}
 use lib.ListN.{length}
 use Rattle.words.specs.Writes.{writes}
 use Rattle.items.specs.Item.{encode}
 use Rattle.bodega.specs.Replica.{Done}
 use Rattle.bodega.specs.Answers.{Given}
+use Rattle.responders.specs.Edits.{holdsRows}
 use Rattle.node.specs.declared.Node.{Node}
 use Rattle.node.specs.View.{view, ready}
 
@@ -22,4 +22,4 @@ pub record Does (d : Done) (place : ℕ) (mem area : List ℕ) (g : Given Node) 
 
 -- a roster that can stand in a node: at most 64 ranges, in rows that are all there
 abbrev pub whole : ℕ → List ℕ → Bool
-whole count rows = leb count 64 && leb 320 (length rows)
+whole count rows = holdsRows (length rows) count

@@ -37,11 +37,11 @@ module _ (t : Bool) (count : ℕ) (rows : List ℕ) (f : not t ≡ false) where
   fits-by : whole count rows ≡ fitting t count rows
   fits-by = ap (λ (b : Bool). fitting b count rows) (sym (not-false t f))
 
-  pub many-ranges : 64 < count → false ≡ fitting t count rows
-  many-ranges h = sym (simp (lt-leb count 64 h)) ∙ fits-by
+  pub few-words : length rows < 320 → false ≡ fitting t count rows
+  few-words h = sym (simp (lt-leb 320 (length rows) h)) ∙ fits-by
 
-  pub few-words : count ≤ 64 → leb 320 (length rows) ≡ fitting t count rows
-  few-words h = sym (simp (le-leb count 64 h)) ∙ fits-by
+  pub few-rows : 320 ≤ length rows → leb count 64 ≡ fitting t count rows
+  few-rows h = sym (simp (le-leb 320 (length rows) h)) ∙ fits-by
 
 pub rows-hold : (t : Bool) (count : ℕ) (rows : List ℕ) → fitting t count rows ≡ true → not t ≡ false → count * 5 ≤ length rows
 rows-hold t count rows e f = let w = few-ranges count rows (whole-if t count rows e f) in omega (arith, w .0, w .1)

@@ -104,10 +104,10 @@ fn is_fitting(attached: bool, conf: RespondersConf, rows: &[u64]) -> bool
     if !attached {
         return true;
     }
-    if RespondersConf::RANGES < conf.count {
+    if rows.len() < RespondersConf::WORDS {
         return false;
     }
-    320 <= rows.len()
+    conf.count <= RespondersConf::RANGES
 }
 
 // Whether a roster is to be installed: at a higher ballot, or another one of the ballot's proposer.
