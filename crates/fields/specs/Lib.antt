@@ -1,0 +1,4 @@
+pub mod Split
+pub mod Number
+pub mod Reads
+pub mod Kind

@@ -1,0 +1,290 @@
+// The fields of a line, parted by commas: read by a position in the line.
+ghost use mathlib.Core.Path.{_≡_};
+ghost use mathlib.Core.Bool.{true, false};
+ghost use Prim.Native.Nat.{_+_, _*_, _^_, _≤_, _<_};
+ghost use lib.Dec.{ltb};
+ghost use lib.ListN.{length};
+ghost use Rattle.fields.specs.Split.{fieldsFrom};
+ghost use Rattle.fields.specs.Number.{isDigit};
+ghost use Rattle.fields.specs.Kind.{kindOf, wordOf, kindBy};
+ghost use Rattle.fields.specs.Reads.{noneLeft, ReadsField, ReadsNumber, ReadsNumberAt, ReadsNumbers};
+
+pub struct Field {
+    pub start: usize,
+    pub end: usize,
+    pub next: usize,
+}
+
+pub struct Number {
+    pub good: bool,
+    pub value: u64,
+}
+
+pub struct NumberAt {
+    pub good: bool,
+    pub value: u64,
+    pub next: usize,
+}
+
+// Whether no field is left.
+pub fn ended(line: &[u8], at: usize) -> bool
+    ensures { λ r. ⌜ r ≡ noneLeft (fieldsFrom (now (line .entry)) at) ⌝ }
+{
+    at > line.len()
+}
+
+fn up_to(start: usize, end: usize) -> Field
+    requires { ⌜ end + 1 < 2 ^ 64 ⌝ }
+    ensures { λ r. ⌜ r ≡ record { start = start; end = end; next = end + 1 } ⌝ }
+{
+    Field {
+        start,
+        end,
+        next: end + 1,
+    }
+}
+
+// The field that begins at a position. Past the end of the line the position stands.
+pub fn field_at(line: &[u8], at: usize) -> Field
+    ensures { λ r. ⌜ ReadsField (now (line .entry)) at r ⌝ }
+{
+    if line.len() < at {
+        return Field {
+            start: at,
+            end: at,
+            next: at,
+        };
+    }
+    let mut end = at;
+    while end < line.len() {
+        if line[end] == b',' {
+            return up_to(at, end);
+        }
+        end += 1;
+    }
+    up_to(at, end)
+}
+
+fn is_digit(c: u8) -> bool
+    ensures { λ r. ⌜ r ≡ isDigit c ⌝ }
+{
+    if c < b'0' {
+        return false;
+    }
+    c <= b'9'
+}
+
+// Whether one digit more stays within 64 bits.
+fn in_word(acc: u64, d: u64) -> bool
+    requires { ⌜ d ≤ 9 ⌝ }
+    ensures { λ r. ⌜ r ≡ ltb (acc * 10 + d) (2 ^ 64) ⌝ }
+{
+    if acc < 1844674407370955161 {
+        return true;
+    }
+    if acc > 1844674407370955161 {
+        return false;
+    }
+    d <= 5
+}
+
+fn no_number(at: usize) -> NumberAt
+    ensures { λ r. ⌜ r ≡ record { good = false; value = 0; next = at } ⌝ }
+{
+    NumberAt {
+        good: false,
+        value: 0,
+        next: at,
+    }
+}
+
+// A field from `at` up to `end` that is digits alone, of that value: a number, unless it is empty.
+fn closed(at: usize, end: usize, value: u64) -> NumberAt
+    requires { ⌜ (at < end → end + 1 < 2 ^ 64) ⌝ }
+    ensures { λ r. ⌜ (at < end → r ≡ record { good = true; value = value; next = end + 1 }) × (end ≤ at → r ≡ record { good = false; value = 0; next = at }) ⌝ }
+{
+    if at < end {
+        return NumberAt {
+            good: true,
+            value,
+            next: end + 1,
+        };
+    }
+    no_number(at)
+}
+
+// The number that begins at a position, in one scan. Where there is none the position stands.
+pub fn number_at(line: &[u8], at: usize) -> NumberAt
+    ensures { λ r. ⌜ ReadsNumberAt (now (line .entry)) at r ⌝ }
+{
+    let mut acc: u64 = 0;
+    let mut i = at;
+    while i < line.len() {
+        let c = line[i];
+        if is_digit(c) {
+            let d = words::wide(c - b'0');
+            if in_word(acc, d) {
+                acc = acc * 10 + d;
+                i += 1;
+            } else {
+                return no_number(at);
+            }
+        } else {
+            if c == b',' {
+                return closed(at, i, acc);
+            }
+            return no_number(at);
+        }
+    }
+    closed(at, i, acc)
+}
+
+// The number that bytes are.
+pub fn number_of(s: &[u8]) -> Number
+    ensures { λ r. ⌜ ReadsNumber (now (s .entry)) r ⌝ }
+{
+    let r = number_at(s, 0);
+    if r.good {
+        if ended(s, r.next) {
+            return Number {
+                good: true,
+                value: r.value,
+            };
+        }
+    }
+    Number {
+        good: false,
+        value: 0,
+    }
+}
+
+// The fields from a position on: whether they are k numbers, and which.
+pub fn numbers(line: &[u8], at: usize, k: usize, out: &mut [u64]) -> bool
+    requires { ⌜ k ≤ length (now out) ⌝ }
+    ensures { λ r. ⌜ ReadsNumbers (now (line .entry)) at k (now (out .entry)) r (now (out .exit)) ⌝ }
+{
+    let mut next = at;
+    let mut i = 0;
+    while i < k {
+        let r = number_at(line, next);
+        if r.good {
+            out[i] = r.value;
+            next = r.next;
+            i += 1;
+        } else {
+            return false;
+        }
+    }
+    ended(line, next)
+}
+
+// The seventeen kinds of lines.
+pub enum Kind {
+    Node,
+    Lead,
+    Range,
+    Whole,
+    Drop,
+    Reset,
+    Show,
+    Heard,
+    Guard,
+    Prepared,
+    Record,
+    Reply,
+    Notice,
+    Commit,
+    Bars,
+    Read,
+    Release,
+    Unknown,
+}
+
+// A name's bytes as one word, the first one the highest.
+fn word_of(name: &[u8]) -> u64
+    requires { ⌜ length (now name) ≤ 8 ⌝ }
+    ensures { λ r. ⌜ r ≡ wordOf (now (name .entry)) ⌝ }
+{
+    let mut w: u64 = 0;
+    let mut i = 0;
+    while i < name.len() {
+        w = w * 256 + words::wide(name[i]);
+        i += 1;
+    }
+    w
+}
+
+fn of_four(w: u64) -> Kind
+    ensures { λ r. ⌜ r ≡ kindBy 4 w ⌝ }
+{
+    match w {
+        0x6e6f6465 => Kind::Node,
+        0x6c656164 => Kind::Lead,
+        0x64726f70 => Kind::Drop,
+        0x73686f77 => Kind::Show,
+        0x62617273 => Kind::Bars,
+        0x72656164 => Kind::Read,
+        _ => Kind::Unknown,
+    }
+}
+
+fn of_five(w: u64) -> Kind
+    ensures { λ r. ⌜ r ≡ kindBy 5 w ⌝ }
+{
+    match w {
+        0x72616e6765 => Kind::Range,
+        0x77686f6c65 => Kind::Whole,
+        0x7265736574 => Kind::Reset,
+        0x6865617264 => Kind::Heard,
+        0x6775617264 => Kind::Guard,
+        0x7265706c79 => Kind::Reply,
+        _ => Kind::Unknown,
+    }
+}
+
+fn of_six(w: u64) -> Kind
+    ensures { λ r. ⌜ r ≡ kindBy 6 w ⌝ }
+{
+    match w {
+        0x7265636f7264 => Kind::Record,
+        0x6e6f74696365 => Kind::Notice,
+        0x636f6d6d6974 => Kind::Commit,
+        _ => Kind::Unknown,
+    }
+}
+
+fn of_seven(w: u64) -> Kind
+    ensures { λ r. ⌜ r ≡ kindBy 7 w ⌝ }
+{
+    match w {
+        0x72656c65617365 => Kind::Release,
+        _ => Kind::Unknown,
+    }
+}
+
+fn of_eight(w: u64) -> Kind
+    ensures { λ r. ⌜ r ≡ kindBy 8 w ⌝ }
+{
+    match w {
+        0x7072657061726564 => Kind::Prepared,
+        _ => Kind::Unknown,
+    }
+}
+
+// A name is told by its length and its word.
+pub fn kind_of(name: &[u8]) -> Kind
+    ensures { λ r. ⌜ r ≡ kindOf (now (name .entry)) ⌝ }
+{
+    if 8 < name.len() {
+        return Kind::Unknown;
+    }
+    let w = word_of(name);
+    match name.len() {
+        4 => of_four(w),
+        5 => of_five(w),
+        6 => of_six(w),
+        7 => of_seven(w),
+        8 => of_eight(w),
+        _ => Kind::Unknown,
+    }
+}

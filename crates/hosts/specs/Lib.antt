@@ -1,0 +1,4 @@
+pub mod Line
+pub mod Host
+pub mod Acts
+pub mod Worked
