@@ -8,7 +8,7 @@ use node::Fresh;
 use node::Node;
 use responders::RespondersConf;
 ghost use mathlib.Core.Path.{_≡_};
-ghost use Rattle.bodega.specs.Replica.{Guard, Prepared, Bars, Record};
+ghost use Rattle.bodega.specs.Replica.{Guard, Prepared, Bars, Record, Reply, Notice, CommitNotice, Read, Release};
 ghost use Rattle.requests.specs.Given.{given as batchOf};
 ghost use Rattle.bodega.specs.Answers.{Answers};
 ghost use Rattle.node.specs.View.{view, ready};
@@ -208,14 +208,8 @@ pub extern "C" fn bodega_guard(
 ) -> Called
     ensures { λ r. ⌜ Answers ready view (Guard peer number bar) (nodeOf node) (now (mem .entry)) (now (area .entry)) (given r) (now (mem .exit)) (now (area .entry)) ⌝ }
 {
-    let a = guard::guard(
-        node_of(node),
-        mem,
-        area,
-        Replica(peer),
-        Ballot(number),
-        Slot(bar),
-    );
+    let n = node_of(node);
+    let a = guard::guard(n, mem, area, Replica(peer), Ballot(number), Slot(bar));
     told(a)
 }
 
@@ -223,7 +217,8 @@ pub extern "C" fn bodega_guard(
 pub extern "C" fn bodega_prepared(node: Plain, mem: &[u64], area: &[u64], ballot: u64) -> Called
     ensures { λ r. ⌜ Answers ready view (Prepared ballot) (nodeOf node) (now (mem .entry)) (now (area .entry)) (given r) (now (mem .entry)) (now (area .entry)) ⌝ }
 {
-    let a = prepared::prepared(node_of(node), mem, area, Ballot(ballot));
+    let n = node_of(node);
+    let a = prepared::prepared(n, mem, area, Ballot(ballot));
     told(a)
 }
 
@@ -239,8 +234,9 @@ pub extern "C" fn bodega_bars(
 ) -> Called
     ensures { λ r. ⌜ Answers ready view (Bars start accept commit exec) (nodeOf node) (now (mem .entry)) (now (area .entry)) (given r) (now (mem .exit)) (now (area .entry)) ⌝ }
 {
+    let n = node_of(node);
     let a = bars::bars(
-        node_of(node),
+        n,
         mem,
         area,
         Slot(start),
@@ -263,14 +259,86 @@ pub extern "C" fn bodega_record(
 ) -> Called
     ensures { λ r. ⌜ Answers ready view (Record slot ballot (batchOf (now (rows .entry)) (now (text .entry)))) (nodeOf node) (now (mem .entry)) (now (area .entry)) (given r) (now (mem .exit)) (now (area .entry)) ⌝ }
 {
-    let a = record::record(
-        node_of(node),
-        mem,
-        area,
-        Slot(slot),
-        Ballot(ballot),
-        rows,
-        text,
-    );
+    let n = node_of(node);
+    let a = record::record(n, mem, area, Slot(slot), Ballot(ballot), rows, text);
+    told(a)
+}
+
+#[no_mangle]
+pub extern "C" fn bodega_reply(
+    node: Plain,
+    mem: &mut [u64],
+    area: &mut [u64],
+    peer: u8,
+    slot: u64,
+    ballot: u64,
+) -> Called
+    ensures { λ r. ⌜ Answers ready view (Reply peer slot ballot) (nodeOf node) (now (mem .entry)) (now (area .entry)) (given r) (now (mem .exit)) (now (area .exit)) ⌝ }
+{
+    let n = node_of(node);
+    let a = reply::reply(n, mem, area, Replica(peer), Slot(slot), Ballot(ballot));
+    told(a)
+}
+
+#[no_mangle]
+pub extern "C" fn bodega_notice(
+    node: Plain,
+    mem: &mut [u64],
+    area: &mut [u64],
+    peer: u8,
+    slot: u64,
+    ballot: u64,
+) -> Called
+    ensures { λ r. ⌜ Answers ready view (Notice peer slot ballot) (nodeOf node) (now (mem .entry)) (now (area .entry)) (given r) (now (mem .exit)) (now (area .exit)) ⌝ }
+{
+    let n = node_of(node);
+    let a = notice::notice(n, mem, area, Replica(peer), Slot(slot), Ballot(ballot));
+    told(a)
+}
+
+#[no_mangle]
+pub extern "C" fn bodega_commit(
+    node: Plain,
+    mem: &mut [u64],
+    area: &mut [u64],
+    peer: u8,
+    ballot: u64,
+    bar: u64,
+) -> Called
+    ensures { λ r. ⌜ Answers ready view (CommitNotice peer ballot bar) (nodeOf node) (now (mem .entry)) (now (area .entry)) (given r) (now (mem .exit)) (now (area .exit)) ⌝ }
+{
+    let n = node_of(node);
+    let a = commit::commit(n, mem, area, Replica(peer), Ballot(ballot), Slot(bar));
+    told(a)
+}
+
+#[no_mangle]
+pub extern "C" fn bodega_read(
+    node: Plain,
+    mem: &mut [u64],
+    area: &mut [u64],
+    client: u64,
+    request: u64,
+    leases: u64,
+    key: &[u8],
+) -> Called
+    ensures { λ r. ⌜ Answers ready view (Read leases (record { client = client; request = request; key = now (key .entry) })) (nodeOf node) (now (mem .entry)) (now (area .entry)) (given r) (now (mem .exit)) (now (area .exit)) ⌝ }
+{
+    let n = node_of(node);
+    let a = read::read(n, mem, area, client, request, leases, key);
+    told(a)
+}
+
+#[no_mangle]
+pub extern "C" fn bodega_release(
+    node: Plain,
+    mem: &mut [u64],
+    area: &mut [u64],
+    slot: u64,
+) -> Called
+    ensures { λ r. ⌜ Answers ready view (Release slot) (nodeOf node) (now (mem .entry)) (now (area .entry)) (given r) (now (mem .exit)) (now (area .exit)) ⌝ }
+{
+    let n = node_of(node);
+    let a = release::release(n, mem, area, Slot(slot));
     told(a)
 }
