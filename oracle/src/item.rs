@@ -180,6 +180,11 @@ impl Recorder {
         self.0.borrow().len()
     }
 
+    #[inline]
+    pub(crate) fn clear(&self) {
+        self.0.borrow_mut().clear();
+    }
+
     /// Moves the recorded items to the end of `to`.
     pub(crate) fn drain_into(&self, to: &mut Vec<Item>) {
         to.append(&mut self.0.borrow_mut());

@@ -126,6 +126,13 @@ impl BodegaReplica {
         self.release_held_read_reqs(slot).expect("release");
     }
 
+    /// Reads as they come to the original.
+    pub(crate) fn read_batch(&mut self, leases: u64, reqs: ReqBatch) {
+        // the original counts leases in a u8; a quorum is at most 64
+        self.lease_manager.leases = u8::try_from(leases).unwrap_or(u8::MAX);
+        block_on(self.handle_req_batch(reqs)).expect("read");
+    }
+
     /// A read as a batch of one Get. A read that would be held by a slot that
     /// holds `limit` reads already is taken back: false.
     pub(crate) fn read(
@@ -136,8 +143,6 @@ impl BodegaReplica {
         key: &[u8],
         limit: usize,
     ) -> bool {
-        // the original counts leases in a u8; a quorum is at most 64
-        self.lease_manager.leases = u8::try_from(leases).unwrap_or(u8::MAX);
         let key = key_string(key);
         let held_by = self.highest_slot.get(&key).copied();
         let (before, end) = (self.sent.len(), self.insts.len());
@@ -145,7 +150,7 @@ impl BodegaReplica {
             id: request,
             cmd: Command::Get { key },
         };
-        block_on(self.handle_req_batch(vec![(client, get)])).expect("read");
+        self.read_batch(leases, vec![(client, get)]);
         self.insts.truncate(end);
         if self.sent.len() > before {
             return true;
