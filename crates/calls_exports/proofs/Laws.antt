@@ -13,7 +13,7 @@ use Rattle.node.specs.declared.Node.{Node}
 use Rattle.node.specs.declared.Answered.{Answered}
 use Rattle.node.specs.declared.Fresh.{Fresh}
 use Rattle.node.specs.declared.Fresh.the-variants.{Made, Refused}
-use Rattle.node.specs.View.{size, view, inRange, ready, givenOf}
+use Rattle.node.specs.View.{size, view, inRange, givenOf}
 use Rattle.node.specs.Begins.{Gives, Begins}
 use Rattle.bodega.specs.Replica.{Call}
 use Rattle.bodega.specs.Answers.{Answers}
@@ -47,9 +47,9 @@ given-back : (a : Answered) → given (calledOf a) ≡ givenOf a
 given-back a = λ i. record { number = a .number; count = a .count; node = back (a .node) i }
 
 -- the callee's answer, said of the plain node
-pub answers : (c : Call) (p : Plain) (n : Node) (mem area mem′ area′ : List ℕ) (a : Answered) (r : Called) → n ≡ nodeOf p
-    → Answers ready view c n mem area (givenOf a) mem′ area′ → r ≡ calledOf a → Answers ready view c (nodeOf p) mem area (given r) mem′ area′
-answers c p n mem area mem′ area′ a r e h f = rw f (rw (given-back a) (rw e at h))
+pub answers : (ok : Node → List ℕ → Bool) (c : Call) (p : Plain) (n : Node) (mem area mem′ area′ : List ℕ) (a : Answered) (r : Called) → n ≡ nodeOf p
+    → Answers ok view c n mem area (givenOf a) mem′ area′ → r ≡ calledOf a → Answers ok view c (nodeOf p) mem area (given r) mem′ area′
+answers ok c p n mem area mem′ area′ a r e h f = rw f (rw (given-back a) (rw e at h))
 
 -- ---- a fresh node
 
