@@ -1,9 +1,10 @@
--- The node as a plain struct, for a caller that has no enums. Assumes nothing: these are definitions.
+-- The node and a roster as plain structs, for a caller that has no enums. Assumes nothing: these are definitions.
 use Prim.Native.Nat.{ℕ}
 use lib.Dec.{eqb}
 use Rattle.words.specs.Choice.{if_then_else_}
 use Rattle.ids.specs.declared.Leader.{Leader}
 use Rattle.ids.specs.declared.Leader.the-variants.{None, Some}
+use Rattle.responders.specs.declared.RespondersConf.{RespondersConf}
 use Rattle.node.specs.declared.Node.{Node}
 use Rattle.node.specs.declared.Answered.{Answered}
 use Rattle.node.specs.declared.Fresh.{Fresh}
@@ -11,6 +12,7 @@ use Rattle.node.specs.declared.Fresh.the-variants.{Made, Refused}
 use Rattle.bodega.specs.Answers.{Given}
 use Rattle.calls_exports.specs.declared.Plain.{Plain}
 use Rattle.calls_exports.specs.declared.Called.{Called}
+use Rattle.calls_exports.specs.declared.Roster.{Roster}
 
 abbrev pub leaderAt : ℕ → ℕ → Leader
 leaderAt has l = if eqb has 0 then None else Some (record { 0 = l })
@@ -22,6 +24,12 @@ hasLeader (Some r) = 1
 abbrev pub leaderIn : Leader → ℕ
 leaderIn None = 0
 leaderIn (Some r) = r .0
+
+abbrev pub confWith : Leader → Roster → RespondersConf
+confWith l r = record { leader = l; count = r .ranges; default = r .default }
+
+abbrev pub confOf : Roster → RespondersConf
+confOf r = confWith (leaderAt (r .«has_leader») (r .leader)) r
 
 abbrev pub nodeWith : Leader → Plain → Node
 nodeWith l p =

@@ -8,12 +8,15 @@ use node::Fresh;
 use node::Node;
 use responders::RespondersConf;
 ghost use mathlib.Core.Path.{_≡_};
-ghost use Rattle.bodega.specs.Replica.{Guard, Prepared, Bars, Record, Reply, Notice, CommitNotice, Read, Release};
+ghost use mathlib.Core.Bool.{_&&_};
+ghost use Rattle.bodega.specs.Replica.{Guard, Prepared, Bars, Record, Heartbeat, Reply, Notice, CommitNotice, Read, Release};
 ghost use Rattle.requests.specs.Given.{given as batchOf};
+ghost use Rattle.responders.specs.Edits.{view as rosterOf};
+ghost use Rattle.heartbeat.specs.Heartbeat.{fitting, carried};
 ghost use Rattle.bodega.specs.Answers.{Answers};
 ghost use Rattle.node.specs.View.{view, ready};
 ghost use Rattle.node.specs.Begins.{Begins};
-ghost use Rattle.calls_exports.specs.Plain.{leaderAt, hasLeader, leaderIn, nodeOf, plainOf, calledOf, given, freshOf};
+ghost use Rattle.calls_exports.specs.Plain.{leaderAt, hasLeader, leaderIn, nodeOf, plainOf, calledOf, given, freshOf, confOf};
 
 // A node; has_leader is 0 where there is no leader.
 #[repr(C)]
@@ -35,6 +38,15 @@ pub struct Plain {
     pub snap_bar: u64,
     pub peer_accept_max: u64,
     pub slots: usize,
+}
+
+// A roster but for its rows.
+#[repr(C)]
+pub struct Roster {
+    pub leader: u8,
+    pub has_leader: u64,
+    pub ranges: usize,
+    pub default: u64,
 }
 
 // number is 0 where the call is taken, or the refusal.
@@ -70,6 +82,17 @@ fn leader_in(leader: Leader) -> u8
     match leader {
         Leader::None => 0,
         Leader::Some(l) => l.0,
+    }
+}
+
+fn conf_of(r: Roster) -> RespondersConf
+    ensures { λ c. ⌜ c ≡ confOf r ⌝ }
+{
+    let leader = leader_at(r.has_leader, r.leader);
+    RespondersConf {
+        leader,
+        count: r.ranges,
+        default: r.default,
     }
 }
 
@@ -261,6 +284,43 @@ pub extern "C" fn bodega_record(
 {
     let n = node_of(node);
     let a = record::record(n, mem, area, Slot(slot), Ballot(ballot), rows, text);
+    told(a)
+}
+
+#[no_mangle]
+pub extern "C" fn bodega_heartbeat(
+    node: Plain,
+    mem: &mut [u64],
+    area: &mut [u64],
+    peer: u8,
+    ballot: u64,
+    attached: bool,
+    roster: Roster,
+    rows: &[u64],
+    commit: u64,
+    exec: u64,
+    snap: u64,
+) -> Called
+    ensures { λ r. ⌜ Answers (λ n m. ready n m && fitting attached (roster .ranges) (now (rows .entry))) view (Heartbeat peer ballot (carried attached (rosterOf (confOf roster) (now (rows .entry)))) commit exec snap) (nodeOf node) (now (mem .entry)) (now (area .entry)) (given r) (now (mem .exit)) (now (area .exit)) ⌝ }
+{
+    let n = node_of(node);
+    let conf = conf_of(roster);
+    let commit = Slot(commit);
+    let exec = Slot(exec);
+    let snap = Slot(snap);
+    let a = heartbeat::heartbeat(
+        n,
+        mem,
+        area,
+        Replica(peer),
+        Ballot(ballot),
+        attached,
+        conf,
+        rows,
+        commit,
+        exec,
+        snap,
+    );
     told(a)
 }
 
