@@ -7,7 +7,7 @@ use std::cell::RefCell;
 use std::hint::black_box;
 
 use bodega_oracle::bare::{Bare, Batch, Roster};
-use ours::{Called, Ours, Plain, Rows, WORDS, words};
+use ours::{Called, Conf, Ours, PLACES, Plain, Rows, WORDS, words};
 use timing::{ROUNDS, Side, both, line, rounds};
 
 const BALLOT: u64 = 257;
@@ -26,7 +26,9 @@ struct Pair {
 
 impl Pair {
     fn fresh(id: u8, population: u8, quorum: u8) -> Self {
-        Pair { ours: Ours::fresh(id, population, quorum), theirs: Bare::fresh(id, population, quorum) }
+        let (ours, mut theirs) = (Ours::fresh(id, population, quorum), Bare::fresh(id, population, quorum));
+        theirs.make_room(PLACES);
+        Pair { ours, theirs }
     }
 
     // Our call is taken, and has the items that the Rust sent since the last one.
@@ -43,10 +45,11 @@ impl Pair {
         assert_eq!((ours.node.peer_accept_max, ours.written()), (theirs.reading_bar(), theirs.written()));
     }
 
-    fn adopt(&mut self, leader: u8, ranges: &[(u128, u128, u64)]) {
-        self.ours.adopt(BALLOT, leader, ranges);
-        self.theirs.heard(0, BALLOT, Some(Roster::of(self.ours.node.population, leader, ranges)), [0; 3]);
-        self.theirs.forget_items();
+    // A heartbeat of replica 0, with a roster whose leader is 0.
+    fn adopt(&mut self, ranges: &[(u128, u128, u64)]) {
+        let called = self.ours.heard(0, BALLOT, Some(&Conf::of(0, ranges)), [0; 3]);
+        self.theirs.heard(0, BALLOT, Some(Roster::of(self.ours.node.population, 0, ranges)), [0; 3]);
+        self.same(called);
     }
 
     fn guard(&mut self, peer: u8, bar: u64) {
@@ -172,7 +175,7 @@ fn none(_: usize) {}
 fn guarded(population: u8) -> Pair {
     let quorum = population / 2 + 1;
     let mut pair = Pair::fresh(1, population, quorum);
-    pair.adopt(0, &[]);
+    pair.adopt(&[]);
     for peer in 2..quorum {
         pair.guard(peer, 0);
     }
@@ -182,7 +185,7 @@ fn guarded(population: u8) -> Pair {
 // Replica 1 of five, a responder whose reading bar is 0; slots with so many Puts each, of different keys.
 fn responder(slots: u64, puts: usize) -> Pair {
     let mut pair = Pair::fresh(1, 5, 3);
-    pair.adopt(0, &WHOLE);
+    pair.adopt(&WHOLE);
     pair.guard(0, 0);
     pair.guard(2, 0);
     for slot in 0..slots {
@@ -208,7 +211,7 @@ fn holding(peers: &[u8]) -> Pair {
 // Leader 0 of five, prepared, with a Put in each of 32 slots, which 0 and 1 have acked.
 fn acked() -> Pair {
     let mut pair = Pair::fresh(0, 5, 3);
-    pair.adopt(0, &WHOLE);
+    pair.adopt(&WHOLE);
     pair.prepared();
     for slot in 0..32 {
         pair.record(slot, &names(slot as usize, 1));
@@ -442,6 +445,48 @@ fn commits() {
     );
 }
 
+// 64 ranges of ten keys with gaps of ten, responders 1 and 2
+fn ranges_64() -> Vec<(u128, u128, u64)> {
+    (0..64).map(|i| (20 * i, 20 * i + 9, 6)).collect()
+}
+
+fn heartbeats() {
+    let (whole, many) = (WHOLE.to_vec(), ranges_64());
+    for (which, ranges) in [("1 range", &whole), ("64 ranges", &many)] {
+        let make = || {
+            let mut pair = Pair::fresh(1, 5, 3);
+            pair.adopt(ranges);
+            pair
+        };
+        let (conf, roster) = (Conf::of(0, ranges), Roster::of(5, 0, ranges));
+        case(
+            &format!("heartbeat, ballot and roster the same, {which}"), 32, make, |_| Some(roster.clone()),
+            |ours, _| ours.heard(0, BALLOT, Some(&conf), [0; 3]),
+            |theirs, _, roster| theirs.heard(0, BALLOT, roster, [0; 3]),
+        );
+        // each of a higher ballot
+        let ballot = |i: usize| BALLOT + 256 * (i as u64 + 1);
+        case(
+            &format!("heartbeat whose roster is adopted, {which}"), 32, make, |_| Some(roster.clone()),
+            |ours, i| ours.heard(0, ballot(i), Some(&conf), [0; 3]),
+            |theirs, i, roster| theirs.heard(0, ballot(i), roster, [0; 3]),
+        );
+    }
+    case(
+        "heartbeat, ballot the same, no roster", 32, || responder(32, 1), none,
+        |ours, _| ours.heard(0, BALLOT, None, [0; 3]),
+        |theirs, _, ()| theirs.heard(0, BALLOT, None, [0; 3]),
+    );
+    // of the follower itself, who leads then
+    let ballot = BALLOT + 257;
+    let (conf, roster) = (Conf::of(1, &WHOLE), Roster::of(5, 1, &WHOLE));
+    case(
+        "heartbeat that steps up, 32 slots, 512 reads", 1, || holding(&[]), |_| Some(roster.clone()),
+        |ours, _| ours.heard(1, ballot, Some(&conf), [0; 3]),
+        |theirs, _, roster| theirs.heard(1, ballot, roster, [0; 3]),
+    );
+}
+
 fn main() {
     println!("medians of {ROUNDS} rounds, ns a call; the other side is the original Rust's event function alone, with the oracle's stand-ins for");
     println!("bitmaps and range maps; ours has the refusals, and each call takes the node's short part by value and gives it back");
@@ -452,7 +497,7 @@ fn main() {
     println!("{:<48} {:>9} {:>9} {:>7}", "", "ours", "other", "ratio");
 
     let mut ours = Ours::fresh(1, 5, 3);
-    ours.mem.clear();
+    ours.lent = 0;
     let (t, _) = both(|| { assert_eq!(black_box(ours.guard(0, BALLOT, 0)).number, 2); }, || ());
     alone("no buffer lent: the node handed over and back", t);
     fresh();
@@ -464,4 +509,5 @@ fn main() {
     releases();
     replies();
     commits();
+    heartbeats();
 }

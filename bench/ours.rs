@@ -1,4 +1,6 @@
 // Our node through the exported calls: the short part, its lent buffer and an answer area.
+use std::ops::{Deref, DerefMut};
+
 use bodega_oracle::item::Item;
 
 #[repr(C)]
@@ -21,6 +23,15 @@ pub struct Plain {
     pub snap_bar: u64,
     pub peer_accept_max: u64,
     pub slots: usize,
+}
+
+#[repr(C)]
+#[derive(Clone, Copy)]
+struct Roster {
+    leader: u8,
+    has_leader: u64,
+    ranges: usize,
+    default: u64,
 }
 
 #[repr(C)]
@@ -48,6 +59,11 @@ unsafe extern "C" {
     fn bodega_record(
         node: Plain, mem: *mut u64, mem_len: usize, area: *const u64, area_len: usize,
         slot: u64, ballot: u64, rows: *const u64, rows_len: usize, text: *const u8, text_len: usize,
+    ) -> Called;
+    fn bodega_heartbeat(
+        node: Plain, mem: *mut u64, mem_len: usize, area: *mut u64, area_len: usize,
+        peer: u8, ballot: u64, attached: bool, roster: Roster, rows: *const u64, rows_len: usize,
+        commit: u64, exec: u64, snap: u64,
     ) -> Called;
     fn bodega_reply(
         node: Plain, mem: *mut u64, mem_len: usize, area: *mut u64, area_len: usize,
@@ -93,11 +109,49 @@ impl Rows {
     }
 }
 
+// A roster as *heartbeat* takes it: a leader, and ranges of keys with their responders.
+#[derive(Clone)]
+pub struct Conf {
+    roster: Roster,
+    rows: Vec<u64>,
+}
+
+impl Conf {
+    pub fn of(leader: u8, ranges: &[(u128, u128, u64)]) -> Self {
+        let mut rows = vec![0; 320];
+        for (row, &(from, to, mask)) in rows.chunks_exact_mut(5).zip(ranges) {
+            row.copy_from_slice(&[(from >> 64) as u64, from as u64, (to >> 64) as u64, to as u64, mask]);
+        }
+        Conf { roster: Roster { leader, has_leader: 1, ranges: ranges.len(), default: 0 }, rows }
+    }
+}
+
+// Words from the start of a cache line on, so that no figure hangs on where they happen to lie.
+#[repr(align(64))]
+#[derive(Clone)]
+pub struct Aligned<const N: usize>([u64; N]);
+
+impl<const N: usize> Deref for Aligned<N> {
+    type Target = [u64];
+
+    fn deref(&self) -> &[u64] {
+        &self.0
+    }
+}
+
+impl<const N: usize> DerefMut for Aligned<N> {
+    fn deref_mut(&mut self) -> &mut [u64] {
+        &mut self.0
+    }
+}
+
 #[derive(Clone)]
 pub struct Ours {
     pub node: Plain,
-    pub mem: Vec<u64>,
-    area: Vec<u64>,
+    pub mem: Box<Aligned<WORDS>>,
+    // how many words of it are lent
+    pub lent: usize,
+    area: Box<Aligned<{ 6 * PLACES }>>,
 }
 
 // `self.call(bodega_x, arguments)`: the exported call on node, buffer and area; its node is the next.
@@ -105,7 +159,7 @@ macro_rules! call {
     ($self:ident, $function:ident, $($argument:expr),*) => {{
         let called = unsafe {
             $function(
-                $self.node, $self.mem.as_mut_ptr(), $self.mem.len(), $self.area.as_mut_ptr(), $self.area.len(),
+                $self.node, $self.mem.as_mut_ptr(), $self.lent, $self.area.as_mut_ptr(), $self.area.len(),
                 $($argument),*
             )
         };
@@ -116,10 +170,10 @@ macro_rules! call {
 
 impl Ours {
     pub fn fresh(id: u8, population: u8, quorum: u8) -> Self {
-        let mut mem = vec![0; WORDS];
+        let mut mem = Box::new(Aligned([0; WORDS]));
         let called = unsafe { bodega_fresh(mem.as_mut_ptr(), mem.len(), id, population, quorum) };
         assert_eq!(called.number, 0);
-        Ours { node: called.node, mem, area: vec![0; 6 * PLACES] }
+        Ours { node: called.node, mem, lent: WORDS, area: Box::new(Aligned([0; 6 * PLACES])) }
     }
 
     pub fn again(&mut self) {
@@ -133,22 +187,6 @@ impl Ours {
     pub fn set_to(&mut self, other: &Ours) {
         self.node = other.node;
         self.mem.copy_from_slice(&other.mem);
-    }
-
-    // What a heartbeat with a new ballot and a roster does to a fresh node: there is no call for it yet.
-    pub fn adopt(&mut self, ballot: u64, leader: u8, ranges: &[(u128, u128, u64)]) {
-        let n = &mut self.node;
-        (n.bal_max_seen, n.has_leader, n.leader, n.ranges) = (ballot, 1, leader, ranges.len());
-        for (row, &(from, to, mask)) in self.mem[192..].chunks_exact_mut(5).zip(ranges) {
-            row.copy_from_slice(&[(from >> 64) as u64, from as u64, (to >> 64) as u64, to as u64, mask]);
-        }
-        self.mem[usize::from(n.id)] = ballot;
-        self.mem[64 + usize::from(n.id)] = 0;
-        if leader == n.id {
-            (n.bal_prep_sent, n.slots) = (ballot, 1);
-            self.mem[512..][..7].copy_from_slice(&[ballot, 1, 1, 0, 0, 0, 0]);
-            (self.mem[768], self.mem[3616]) = (0, 0);
-        }
     }
 
     #[inline]
@@ -170,6 +208,19 @@ impl Ours {
     pub fn record(&mut self, slot: u64, ballot: u64, batch: &Rows) -> Called {
         let (rows, text) = (&batch.rows, &batch.text);
         call!(self, bodega_record, slot, ballot, rows.as_ptr(), rows.len(), text.as_ptr(), text.len())
+    }
+
+    #[inline]
+    pub fn heard(&mut self, peer: u8, ballot: u64, conf: Option<&Conf>, [commit, exec, snap]: [u64; 3]) -> Called {
+        match conf {
+            Some(Conf { roster, rows }) => {
+                call!(self, bodega_heartbeat, peer, ballot, true, *roster, rows.as_ptr(), rows.len(), commit, exec, snap)
+            }
+            None => {
+                let (roster, rows) = (Roster { leader: 0, has_leader: 0, ranges: 0, default: 0 }, [0; 0]);
+                call!(self, bodega_heartbeat, peer, ballot, false, roster, rows.as_ptr(), 0, commit, exec, snap)
+            }
+        }
     }
 
     #[inline]

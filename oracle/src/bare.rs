@@ -111,6 +111,11 @@ impl Bare {
         self.0.heard(peer, ballot, roster.map(|r| r.0), bars);
     }
 
+    /// Room for so many items, before they are sent.
+    pub fn make_room(&mut self, items: usize) {
+        self.0.sent.reserve(items);
+    }
+
     /// What was sent since the last time.
     #[must_use]
     pub fn items(&mut self) -> Vec<Item> {

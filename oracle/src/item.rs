@@ -180,6 +180,10 @@ impl Recorder {
         self.0.borrow().len()
     }
 
+    pub(crate) fn reserve(&self, items: usize) {
+        self.0.borrow_mut().reserve(items);
+    }
+
     #[inline]
     pub(crate) fn clear(&self) {
         self.0.borrow_mut().clear();
