@@ -325,9 +325,10 @@ fn records() {
             (0..puts).map(|k| name(if new { 1000 + k } else { (i * puts + k) % known })).collect()
         };
         let rows: Vec<_> = (0..32).map(|i| Rows::of(&keys(i))).collect();
-        let which = if new { format!("the same keys, {known} others before") } else { format!("among {known} keys") };
+        let (put, key) = if puts == 1 { ("Put", "key") } else { ("Puts", "keys") };
+        let which = if new { format!("the same {key}, {known} others before") } else { format!("among {known} keys") };
         case(
-            &format!("record, {puts} Puts, {which}"), 32, make, |i| batch_of(&keys(i)),
+            &format!("record, {puts} {put}, {which}"), 32, make, |i| batch_of(&keys(i)),
             |ours, i| ours.record(i as u64, BALLOT, &rows[i]),
             |theirs, i, batch| theirs.record(i as u64, BALLOT, batch),
         );
