@@ -65,13 +65,7 @@ pub struct Generator {
     lines: u64,
     /// Lines that were decided on ahead, last first.
     ahead: Vec<Vec<u8>>,
-    /// How likely each line kind is, where that is not the mood's.
-    weights: Option<Weights>,
 }
-
-/// For lead, range, whole, drop, reset, show, an adoption, heard, guard,
-/// prepared, record, reply, notice, commit, bars, read, release, node.
-pub(crate) type Weights = [u32; 18];
 
 fn field(line: &mut Vec<u8>, number: u64) {
     line.push(b',');
@@ -138,20 +132,18 @@ impl Generator {
             node_after,
             lines: 0,
             ahead: Vec::new(),
-            weights: None,
             rng,
         }
     }
 
-    /// As the seed has it, but for how likely each line kind is and, if so
-    /// asked, many written keys.
-    pub(crate) fn leaning(seed: u64, weights: Weights, many_keys: bool) -> Self {
-        let plain = Self::new(seed);
-        Generator {
-            weights: Some(weights),
-            mood: if many_keys { Mood::Keys } else { plain.mood },
-            ..plain
-        }
+    /// Of few replicas and keys, so that calls meet.
+    pub(crate) fn small(mut self) -> Self {
+        self.population = self.population % 5 + 1;
+        self.quorum = self.quorum % self.population + 1;
+        self.id %= self.population;
+        self.keys = self.keys % 3 + 1;
+        self.base = 0;
+        self
     }
 
     /// The next line, without newline, given the state that the lines so far
@@ -395,8 +387,7 @@ impl Generator {
         if node.insts.len() > MAX_SLOTS - 4 && self.mood != Mood::Full && self.rng.chance(60) {
             return self.drain(node);
         }
-        let weights: Weights = match self.mood {
-            _ if self.weights.is_some() => self.weights.unwrap_or_default(),
+        let weights = match self.mood {
             Mood::Mixed | Mood::Malformed => {
                 [3, 6, 1, 2, 1, 3, 2, 8, 10, 4, 16, 16, 16, 8, 10, 28, 3, 1]
             }

@@ -6,10 +6,11 @@ use std::path::Path;
 use std::process::ExitCode;
 use std::time::{Duration, Instant};
 
-use bodega_oracle::calls;
+use bodega_oracle::calls::{self, Recording};
 use bodega_oracle::compare::{self, Difference, Program};
 use bodega_oracle::coverage::Coverage;
 use bodega_oracle::generate;
+use bodega_oracle::item::Item;
 use bodega_oracle::mutants;
 use bodega_oracle::recorded::{self, Recorded};
 use bodega_oracle::replay::Replay;
@@ -24,7 +25,8 @@ usage: oracle                              event lines on standard input, answer
        oracle extract FILE FOLDER          write them as NAME.in and NAME.out
        oracle recorded FILE PROGRAM [ARG ...]
                                            run PROGRAM on them, name those that differ
-       oracle calls FOLDER                 write calls and the answers to them as stdin and stdout
+       oracle calls FOLDER [FROM [COUNT]]  write the recorded calls, or scripts of COUNT seeds,
+                                           and the answers to them as stdin and stdout
        oracle mutants LIST FILE WORK [SEEDS]
                                            build each mutant of LIST in the folder WORK and
                                            tell whether the recorded answers in FILE show it
@@ -47,7 +49,11 @@ fn main() -> ExitCode {
         ["extract", file, folder] => extract(file, folder),
         ["recorded", file, program @ ..] if !program.is_empty() => run_recorded(file, program),
         ["mutants", list, file, work, rest @ ..] => run_mutants(list, file, work, rest),
-        ["calls", folder] => calls(folder),
+        ["calls", folder] => calls(folder, &calls::make()),
+        ["calls", folder, rest @ ..] => number(rest, 0, 0).and_then(|from| {
+            let seeds = from..from + number(rest, 1, 20)?;
+            calls(folder, &calls::of_seeds(seeds))
+        }),
         ["compare", rest @ ..] => return compare_with(rest),
         _ => {
             eprint!("{USAGE}");
@@ -108,11 +114,14 @@ fn generate_script(args: &[&str]) -> io::Result<()> {
     io::stdout().lock().write_all(&input)
 }
 
-fn calls(folder: &str) -> io::Result<()> {
-    let recording = calls::make();
+fn calls(folder: &str, recording: &Recording) -> io::Result<()> {
     for ((name, refusal), count) in &recording.reached {
         println!("{name} {refusal}: {count}");
     }
+    for (kind, count) in Item::KINDS.iter().zip(recording.items) {
+        println!("{kind}: {count}");
+    }
+    println!("{} calls", recording.reached.values().sum::<u64>());
     let folder = Path::new(folder);
     std::fs::write(folder.join("stdin"), &recording.input)?;
     std::fs::write(folder.join("stdout"), &recording.output)

@@ -199,13 +199,17 @@ fn parse<'a>(
 }
 
 /// A node and its draft.
+#[derive(Clone)]
 pub(crate) struct Host {
     pub(crate) node: BodegaReplica,
     pub(crate) draft: RespondersConf<()>,
+    /// The population that the draft's edits are held to: the node's, but for
+    /// rosters that a call is given and no line makes.
+    pub(crate) draft_population: u8,
 }
 
 /// The event program's state between lines.
-#[derive(Default)]
+#[derive(Clone, Default)]
 pub struct Replay {
     host: Option<Box<Host>>,
     items: Vec<Item>,
@@ -227,6 +231,29 @@ impl Replay {
 
     pub(crate) fn host(&self) -> Option<&Host> {
         self.host.as_deref()
+    }
+
+    pub(crate) fn host_mut(&mut self) -> Option<&mut Host> {
+        self.host.as_deref_mut()
+    }
+
+    /// Takes a line as a call that is lent places for so many items: 20 where
+    /// it has more, and then nothing changes.
+    pub(crate) fn call(&mut self, line: &[u8], places: usize) -> u8 {
+        let before = self.clone();
+        let (_, verdict) = self.apply(line);
+        let refusal = verdict.err().unwrap_or(0);
+        if refusal == 0 && self.items.len() > places {
+            *self = before;
+            self.items.clear();
+            return 20;
+        }
+        refusal
+    }
+
+    /// How many lines were taken or refused.
+    pub(crate) fn lines(&self) -> u64 {
+        self.lines
     }
 
     /// The items of the last line, if it was taken.
@@ -384,6 +411,7 @@ impl Replay {
                     self.host = Some(Box::new(Host {
                         node: BodegaReplica::fresh(id as u8, population as u8, quorum as u8),
                         draft: RespondersConf::empty(population as u8),
+                        draft_population: population as u8,
                     }));
                     Ok(())
                 } else {
@@ -401,25 +429,59 @@ impl Replay {
     }
 }
 
+/// 3: a replica number.
+fn replica(number: u64, population: u8) -> Result<u8, u8> {
+    if number < u64::from(population) {
+        Ok(number as u8)
+    } else {
+        Err(3)
+    }
+}
+
+/// 4: a mask.
+fn mask(mask: u64, population: u8) -> Result<Bitmap, u8> {
+    refuse_if(population < 64 && mask >> population != 0, 4)?;
+    let mut bitmap = Bitmap::new(population, false);
+    for replica in (0..population).filter(|r| mask >> r & 1 == 1) {
+        bitmap.set(replica, true).expect("below the population");
+    }
+    Ok(bitmap)
+}
+
 impl Host {
-    /// 3: a replica number.
     fn replica(&self, number: u64) -> Result<u8, u8> {
-        if number < u64::from(self.node.population) {
-            Ok(number as u8)
-        } else {
-            Err(3)
-        }
+        replica(number, self.node.population)
     }
 
-    /// 4: a mask.
-    fn mask(&self, mask: u64) -> Result<Bitmap, u8> {
+    /// The draft as a roster of the node's population: 3 and 4 where its
+    /// leader or a mask is outside.
+    fn roster(&self) -> Result<RespondersConf<()>, u8> {
         let population = self.node.population;
-        refuse_if(population < 64 && mask >> population != 0, 4)?;
-        let mut bitmap = Bitmap::new(population, false);
-        for replica in (0..population).filter(|r| mask >> r & 1 == 1) {
-            bitmap.set(replica, true).expect("below the population");
+        if self.draft_population == population {
+            return Ok(self.draft.clone());
         }
-        Ok(bitmap)
+        let mut conf = RespondersConf::empty(population);
+        if let Some(leader) = self.draft.leader {
+            conf.set_leader(replica(u64::from(leader), population)?);
+        }
+        for item in spans(&self.draft) {
+            match item {
+                Item::Span {
+                    start,
+                    end,
+                    mask: m,
+                } => conf
+                    .set_responders(
+                        Some(&(start.to_string(), end.to_string())),
+                        mask(m, population)?,
+                        None,
+                    )
+                    .expect("a range of a roster"),
+                Item::Rest { mask } => assert!(mask == 0, "no edit sets the default"),
+                _ => unreachable!("a roster has spans and a rest"),
+            }
+        }
+        Ok(conf)
     }
 
     #[allow(clippy::too_many_lines)]
@@ -428,11 +490,11 @@ impl Host {
             Line::Node(_) => unreachable!("a node line needs no host"),
 
             Line::Lead(leader) => {
-                let leader = self.replica(leader)?;
+                let leader = replica(leader, self.draft_population)?;
                 self.draft.set_leader(leader);
             }
-            Line::Range(start, end, mask) => {
-                let mask = self.mask(mask)?;
+            Line::Range(start, end, bits) => {
+                let mask = mask(bits, self.draft_population)?;
                 refuse_if(start.len() > MAX_KEY || end.len() > MAX_KEY, 5)?;
                 let range = (key_string(start), key_string(end));
                 let reads = |key| self.draft.get_responders_by_key(key).is_some();
@@ -453,14 +515,14 @@ impl Host {
                         .map_err(|_| 7)?;
                 }
             }
-            Line::Whole(mask) => {
-                let mask = self.mask(mask)?;
+            Line::Whole(bits) => {
+                let mask = mask(bits, self.draft_population)?;
                 self.draft.set_responders(None, mask, None).expect("whole");
             }
-            Line::Drop(replica) => {
-                let replica = self.replica(replica)?;
+            Line::Drop(id) => {
+                let id = replica(id, self.draft_population)?;
                 self.draft = std::mem::take(&mut self.draft)
-                    .into_filtered(replica)
+                    .into_filtered(id)
                     .expect("drop");
             }
             Line::Reset => self.draft.reset_full(),
@@ -473,17 +535,17 @@ impl Host {
                 bars,
             } => {
                 let peer = self.replica(peer)?;
+                let conf = if with { Some(self.roster()?) } else { None };
                 refuse_if(bars.iter().any(|&bar| bar > MAX_SLOT), 8)?;
                 let node = &self.node;
                 refuse_if(ballot > node.bal_max_seen && !with, 12)?;
-                // would the original install the draft, and step up?
+                // would the original install the roster, and step up?
                 let installs = ballot > node.bal_max_seen
                     || (ballot == node.bal_max_seen
-                        && with
                         && ballot & 0xff == u64::from(peer) + 1
-                        && self.draft != node.bodega_conf);
+                        && conf.as_ref().is_some_and(|c| *c != node.bodega_conf));
                 if installs
-                    && self.draft.is_leader(node.id)
+                    && conf.as_ref().is_some_and(|c| c.is_leader(node.id))
                     && node.insts.iter().all(|i| i.status >= Status::Committed)
                 {
                     refuse_if(
@@ -491,12 +553,8 @@ impl Host {
                         15,
                     )?;
                 }
-                self.node.heard(
-                    peer,
-                    ballot,
-                    with.then(|| self.draft.clone()),
-                    bars.map(|bar| bar as usize),
-                );
+                self.node
+                    .heard(peer, ballot, conf, bars.map(|bar| bar as usize));
             }
             Line::Guard([peer, number, bar]) => {
                 let peer = self.replica(peer)?;

@@ -110,6 +110,7 @@ impl ApiReply {
 /// so. It marks the reply as one for the item `store`.
 const FROM_STORE: &str = "store";
 
+#[derive(Clone)]
 pub(crate) struct ExternalApi {
     pub(crate) sent: Recorder,
 }
@@ -159,6 +160,7 @@ impl ExternalApi {
     }
 }
 
+#[derive(Clone)]
 pub(crate) struct StateMachine;
 
 type CommandResults = (Vec<(CommandId, CommandResult)>, CommandResult);
@@ -179,6 +181,7 @@ impl StateMachine {
     }
 }
 
+#[derive(Clone)]
 pub(crate) struct ControlHub {
     pub(crate) sent: Recorder,
 }
@@ -199,6 +202,7 @@ pub(crate) enum LogAction<Ent> {
     Append { entry: Ent, sync: bool },
 }
 
+#[derive(Clone)]
 pub(crate) struct StorageHub {
     pub(crate) sent: Recorder,
 }
@@ -220,6 +224,7 @@ impl StorageHub {
     }
 }
 
+#[derive(Clone)]
 pub(crate) struct TransportHub {
     pub(crate) sent: Recorder,
 }
@@ -290,6 +295,7 @@ impl TransportHub {
 }
 
 /// Heartbeat counts and timers are left out by document 01.
+#[derive(Clone)]
 pub(crate) struct Heartbeater;
 
 #[allow(clippy::unnecessary_wraps, clippy::unused_self)]
@@ -348,6 +354,7 @@ pub(crate) enum LeaseNotice {
 
 /// The host's side of leases: nothing is granted, so nothing is waited for,
 /// and the number held is what the line says.
+#[derive(Clone)]
 pub(crate) struct LeaseManager {
     pub(crate) population: u8,
     pub(crate) leases: u8,

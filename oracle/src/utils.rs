@@ -37,6 +37,7 @@ impl From<num::ParseIntError> for SummersetError {
 }
 
 /// Timers are left out by document 01.
+#[derive(Clone)]
 pub(crate) struct Timer;
 
 impl Timer {

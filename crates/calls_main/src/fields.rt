@@ -1,12 +1,18 @@
-// The fields of a line, parted by commas: three words each, where it starts, where it ends, and the number that it is.
+// The fields of a line, parted by commas.
 use words::wide;
 ghost use mathlib.Core.Path.{_≡_};
 ghost use Prim.Native.Nat.{_<_, _≤_};
 ghost use lib.ListN.{length};
 
-// The word at i, 0 past the end; such a word is not set.
-pub(crate) fn word(s: &[u64], i: usize) -> u64 {
-    if i < s.len() { s[i] } else { 0 }
+pub(crate) struct Bounds {
+    pub start: usize,
+    pub end: usize,
+}
+
+pub(crate) fn least(a: usize, b: usize) -> usize
+    ensures { λ r. ⌜ r ≤ b ⌝ }
+{
+    if a < b { a } else { b }
 }
 
 // Where the byte b is next, from `at` on, or the end.
@@ -22,6 +28,56 @@ pub(crate) fn end_of(line: &[u8], at: usize, b: u8) -> usize
         i += 1;
     }
     i
+}
+
+// The k-th field; nothing at the line's end where it has fewer.
+pub(crate) fn at(line: &[u8], k: usize) -> Bounds
+    ensures { λ r. ⌜ (r .start ≤ r .end) × (r .end ≤ length (now (line .entry))) ⌝ }
+{
+    let mut start = 0;
+    let mut i = 0;
+    loop {
+        let end = end_of(line, start, b',');
+        if i == k {
+            return Bounds { start, end };
+        }
+        if end == line.len() {
+            return Bounds { start: end, end };
+        }
+        i += 1;
+        start = end + 1;
+    }
+}
+
+// How many fields there are.
+pub(crate) fn count(line: &[u8]) -> usize {
+    let mut start = 0;
+    let mut k = 0;
+    loop {
+        let end = end_of(line, start, b',');
+        if end == line.len() {
+            return k + 1;
+        }
+        k += 1;
+        start = end + 1;
+    }
+}
+
+// Which of the names that are a line's fields it is; past the last where it is none.
+pub(crate) fn place(names: &[u8], name: &[u8]) -> usize {
+    let mut start = 0;
+    let mut k = 0;
+    loop {
+        let end = end_of(names, start, b',');
+        if check::same(&names[start..end], name) {
+            return k;
+        }
+        if end == names.len() {
+            return k + 1;
+        }
+        k += 1;
+        start = end + 1;
+    }
 }
 
 // One digit more: a byte that is none changes nothing, and a number that does not fit is 0.
@@ -55,60 +111,15 @@ fn number(s: &[u8]) -> u64 {
     n
 }
 
-pub(crate) fn set(s: &mut [u64], i: usize, w: u64) {
-    if i < s.len() {
-        s[i] = w;
-    }
-}
-
-fn put(f: &mut [u64], k: usize, start: usize, end: usize, n: u64) {
-    if k < 1000 {
-        set(f, 3 * k, start as u64);
-        set(f, 3 * k + 1, end as u64);
-        set(f, 3 * k + 2, n);
-    }
-}
-
-// Finds the fields of a line, and says how many there are.
-pub(crate) fn split(line: &[u8], f: &mut [u64]) -> usize {
-    let mut at = 0;
-    let mut k = 0;
-    loop {
-        let end = end_of(line, at, b',');
-        let n = number(&line[at..end]);
-        put(f, k, at, end, n);
-        if end == line.len() {
-            return k + 1;
-        }
-        k += 1;
-        at = end + 1;
-    }
-}
-
-pub(crate) fn start(f: &[u64], k: usize) -> u64
-    requires { ⌜ k < 1000 ⌝ }
-{
-    word(f, 3 * k)
-}
-
-pub(crate) fn length(f: &[u64], k: usize) -> u64
-    requires { ⌜ k < 1000 ⌝ }
-{
-    let a = word(f, 3 * k);
-    let e = word(f, 3 * k + 1);
-    if e < a { 0 } else { e - a }
-}
-
-pub(crate) fn value(f: &[u64], k: usize) -> u64
-    requires { ⌜ k < 1000 ⌝ }
-{
-    word(f, 3 * k + 2)
+pub(crate) fn value(line: &[u8], k: usize) -> u64 {
+    let b = at(line, k);
+    let start = b.start;
+    let end = b.end;
+    number(&line[start..end])
 }
 
 // A number that is a byte, the last one for any other.
-pub(crate) fn small(f: &[u64], k: usize) -> u8
-    requires { ⌜ k < 1000 ⌝ }
-{
-    let n = value(f, k);
+pub(crate) fn small(line: &[u8], k: usize) -> u8 {
+    let n = value(line, k);
     if n < 255 { n as u8 } else { 255 }
 }

@@ -1,199 +1,131 @@
 // Runs recorded calls, one to a line of standard input, on one node, and writes what each answers and a sum over the whole node after it.
 // vectors/README.md says what the lines are and how the recorded ones are made.
+mod answers;
+mod calls;
+mod drafts;
 mod fields;
-mod shown;
+mod numbers;
 mod text;
 
-use ids::Ballot;
-use ids::Leader;
+use fields::least;
 use ids::Replica;
 use ids::Slot;
-use node::Answered;
 use node::Fresh;
 use node::Node;
+use responders::Edited;
 use responders::RespondersConf;
+use responders::Shown;
 ghost use Prim.Native.Nat.{_+_, _<_, _≤_};
 ghost use lib.ListN.{length};
 
-// The node, how many words of its buffer the calls are lent, and how many lines were read.
+// The node, the draft and the population that its edits are for, how many words of the node's buffer and of the draft's rows are lent, and how many lines were read.
 struct Host {
     node: Node,
+    draft: RespondersConf,
+    population: u8,
     lent: usize,
+    rows: usize,
     lines: u64,
 }
 
-fn least(a: usize, b: usize) -> usize
-    ensures { λ r. ⌜ r ≤ b ⌝ }
-{
-    if a < b { a } else { b }
-}
-
-// Writes the first n bytes.
-fn write(out: &[u8], n: usize) {
-    let used = least(n, out.len());
-    io::write_all(1, &out[0..used]);
-}
-
-// The number of the line, that of the refusal or 0, that of the items, and the sum.
-fn tell(host: Host, number: u64, count: usize, mem: &[u64], out: &mut [u8]) {
-    let used = least(shown::whole(out, 0, mem, host.node), out.len());
-    let sum = text::sum(&out[0..used]);
-    let mut p = text::number(out, 0, host.lines);
-    p = text::field(out, p, number);
-    p = text::field(out, p, count as u64);
-    p = text::field(out, p, sum);
-    p = text::byte(out, p, b'\n');
-    write(out, p);
-}
-
-fn told(host: Host, a: Answered, mem: &[u64], out: &mut [u8]) -> Host {
-    let node = a.node;
-    let next = Host {
-        node,
-        lent: host.lent,
-        lines: host.lines,
-    };
-    tell(next, a.number, a.count, mem, out);
-    next
-}
-
-fn node_line(host: Host, f: &[u64], mem: &mut [u64], out: &mut [u8]) -> Host {
-    let lent = least(host.lent, mem.len());
-    let id = Replica(fields::small(f, 1));
-    let population = fields::small(f, 2);
-    let quorum = fields::small(f, 3);
-    match Node::fresh(&mut mem[0..lent], id, population, quorum) {
-        Fresh::Made(node) => {
-            let next = Host {
-                node,
-                lent: host.lent,
-                lines: host.lines,
-            };
-            tell(next, 0, 0, mem, out);
-            next
-        }
-        Fresh::Refused(number) => {
-            tell(host, number, 0, mem, out);
-            host
-        }
-    }
-}
-
-fn guard_line(host: Host, f: &[u64], mem: &mut [u64], area: &[u64], out: &mut [u8]) -> Host {
-    let lent = least(host.lent, mem.len());
-    let node = host.node;
-    let peer = Replica(fields::small(f, 1));
-    let number = Ballot(fields::value(f, 2));
-    let bar = Slot(fields::value(f, 3));
-    let a = guard::guard(node, &mut mem[0..lent], area, peer, number, bar);
-    told(host, a, mem, out)
-}
-
-fn prepared_line(host: Host, f: &[u64], mem: &mut [u64], area: &[u64], out: &mut [u8]) -> Host {
-    let lent = least(host.lent, mem.len());
-    let node = host.node;
-    let ballot = Ballot(fields::value(f, 1));
-    let a = prepared::prepared(node, &mem[0..lent], area, ballot);
-    told(host, a, mem, out)
-}
-
-fn bars_line(host: Host, f: &[u64], mem: &mut [u64], area: &[u64], out: &mut [u8]) -> Host {
-    let lent = least(host.lent, mem.len());
-    let node = host.node;
-    let start = Slot(fields::value(f, 1));
-    let accept = Slot(fields::value(f, 2));
-    let commit = Slot(fields::value(f, 3));
-    let exec = Slot(fields::value(f, 4));
-    let a = bars::bars(node, &mut mem[0..lent], area, start, accept, commit, exec);
-    told(host, a, mem, out)
-}
-
-// A request in six words; an empty value is a Get.
-fn put_row(f: &[u64], k: usize, rows: &mut [u64], p: usize)
-    requires { ⌜ (k + 3 < 1000) × (p < 3000) ⌝ }
-{
-    let kind = if fields::length(f, k + 3) == 0 { 0 } else { 1 };
-    fields::set(rows, p, fields::value(f, k));
-    fields::set(rows, p + 1, fields::value(f, k + 1));
-    fields::set(rows, p + 2, kind);
-    fields::set(rows, p + 3, fields::value(f, k + 3));
-    fields::set(rows, p + 4, fields::start(f, k + 2));
-    fields::set(rows, p + 5, fields::length(f, k + 2));
-}
-
-// The groups of four fields as rows, and how many words they are.
-fn batch(f: &[u64], n: usize, rows: &mut [u64]) -> usize {
-    let mut k = 3;
-    let mut p = 0;
-    while k < 990 && k + 3 < n {
-        put_row(f, k, rows, p);
-        k += 4;
-        p += 6;
-    }
-    p
-}
-
-fn record_line(
+// What a line comes to: it answers nothing, a call of the node, an edit of the draft, or the node's numbers.
+struct Done {
     host: Host,
-    line: &[u8],
-    n: usize,
-    f: &[u64],
-    mem: &mut [u64],
-    area: &[u64],
-    out: &mut [u8],
-) -> Host {
-    let lent = least(host.lent, mem.len());
-    let node = host.node;
-    let slot = Slot(fields::value(f, 1));
-    let ballot = Ballot(fields::value(f, 2));
-    let mut rows = [0u64; 1200];
-    let used = least(batch(f, n, &mut rows), 1200);
-    let a = record::record(
+    what: u8,
+    number: u64,
+    count: usize,
+}
+
+const NOTHING: u8 = 0;
+
+const CALL: u8 = 1;
+
+const EDIT: u8 = 2;
+
+const NUMBERS: u8 = 3;
+
+fn begin(node: Node) -> Host {
+    let draft = RespondersConf::empty();
+    Host {
         node,
-        &mut mem[0..lent],
-        area,
-        slot,
-        ballot,
-        &rows[0..used],
-        line,
-    );
-    told(host, a, mem, out)
-}
-
-fn leader(length: u64, first: u8, n: u8) -> Leader {
-    if length == 1 {
-        if first == b'-' {
-            return Leader::None;
-        }
+        draft,
+        population: node.population,
+        lent: Node::WORDS,
+        rows: RespondersConf::WORDS,
+        lines: 0,
     }
-    let r = Replica(n);
-    Leader::Some(r)
 }
 
-fn first_byte(line: &[u8], at: u64) -> u8 {
-    let i = at as usize;
-    if i < line.len() { line[i] } else { 0 }
+fn with_node(host: Host, node: Node) -> Host {
+    let draft = host.draft;
+    Host {
+        node,
+        draft,
+        population: host.population,
+        lent: host.lent,
+        rows: host.rows,
+        lines: host.lines,
+    }
 }
 
-// The node's short part, where an event changed it that is no call here.
-fn short(node: Node, line: &[u8], f: &[u64]) -> Node {
-    let first = first_byte(line, fields::start(f, 1));
-    let l = leader(fields::length(f, 1), first, fields::small(f, 1));
-    let conf = RespondersConf {
-        leader: l,
-        count: fields::value(f, 2) as usize,
-        default: fields::value(f, 3),
-    };
+fn with_draft(host: Host, draft: RespondersConf, population: u8) -> Host {
+    let node = host.node;
+    Host {
+        node,
+        draft,
+        population,
+        lent: host.lent,
+        rows: host.rows,
+        lines: host.lines,
+    }
+}
+
+fn with_lent(host: Host, lent: usize, rows: usize) -> Host {
+    let node = host.node;
+    let draft = host.draft;
+    Host {
+        node,
+        draft,
+        population: host.population,
+        lent,
+        rows,
+        lines: host.lines,
+    }
+}
+
+fn counted(host: Host) -> Host {
+    let node = host.node;
+    let draft = host.draft;
+    Host {
+        node,
+        draft,
+        population: host.population,
+        lent: host.lent,
+        rows: host.rows,
+        lines: std::num::wrapping_add_u64(host.lines, 1),
+    }
+}
+
+fn silent(host: Host) -> Done {
+    Done {
+        host,
+        what: NOTHING,
+        number: 0,
+        count: 0,
+    }
+}
+
+// Start, commit and exec bar at a slot: no list of calls gets there soon.
+fn jump(node: Node, slot: u64) -> Node {
     let id = node.id;
-    let max_seen = Ballot(fields::value(f, 4));
-    let prep_sent = Ballot(fields::value(f, 5));
-    let prepared = Ballot(fields::value(f, 6));
-    let start = Slot(fields::value(f, 7));
-    let accept = Slot(fields::value(f, 8));
-    let commit = Slot(fields::value(f, 9));
-    let exec = Slot(fields::value(f, 10));
-    let snap = Slot(fields::value(f, 11));
-    let reading = Slot(fields::value(f, 12));
+    let conf = node.bodega_conf;
+    let max_seen = node.bal_max_seen;
+    let prep_sent = node.bal_prep_sent;
+    let prepared = node.bal_prepared;
+    let accept = node.accept_bar;
+    let snap = node.snap_bar;
+    let reading = node.peer_accept_max;
+    let bar = Slot(slot);
     Node {
         id,
         population: node.population,
@@ -202,114 +134,229 @@ fn short(node: Node, line: &[u8], f: &[u64]) -> Node {
         bal_max_seen: max_seen,
         bal_prep_sent: prep_sent,
         bal_prepared: prepared,
-        start_slot: start,
+        start_slot: bar,
         accept_bar: accept,
-        commit_bar: commit,
-        exec_bar: exec,
+        commit_bar: bar,
+        exec_bar: bar,
         snap_bar: snap,
         peer_accept_max: reading,
-        slots: fields::value(f, 13) as usize,
+        slots: node.slots,
     }
 }
 
-// Words of the buffer, where an event changed them that is no call here.
-fn words(f: &[u64], n: usize, mem: &mut [u64]) {
-    let at = fields::value(f, 1) as usize;
-    let mut k = 2;
-    while k < 1000 && k < n {
-        fields::set(
-            mem,
-            std::num::wrapping_add_usize(at, k - 2),
-            fields::value(f, k),
-        );
-        k += 1;
+// ---- lines
+
+fn fresh(lent: usize, line: &[u8], mem: &mut [u64]) -> Fresh {
+    let n = least(lent, mem.len());
+    let id = Replica(fields::small(line, 1));
+    let population = fields::small(line, 2);
+    let quorum = fields::small(line, 3);
+    Node::fresh(&mut mem[0..n], id, population, quorum)
+}
+
+fn node_line(host: Host, line: &[u8], mem: &mut [u64]) -> Done {
+    match fresh(host.lent, line, mem) {
+        Fresh::Made(node) => {
+            let draft = RespondersConf::empty();
+            let next = with_node(host, node);
+            Done {
+                host: with_draft(next, draft, node.population),
+                what: CALL,
+                number: 0,
+                count: 0,
+            }
+        }
+        Fresh::Refused(number) => Done {
+            host,
+            what: CALL,
+            number,
+            count: 0,
+        },
     }
 }
 
-fn named(line: &[u8], name: &[u8]) -> bool {
-    let end = fields::end_of(line, 0, b',');
-    check::same(&line[0..end], name)
+// The words of the places that a line says.
+fn room(line: &[u8], area: &[u64]) -> usize
+    ensures { λ r. ⌜ r ≤ length (now (area .entry)) ⌝ }
+{
+    let places = least(fields::value(line, 1) as usize, 1000);
+    least(places * 6, area.len())
 }
 
-fn show(host: Host, mem: &[u64], out: &mut [u8]) {
-    let used = shown::whole(out, 0, mem, host.node);
-    write(out, used);
-}
-
-// A line that is no call: what an event changed, or how the next calls are made.
-fn other(host: Host, line: &[u8], n: usize, f: &[u64], mem: &mut [u64], out: &mut [u8]) -> Host {
-    if named(line, b"words") {
-        words(f, n, mem);
-        return host;
-    }
-    if named(line, b"short") {
-        let node = short(host.node, line, f);
-        return Host {
-            node,
-            lent: host.lent,
-            lines: host.lines,
-        };
-    }
-    if named(line, b"lend") {
-        let node = host.node;
-        return Host {
-            node,
-            lent: fields::value(f, 1) as usize,
-            lines: host.lines,
-        };
-    }
-    if named(line, b"show") {
-        show(host, mem, out);
-    }
-    host
-}
-
-fn step(
+fn call_line(
+    kind: usize,
     host: Host,
     line: &[u8],
-    n: usize,
-    f: &[u64],
     mem: &mut [u64],
-    area: &[u64],
-    out: &mut [u8],
-) -> Host {
-    if named(line, b"node") {
-        return node_line(host, f, mem, out);
+    area: &mut [u64],
+    rows: &[u64],
+) -> Done {
+    let lent = least(host.lent, mem.len());
+    let lent_rows = least(host.rows, rows.len());
+    let n = room(line, area);
+    let node = host.node;
+    let draft = host.draft;
+    let a = calls::call(
+        kind,
+        node,
+        line,
+        &mut mem[0..lent],
+        &mut area[0..n],
+        draft,
+        &rows[0..lent_rows],
+    );
+    Done {
+        host: with_node(host, a.node),
+        what: CALL,
+        number: a.number,
+        count: a.count,
     }
-    if named(line, b"guard") {
-        return guard_line(host, f, mem, area, out);
-    }
-    if named(line, b"prepared") {
-        return prepared_line(host, f, mem, area, out);
-    }
-    if named(line, b"bars") {
-        return bars_line(host, f, mem, area, out);
-    }
-    if named(line, b"record") {
-        return record_line(host, line, n, f, mem, area, out);
-    }
-    other(host, line, n, f, mem, out)
 }
 
-fn counted(host: Host) -> Host {
-    let node = host.node;
-    Host {
-        node,
-        lent: host.lent,
-        lines: std::num::wrapping_add_u64(host.lines, 1),
+fn edited(host: Host, edited: Edited) -> Done {
+    match edited {
+        Edited::Taken(conf) => Done {
+            host: with_draft(host, conf, host.population),
+            what: EDIT,
+            number: 0,
+            count: 0,
+        },
+        Edited::Refused(number) => Done {
+            host,
+            what: EDIT,
+            number,
+            count: 0,
+        },
     }
+}
+
+fn edit_line(kind: usize, host: Host, line: &[u8], rows: &mut [u64]) -> Done {
+    let lent = least(host.rows, rows.len());
+    let draft = host.draft;
+    let e = drafts::edit(kind, draft, &mut rows[0..lent], host.population, line);
+    edited(host, e)
+}
+
+fn shown(host: Host, shown: Shown) -> Done {
+    match shown {
+        Shown::Items(count) => Done {
+            host,
+            what: EDIT,
+            number: 0,
+            count,
+        },
+        Shown::Refused(number) => Done {
+            host,
+            what: EDIT,
+            number,
+            count: 0,
+        },
+    }
+}
+
+fn show_line(host: Host, line: &[u8], rows: &[u64], area: &mut [u64]) -> Done {
+    let lent = least(host.rows, rows.len());
+    let n = room(line, area);
+    let draft = host.draft;
+    let s = draft.show(&rows[0..lent], &mut area[0..n]);
+    shown(host, s)
+}
+
+// A line that is no call.
+fn other(kind: usize, host: Host, line: &[u8]) -> Done {
+    match kind {
+        17 => Done {
+            host,
+            what: NUMBERS,
+            number: 0,
+            count: 0,
+        },
+        18 => silent(with_lent(
+            host,
+            fields::value(line, 1) as usize,
+            fields::value(line, 2) as usize,
+        )),
+        19 => silent(with_draft(host, RespondersConf::empty(), fields::small(line, 1))),
+        20 => silent(with_node(host, jump(host.node, fields::value(line, 1)))),
+        _ => silent(host),
+    }
+}
+
+// The place of the line's name: first the calls, then the draft's edits, then the others.
+fn kind_of(line: &[u8]) -> usize {
+    let end = fields::end_of(line, 0, b',');
+    fields::place(
+        b"heard,guard,prepared,record,bars,reply,notice,commit,read,release,lead,range,whole,drop,reset,node,show,numbers,lend,draft,jump",
+        &line[0..end],
+    )
+}
+
+fn step(host: Host, line: &[u8], mem: &mut [u64], area: &mut [u64], rows: &mut [u64]) -> Done {
+    let kind = kind_of(line);
+    if kind < 10 {
+        return call_line(kind, host, line, mem, area, rows);
+    }
+    if kind < 15 {
+        return edit_line(kind, host, line, rows);
+    }
+    if kind == 15 {
+        return node_line(host, line, mem);
+    }
+    if kind == 16 {
+        return show_line(host, line, rows, area);
+    }
+    other(kind, host, line)
+}
+
+// ---- answers
+
+// Writes the first n bytes.
+fn write(out: &[u8], n: usize) {
+    let used = least(n, out.len());
+    io::write_all(1, &out[0..used]);
+}
+
+// The numbers of the node or the draft.
+fn put_numbers(done: Done, mem: &[u64], rows: &[u64], out: &mut [u8]) -> usize {
+    if done.what == EDIT {
+        return numbers::roster(out, 0, rows, done.host.draft);
+    }
+    numbers::whole(out, 0, mem, done.host.node)
+}
+
+// The answer to a line, with a sum of the first n bytes of the text before.
+fn answer(done: Done, n: usize, area: &[u64], out: &mut [u8]) {
+    let used = least(n, out.len());
+    let sum = text::sum(&out[0..used]);
+    let p = answers::head(out, done.host.lines, done.number, done.count, sum);
+    let q = answers::items(out, p, area, done.count);
+    write(out, q);
+}
+
+fn tell(done: Done, mem: &[u64], area: &[u64], rows: &[u64], out: &mut [u8]) {
+    if done.what == NOTHING {
+        return;
+    }
+    let n = put_numbers(done, mem, rows, out);
+    if done.what == NUMBERS {
+        let end = text::byte(out, n, b'\n');
+        write(out, end);
+        return;
+    }
+    answer(done, n, area, out);
 }
 
 fn take(
     host: Host,
     line: &[u8],
-    f: &mut [u64],
     mem: &mut [u64],
-    area: &[u64],
+    area: &mut [u64],
+    rows: &mut [u64],
     out: &mut [u8],
 ) -> Host {
-    let n = fields::split(line, f);
-    step(counted(host), line, n, f, mem, area, out)
+    let done = step(counted(host), line, mem, area, rows);
+    tell(done, mem, area, rows, out);
+    done.host
 }
 
 // Where the line after the one that ends at `end` starts.
@@ -320,29 +367,25 @@ fn past(at: usize, end: usize, n: usize) -> usize
     if end < n { end + 1 } else { n }
 }
 
-fn run(input: &[u8], f: &mut [u64], mem: &mut [u64], area: &[u64], out: &mut [u8]) {
-    let Fresh::Made(first) = Node::fresh(mem, Replica(0), 1, 1) else {
+fn run(input: &[u8], mem: &mut [u64], area: &mut [u64], rows: &mut [u64], out: &mut [u8]) {
+    let Fresh::Made(node) = Node::fresh(mem, Replica(0), 1, 1) else {
         return;
     };
-    let mut host = Host {
-        node: first,
-        lent: Node::WORDS,
-        lines: 0,
-    };
+    let mut host = begin(node);
     let mut at = 0;
     while at < input.len() {
         let end = fields::end_of(input, at, b'\n');
-        host = take(host, &input[at..end], f, mem, area, out);
+        host = take(host, &input[at..end], mem, area, rows, out);
         at = past(at, end, input.len());
     }
 }
 
 fn main() {
-    let mut input = [0u8; 524288];
-    let mut f = [0u64; 2100];
+    let mut input = [0u8; 262144];
     let mut mem = [0u64; 10305];
-    let area = [0u64; 6];
-    let mut out = [0u8; 262144];
+    let mut area = [0u64; 3276];
+    let mut rows = [0u64; 320];
+    let mut out = [0u8; 65536];
     let n = io::read_full(0, &mut input);
-    run(&input[0..n], &mut f, &mut mem, &area, &mut out);
+    run(&input[0..n], &mut mem, &mut area, &mut rows, &mut out);
 }

@@ -1,4 +1,5 @@
 // Text at the end of what is written in a lent buffer: each function takes the place where it ends and gives the next. What has no room is dropped.
+use crate::fields;
 use decimal::Written;
 use inty::Inty;
 ghost use Prim.Native.Nat.{_<_};
@@ -11,7 +12,7 @@ pub(crate) fn byte(out: &mut [u8], at: usize, b: u8) -> usize {
     at
 }
 
-pub(crate) fn text(out: &mut [u8], at: usize, s: &[u8]) -> usize {
+fn text(out: &mut [u8], at: usize, s: &[u8]) -> usize {
     let mut end = at;
     let mut i = 0;
     while i < s.len() {
@@ -19,6 +20,14 @@ pub(crate) fn text(out: &mut [u8], at: usize, s: &[u8]) -> usize {
         i += 1;
     }
     end
+}
+
+// The k-th of names parted by commas.
+pub(crate) fn name(out: &mut [u8], at: usize, names: &[u8], k: usize) -> usize {
+    let b = fields::at(names, k);
+    let start = b.start;
+    let end = b.end;
+    text(out, at, &names[start..end])
 }
 
 pub(crate) fn long_number(out: &mut [u8], at: usize, n: Inty) -> usize {
@@ -38,12 +47,9 @@ pub(crate) fn field(out: &mut [u8], at: usize, n: u64) -> usize {
     number(out, p, n)
 }
 
-// A comma and a number, or `-` where there is none.
-pub(crate) fn optional(out: &mut [u8], at: usize, has: u64, n: u64) -> usize {
-    if has == 0 {
-        return text(out, at, b",-");
-    }
-    field(out, at, n)
+pub(crate) fn long_field(out: &mut [u8], at: usize, n: Inty) -> usize {
+    let p = byte(out, at, b',');
+    long_number(out, p, n)
 }
 
 fn more(sum: u64, b: u8) -> u64

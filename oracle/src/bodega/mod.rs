@@ -25,6 +25,7 @@ use crate::utils::{Bitmap, RespondersConf, SummersetError, Timer};
 pub(crate) use events::{key_bytes, key_string};
 
 /// Of the original's parameters those that its files read.
+#[derive(Clone)]
 pub(crate) struct ReplicaConfigBodega {
     logger_sync: bool,
     hb_hear_timeout_min: u64,
@@ -148,6 +149,7 @@ pub(crate) enum PeerMsg {
     },
 }
 
+#[derive(Clone)]
 pub(crate) struct BodegaReplica {
     pub(crate) id: ReplicaId,
     pub(crate) population: u8,

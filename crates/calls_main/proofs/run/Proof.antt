@@ -1,22 +1,22 @@
 -- `run` ends and does nothing undefined. Assumes nothing.
 use mathlib.Core.Path.{_≡_}
-use Prim.Native.Nat.{_≤_, _-_}
+use Prim.Native.Nat.{_-_, _≤_}
 use lib.ListN.{length}
 use borrow.Author.Needs.{needs}
 use Rattle.calls_main.proofs.run.Statement.{statement}
 use Rattle.calls_main.proofs.run.Tie as tie
 
 abbrev Inv-loop : tie.InvT-loop
-Inv-loop input f₀ mem₀ area out₀ host₀ at₀ f mem out host at = (at ≤ length input) × (length f ≡ length f₀) × (length mem ≡ length mem₀) × (length out ≡ length out₀)
+Inv-loop input mem₀ area₀ rows₀ out₀ host₀ at₀ mem area rows out host at = (at ≤ length input) × (length mem ≡ length mem₀) × (length area ≡ length area₀) × (length rows ≡ length rows₀) × (length out ≡ length out₀)
 
 abbrev μ-loop : tie.MeasureT-loop
-μ-loop input f₀ mem₀ area out₀ host₀ at₀ f mem out host at = length input - at
+μ-loop input mem₀ area₀ rows₀ out₀ host₀ at₀ mem area rows out host at = length input - at
 
 fresh-requires : tie.Need-fresh-requires Inv-loop μ-loop
 fresh-requires c κs = search needs
 
-enum-known-first : tie.Need-enum-known-first Inv-loop μ-loop
-enum-known-first c = search needs
+enum-known-node : tie.Need-enum-known-node Inv-loop μ-loop
+enum-known-node c = search needs
 
 enum-told : tie.Need-enum-told Inv-loop μ-loop
 enum-told c = search needs
@@ -26,6 +26,9 @@ same-length c = search needs
 
 returns : tie.Need-returns Inv-loop μ-loop
 returns c = search needs
+
+begin-requires : tie.Need-begin-requires Inv-loop μ-loop
+begin-requires c κs = search needs
 
 loop-holds : tie.Need-loop-holds Inv-loop μ-loop
 loop-holds c = search needs
@@ -63,6 +66,9 @@ same-length-3 c = search needs
 same-length-4 : tie.Need-same-length-4 Inv-loop μ-loop
 same-length-4 c = search needs
 
+same-length-5 : tie.Need-same-length-5 Inv-loop μ-loop
+same-length-5 c = search needs
+
 returns-2 : tie.Need-returns-2 Inv-loop μ-loop
 returns-2 c = search needs
 
@@ -73,10 +79,11 @@ run-spec =
     Inv-loop
     μ-loop
     fresh-requires
-    enum-known-first
+    enum-known-node
     enum-told
     same-length
     returns
+    begin-requires
     loop-holds
     end-of-requires
     sub-take
@@ -89,4 +96,5 @@ run-spec =
     same-length-2
     same-length-3
     same-length-4
+    same-length-5
     returns-2)

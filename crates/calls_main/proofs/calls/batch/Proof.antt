@@ -3,14 +3,17 @@ use mathlib.Core.Path.{_≡_}
 use Prim.Native.Nat.{_+_, _*_, _-_, _≤_}
 use lib.ListN.{length}
 use borrow.Author.Needs.{needs}
-use Rattle.calls_main.proofs.batch.Statement.{statement}
-use Rattle.calls_main.proofs.batch.Tie as tie
+use Rattle.calls_main.proofs.calls.batch.Statement.{statement}
+use Rattle.calls_main.proofs.calls.batch.Tie as tie
 
 abbrev Inv-loop : tie.InvT-loop
-Inv-loop f n rows₀ k₀ p₀ rows k p = (k ≤ 993) × (2 * p + 9 ≡ 3 * k) × (length rows ≡ length rows₀)
+Inv-loop line rows₀ count k₀ p₀ rows k p = (k ≤ 993) × (2 * p + 12 ≡ 3 * k) × (length rows ≡ length rows₀)
 
 abbrev μ-loop : tie.MeasureT-loop
-μ-loop f n rows₀ k₀ p₀ rows k p = 1000 - k
+μ-loop line rows₀ count k₀ p₀ rows k p = 1000 - k
+
+count-requires : tie.Need-count-requires Inv-loop μ-loop
+count-requires c κs = search needs
 
 loop-holds : tie.Need-loop-holds Inv-loop μ-loop
 loop-holds c = search needs
@@ -51,6 +54,7 @@ batch-spec =
     (tie.spec
     Inv-loop
     μ-loop
+    count-requires
     loop-holds
     add-if1
     put-row-requires

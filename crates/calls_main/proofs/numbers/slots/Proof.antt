@@ -1,28 +1,25 @@
--- `key` ends and does nothing undefined. Assumes nothing.
+-- `slots` ends and does nothing undefined. Assumes nothing.
 use mathlib.Core.Path.{_≡_}
-use Prim.Native.Nat.{_≤_, _-_}
+use Prim.Native.Nat.{_-_, _≤_}
 use lib.ListN.{length}
 use borrow.Author.Needs.{needs}
-use Rattle.calls_main.proofs.shown.key.Statement.{statement}
-use Rattle.calls_main.proofs.shown.key.Tie as tie
+use Rattle.calls_main.proofs.numbers.slots.Statement.{statement}
+use Rattle.calls_main.proofs.numbers.slots.Tie as tie
 
 abbrev Inv-loop : tie.InvT-loop
-Inv-loop out₀ at mem p n e₀ i₀ out e i = (i ≤ 48) × (length out ≡ length out₀)
+Inv-loop out₀ at mem start n p₀ i₀ out p i = (i ≤ 32) × (length out ≡ length out₀)
 
 abbrev μ-loop : tie.MeasureT-loop
-μ-loop out₀ at mem p n e₀ i₀ out e i = 48 - i
-
-word-requires : tie.Need-word-requires Inv-loop μ-loop
-word-requires c κs = search needs
+μ-loop out₀ at mem start n p₀ i₀ out p i = 32 - i
 
 loop-holds : tie.Need-loop-holds Inv-loop μ-loop
 loop-holds c = search needs
 
-key-byte-requires : tie.Need-key-byte-requires Inv-loop μ-loop
-key-byte-requires c κs = search needs
+cell-of-requires : tie.Need-cell-of-requires Inv-loop μ-loop
+cell-of-requires c κs = search needs
 
-byte-requires : tie.Need-byte-requires Inv-loop μ-loop
-byte-requires c κs = search needs
+slot-requires : tie.Need-slot-requires Inv-loop μ-loop
+slot-requires c κs = search needs
 
 add-i : tie.Need-add-i Inv-loop μ-loop
 add-i c = search needs
@@ -45,16 +42,15 @@ same-length-2 c = search needs
 returns-2 : tie.Need-returns-2 Inv-loop μ-loop
 returns-2 c = search needs
 
-pub key-spec : {M : Type 1} → statement M
-key-spec =
+pub slots-spec : {M : Type 1} → statement M
+slots-spec =
     tie.close
     (tie.spec
     Inv-loop
     μ-loop
-    word-requires
     loop-holds
-    key-byte-requires
-    byte-requires
+    cell-of-requires
+    slot-requires
     add-i
     loop-less
     loop-again
