@@ -663,7 +663,7 @@ fn edge(n: u64, node: &BodegaReplica, rng: &mut Rng) -> Option<String> {
         7 => format!("guard,{other},{},0", u64::MAX),
         8 => "prepared,0".to_string(),
         9 => format!("prepared,{sent}"),
-        10 => format!("prepared,{}", sent + 1),
+        10 => format!("prepared,{}", sent.wrapping_add(1)),
         11 => format!("bars,{start},{above},{commit},{exec}"),
         12 => format!("bars,{start},{MAX_SLOT},{commit},{exec}"),
         13 => format!("bars,{start},0,{},{exec}", end + 1),
