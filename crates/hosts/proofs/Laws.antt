@@ -1,34 +1,43 @@
--- Whether a host is sound, test by test. Assumes nothing.
-use mathlib.Core.Path.{_≡_, sym, _∙_}
-use mathlib.Core.Bool.{Bool, true, false, not}
+-- Whether buffers and draft are sound, test by test; the host before the first line. Assumes nothing.
+use mathlib.Core.Path.{_≡_, refl, sym}
+use mathlib.Core.Bool.{Bool, true, false, _&&_}
 use mathlib.Core.List.{List}
 use Prim.Native.Nat.{ℕ, _≤_, _<_}
+use lib.Dec.{leb}
 use lib.ListN.{length}
-use borrow.Author.Tests.{le-leb, lt-leb, not-true, not-false}
-use Rattle.node.specs.View.{ready}
+use borrow.Author.Tests.{le-leb, lt-leb}
+use Rattle.responders.specs.declared.RespondersConf.{RespondersConf}
+use Rattle.responders.specs.Conf.{empty}
+use Rattle.responders.specs.Edits.{view as rosterOf}
+use Rattle.node.specs.declared.Node.{Node}
+use Rattle.node.specs.View.{size, ready}
 use Rattle.hosts.specs.declared.Host.{Host}
-use Rattle.hosts.specs.Acts.{sound}
+use Rattle.hosts.specs.Host.{freshHost}
+use Rattle.hosts.specs.Acts.{hostOf, sound}
 
-module _ (h : Host) (mem rows : List ℕ) where
-  pub short-mem : length mem < 10305 → false ≡ sound h mem rows
+module _ (d : RespondersConf) (mem rows : List ℕ) where
+  pub short-mem : length mem < 10305 → false ≡ sound d mem rows
   unfolding sound
   short-mem l = sym (simp (lt-leb 10305 (length mem) l))
 
   module _ (m : 10305 ≤ length mem) where
-    pub short-rows : length rows < 320 → false ≡ sound h mem rows
+    pub short-rows : length rows < 320 → false ≡ sound d mem rows
     unfolding sound
     short-rows l = sym (simp (le-leb 10305 (length mem) m, lt-leb 320 (length rows) l))
 
-    module _ (r : 320 ≤ length rows) where
-      pub many-ranges : 64 < h .draft .count → false ≡ sound h mem rows
-      unfolding sound
-      many-ranges l = sym (simp (le-leb 10305 (length mem) m, le-leb 320 (length rows) r, lt-leb (h .draft .count) 64 l))
+    pub by-count : 320 ≤ length rows → leb (d .count) 64 ≡ sound d mem rows
+    unfolding sound
+    by-count r = sym (simp (le-leb 10305 (length mem) m, le-leb 320 (length rows) r))
 
-      module _ (f : h .draft .count ≤ 64) where
-        pub not-made : not (h .made) ≡ true → true ≡ sound h mem rows
-        unfolding sound
-        not-made e = sym (simp (le-leb 10305 (length mem) m, le-leb 320 (length rows) r, le-leb (h .draft .count) 64 f, e))
+-- ---- before the first line
 
-        pub made-ready : not (h .made) ≡ false → (t : Bool) → t ≡ ready (h .node) mem → t ≡ sound h mem rows
-        unfolding sound
-        made-ready e t q = q ∙ sym (simp (le-leb 10305 (length mem) m, le-leb 320 (length rows) r, le-leb (h .draft .count) 64 f, e))
+and-false : (b : Bool) → b && false ≡ false
+and-false true = refl
+and-false false = refl
+
+pub unready : (n : Node) (mem : List ℕ) → n .quorum ≡ 0 → ready n mem ≡ false
+unfolding ready
+unready n mem e = rw e (and-false (leb size (length mem)))
+
+pub fresh-host : (h : Host) (mem rows : List ℕ) → ready (h .node) mem ≡ false → rosterOf (h .draft) rows ≡ empty → hostOf h mem rows ≡ freshHost
+fresh-host h mem rows e f = rw (e, f)

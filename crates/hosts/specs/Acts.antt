@@ -1,16 +1,23 @@
 -- What the code's host stands for, and what a line comes to in its buffers. Assumes nothing: these are definitions.
 use mathlib.Core.Path.{_≡_}
-use mathlib.Core.Bool.{Bool, true, _&&_, _||_, not}
+use mathlib.Core.Bool.{Bool, true, false, _&&_}
 use mathlib.Core.List.{List}
 use mathlib.Core.Option.{Option, none, some}
 use Prim.Native.Nat.{ℕ, _<_}
-use lib.Dec.{leb, eqb}
+use lib.Dec.{leb}
 use lib.ListN.{length}
 use Rattle.words.specs.Choice.{if_then_else_, ifNone_then_else_}
 use Rattle.words.specs.Writes.{writes}
 use Rattle.items.specs.Item.{Item, encode}
-use Rattle.responders.specs.Edits.{view as rosterOf, holdsRows}
-use Rattle.node.specs.View.{size, view, ready}
+use Rattle.responders.specs.declared.RespondersConf.{RespondersConf}
+use Rattle.responders.specs.declared.Edited.{Edited}
+use Rattle.responders.specs.Edit.{Edit, refused}
+use Rattle.responders.specs.Edits.{view as rosterOf, holdsRows, Gives, Edits}
+use Rattle.bodega.specs.Replica.{Call}
+use Rattle.bodega.specs.Answers.{Refuses, Answers}
+use Rattle.node.specs.declared.Node.{Node}
+use Rattle.node.specs.declared.Answered.{Answered}
+use Rattle.node.specs.View.{size, view, ready, givenOf}
 use Rattle.hosts.specs.declared.Host as code
 use Rattle.hosts.specs.declared.Acted.{Acted}
 use Rattle.hosts.specs.Host.{Host, Answer, Turned, Took, Told, turned, taking}
@@ -18,12 +25,13 @@ use Rattle.hosts.specs.Line.{Line}
 
 -- ---- the host: a struct, the node's buffer and the draft's rows
 
+-- there is a node where a call can have made it
 abbrev pub hostOf : code.Host → List ℕ → List ℕ → Host
-hostOf h mem rows = record { node = if h .made then some (view (h .node) mem) else none; draft = rosterOf (h .draft) rows }
+hostOf h mem rows = record { node = if ready (h .node) mem then some (view (h .node) mem) else none; draft = rosterOf (h .draft) rows }
 
--- buffers that are long enough, and a host that lines can have made; the area has the 546 places
-unfoldable pub sound : code.Host → List ℕ → List ℕ → Bool
-sound h mem rows = leb size (length mem) && holdsRows (length rows) (h .draft .count) && (not (h .made) || ready (h .node) mem)
+-- buffers that are long enough, and a draft that edits can have made
+unfoldable pub sound : RespondersConf → List ℕ → List ℕ → Bool
+sound draft mem rows = leb size (length mem) && holdsRows (length rows) (draft .count)
 
 -- ---- what a line comes to
 
@@ -44,7 +52,7 @@ pub record ActsTook (next : Host) (l : List Item) (h : code.Host) (mem rows area
   pub items : area′ ≡ writes area 0 (encode l)
   pub memSize : length mem′ ≡ length mem
   pub rowsSize : length rows′ ≡ length rows
-  pub soundAgain : sound (a .host) mem′ rows′ ≡ true
+  pub soundAgain : sound (a .host .draft) mem′ rows′ ≡ true
 
 abbrev pub ActsBy : Host → Answer → code.Host → List ℕ → List ℕ → List ℕ → Acted → List ℕ → List ℕ → List ℕ → Type 0
 ActsBy next (Turned n) h mem rows area a mem′ rows′ area′ = ActsTurned n h mem rows area a mem′ rows′ area′
@@ -56,3 +64,13 @@ Acts t = ActsBy (t .host) (t .answer)
 -- a line of well-formed fields, or refusal 1
 abbrev pub toldOf : Host → Option Line → Told
 toldOf h o = ifNone o then turned h 1 else taking h
+
+-- ---- the lines of calls, and of the draft's edits: where the fields are not well-formed it is refused 1, else it is that call or edit
+
+pub record AnswersLine (good : Bool) (c : Call) (node : Node) (mem area : List ℕ) (a : Answered) (mem′ area′ : List ℕ) : Type 0 where
+  pub bad : good ≡ false → Refuses ready view 1 node mem area (givenOf a) mem′ area′
+  pub well : good ≡ true → Answers ready view c node mem area (givenOf a) mem′ area′
+
+pub record EditsLine (good : Bool) (e : Edit) (population : ℕ) (c : RespondersConf) (rows : List ℕ) (r : Edited) (rows′ : List ℕ) : Type 0 where
+  pub bad : good ≡ false → Gives (refused 1) r rows rows′
+  pub well : good ≡ true → Edits e population c rows r rows′

@@ -1,11 +1,19 @@
-// The host of the event program: the node, once a node line was accepted, and the draft. The node's buffer and the draft's rows are lent.
+// The host of the event program: the node and the draft. The node's buffer and the draft's rows are lent. Before a node line is accepted the node is
+// one that no call made.
+use ids::Ballot;
+use ids::Replica;
+use ids::Slot;
 use node::Node;
 use responders::RespondersConf;
 ghost use mathlib.Core.Path.{_≡_};
-ghost use Rattle.hosts.specs.Acts.{sound};
+ghost use mathlib.Core.List.{List};
+ghost use mathlib.Core.Bool.{false};
+ghost use Prim.Native.Nat.{ℕ, _≤_};
+ghost use Rattle.node.specs.View.{ready};
+ghost use Rattle.hosts.specs.Host.{freshHost};
+ghost use Rattle.hosts.specs.Acts.{hostOf, sound};
 
 pub struct Host {
-    pub made: bool,
     pub node: Node,
     pub draft: RespondersConf,
 }
@@ -17,20 +25,46 @@ pub struct Acted {
     pub host: Host,
 }
 
-// A refused line leaves the host as it was.
-pub fn refused(host: Host, number: u64) -> Acted
-    ensures { λ r. ⌜ r ≡ record { number = number; count = 0; host = host } ⌝ }
+// No node of population 0 is made by a call.
+fn no_node() -> Node
+    ensures { λ r. ⌜ ((mem : List ℕ) → ready r mem ≡ false) ⌝ }
 {
-    Acted {
-        number,
-        count: 0,
-        host,
+    let id = Replica(0);
+    let bodega_conf = RespondersConf::empty();
+    let none = Ballot(0);
+    let zero = Slot(0);
+    Node {
+        id,
+        population: 0,
+        quorum: 0,
+        bodega_conf,
+        bal_max_seen: none,
+        bal_prep_sent: none,
+        bal_prepared: none,
+        start_slot: zero,
+        accept_bar: zero,
+        commit_bar: zero,
+        exec_bar: zero,
+        snap_bar: zero,
+        peer_accept_max: zero,
+        slots: 0,
     }
 }
 
-// Whether lines can have made the host, and its buffers are long enough.
-pub fn is_sound(host: Host, mem: &[u64], rows: &[u64]) -> bool
-    ensures { λ r. ⌜ r ≡ sound host (now (mem .entry)) (now (rows .entry)) ⌝ }
+impl Host {
+    // Before the first line.
+    pub fn fresh() -> Host
+        ensures { λ r. ⌜ ((mem rows : List ℕ) → hostOf r mem rows ≡ freshHost) × (r .draft .count ≤ 64) ⌝ }
+    {
+        let node = no_node();
+        let draft = RespondersConf::empty();
+        Host { node, draft }
+    }
+}
+
+// Whether the buffers are long enough, and edits can have made the draft.
+pub fn is_sound(draft: RespondersConf, mem: &[u64], rows: &[u64]) -> bool
+    ensures { λ r. ⌜ r ≡ sound draft (now (mem .entry)) (now (rows .entry)) ⌝ }
 {
     if mem.len() < Node::WORDS {
         return false;
@@ -38,12 +72,5 @@ pub fn is_sound(host: Host, mem: &[u64], rows: &[u64]) -> bool
     if rows.len() < RespondersConf::WORDS {
         return false;
     }
-    let draft = host.draft;
-    if RespondersConf::RANGES < draft.count {
-        return false;
-    }
-    if !host.made {
-        return true;
-    }
-    node::is_ready(host.node, mem)
+    draft.count <= RespondersConf::RANGES
 }
