@@ -1,0 +1,224 @@
+-- A VALUE, a group, the rows of the groups and the record line, with premises as the code has them. Assumes nothing.
+use mathlib.Core.Path.{_≡_, refl, sym, ap, _∙_}
+use mathlib.Core.Bool.{Bool, true, false, _&&_, _||_, not, true≢false}
+use mathlib.Core.List.{List, [], _∷_, _++_, append-assoc, append-nil}
+use mathlib.Core.Logic.{inl, inr}
+use Prim.Native.Nat.{ℕ, _+_, _-_, _*_, _/_, _^_, _≤_, _<_}
+use native.Mathlib.Nat.{add-zero, zero-add}
+use native.Mathlib.Decide.{decLt}
+use native.Mathlib.Omega.{arith}
+use lib.Dec.{ltb}
+use lib.ListN.{length, getD, take, drop}
+use lib.Seq.{getD-take, length-take-le}
+use borrow.Author.Tests.{ltb-false, not-true, not-false}
+use Rattle.words.specs.Part.{part}
+use Rattle.words.specs.Tab.{tab, tab-ext, tab-snoc}
+use Rattle.words.specs.Writes.{writes, Agrees, writes-other, writes-same, length-writes}
+use Rattle.fields.specs.declared.Field.{Field}
+use Rattle.fields.specs.declared.NumberAt.{NumberAt}
+use Rattle.fields.specs.Split.{Bytes, fieldsFrom}
+use Rattle.fields.specs.Number.{allDigits, valueOf, hasByte, isNumber, numberAt}
+use Rattle.fields.specs.Reads.{noneLeft, between, FirstField, ReadsField, ReadsNumberAt}
+use Rattle.fields.proofs.Laws.{both-first, from-past, none-left, some-left, between-none, length-between}
+use Rattle.bodega.specs.Replica.{Request, Call, Record}
+use Rattle.batch.specs.Batch.{commandAt}
+use Rattle.requests.specs.Given.{givenFrom, givenAt, given}
+use Rattle.hosts.specs.Line.{areGroups, commandOf, batchOf, isRecord}
+use Rattle.record_lines.specs.declared.Value.{Value}
+use Rattle.record_lines.specs.declared.Group.{Group}
+use Rattle.record_lines.specs.declared.Groups.{Groups}
+use Rattle.record_lines.specs.Groups.{isValue, FirstValue, ReadsValue, requestIn, rowOf, FirstGroup, ReadsGroup, ReadsGroups}
+
+-- ---- a VALUE
+
+has-byte : (f : Bytes) → isNumber f ≡ true → hasByte f ≡ true
+unfolding isNumber
+has-byte f e = both-first (hasByte f) (allDigits f) (both-first (hasByte f && allDigits f) (ltb (valueOf f) (2 ^ 64)) e)
+
+or-true : (b : Bool) → b || true ≡ true
+or-true true = refl
+or-true false = refl
+
+in-line : (s : Bytes) (at : ℕ) → noneLeft (fieldsFrom s at) ≡ false → at ≤ length s
+in-line s at e = ltb-false (length s) at (none-left s at ∙ e)
+
+some-byte : (f : Bytes) → 0 < length f → hasByte f ≡ true
+some-byte [] h = absurd (omega arith)
+some-byte (c ∷ f) h = refl
+
+abbrev noValue : ℕ → Value
+noValue at = record { good = false; kind = 0; value = 0; next = at }
+
+no-value : (s : Bytes) (at : ℕ) (v : Value) → isValue (fieldsFrom s at) ≡ false → v ≡ noValue at → ReadsValue s at v
+no-value s at v e k = rw k (record { good = sym e; first = λ z. absurd (true≢false (sym z)) })
+
+module _ (s : Bytes) (at : ℕ) (n : NumberAt) (a : ReadsNumberAt s at n) where
+  pub value-number : n .good ≡ true → ReadsValue s at (record { good = true; kind = 1; value = n .value; next = n .next })
+  value-number g =
+      let f = a .first g in
+      let e : isNumber (getD (fieldsFrom s at) 0 []) ≡ true = sym (a .good) ∙ g in
+      let b : hasByte (getD (fieldsFrom s at) 0 []) ≡ true = has-byte (getD (fieldsFrom s at) 0 []) e in
+      let l : noneLeft (fieldsFrom s at) ≡ false = ap noneLeft (f .here) in
+      record { good = sym (rw (l, b, e)); first = λ _. record { command = rw (b, f .value); low = f .low; here = f .here } }
+
+  pub value-ended : (t : Bool) (v : Value) → t ≡ noneLeft (fieldsFrom s at) → t ≡ true → v ≡ noValue at → ReadsValue s at v
+  value-ended t v e h k = let l : noneLeft (fieldsFrom s at) ≡ true = sym e ∙ h in no-value s at v (rw l) k
+
+  module _ (t : Bool) (f : Field) (e : t ≡ noneLeft (fieldsFrom s at)) (h : t ≡ false) (r : ReadsField s at f) where
+    field : FirstField s at f
+    field = r .first (in-line s at (sym e ∙ h))
+
+    here : fieldsFrom s at ≡ between s at (f .end) ∷ fieldsFrom s (f .next)
+    here = field .here ∙ ap {B = List Bytes} (λ (k : ℕ). between s k (f .end) ∷ fieldsFrom s (f .next)) (field .start)
+
+    first-field : getD (fieldsFrom s at) 0 [] ≡ between s at (f .end)
+    first-field = ap (λ (l : List Bytes). getD l 0 []) here
+
+    pub value-empty : f .end ≡ at → ReadsValue s at (record { good = true; kind = 0; value = 0; next = f .next })
+    value-empty z =
+        let b : getD (fieldsFrom s at) 0 [] ≡ [] = first-field ∙ ap (between s at) z ∙ between-none s at in
+        let l : noneLeft (fieldsFrom s at) ≡ false = sym e ∙ h in
+        let w : fieldsFrom s at ≡ getD (fieldsFrom s at) 0 [] ∷ fieldsFrom s (f .next) = here ∙ ap {B = List Bytes} (λ (x : Bytes). x ∷ fieldsFrom s (f .next)) (sym first-field) in
+        record { good = sym (rw (l, b)); first = λ _. record { command = rw b; low = omega (arith, field .next); here = w } }
+
+    pub value-other : (v : Value) → n .good ≡ false → (f .end ≡ at → ⊥) → v ≡ noValue at → ReadsValue s at v
+    value-other v g z k =
+        let l : noneLeft (fieldsFrom s at) ≡ false = sym e ∙ h in
+        let m : 0 < length (between s at (f .end)) = rw (length-between s at (f .end) (field .high)) (omega (arith, field .low)) in
+        let b : hasByte (getD (fieldsFrom s at) 0 []) ≡ true = rw first-field (some-byte (between s at (f .end)) m) in
+        let i : isNumber (getD (fieldsFrom s at) 0 []) ≡ false = sym (a .good) ∙ g in
+        no-value s at v (rw (l, b, i)) k
+
+-- ---- a group
+
+and-false : (b : Bool) → b && false ≡ false
+and-false true = refl
+and-false false = refl
+
+pub field-ordered : (s : Bytes) (at : ℕ) (f : Field) → ReadsField s at f → f .start ≤ f .end
+field-ordered s at f r = elim (decLt (length s) at) [
+  | yes h ↦ (let e = r .past h .stands in rw e (omega arith))
+  | no h ↦ (let e = r .first (omega arith) in omega (arith, e .start, e .low))
+]
+
+-- no group: the first field is no number, the second one, the fourth one is none
+no-client : (fs : List Bytes) → noneLeft fs ≡ false → isNumber (getD fs 0 []) ≡ false → areGroups fs ≡ false
+unfolding areGroups
+no-client [] l e = absurd (true≢false l)
+no-client (a ∷ []) l e = refl
+no-client (a ∷ b ∷ []) l e = refl
+no-client (a ∷ b ∷ c ∷ []) l e = refl
+no-client (a ∷ b ∷ c ∷ d ∷ fs) l e = rw e
+
+no-request : (a : Bytes) (fs : List Bytes) → isNumber (getD fs 0 []) ≡ false → areGroups (a ∷ fs) ≡ false
+unfolding areGroups
+no-request a [] e = refl
+no-request a (b ∷ []) e = refl
+no-request a (b ∷ c ∷ []) e = refl
+no-request a (b ∷ c ∷ d ∷ fs) e = rw (e, and-false)
+
+no-command : (a b c : Bytes) (fs : List Bytes) → isValue fs ≡ false → areGroups (a ∷ b ∷ c ∷ fs) ≡ false
+unfolding areGroups
+no-command a b c [] e = refl
+no-command a b c (d ∷ fs) e = rw (e, and-false)
+
+two-alone : (a b : Bytes) → areGroups (a ∷ b ∷ []) ≡ false
+unfolding areGroups
+two-alone a b = refl
+
+one-group : (a b c d : Bytes) (fs : List Bytes) → isNumber a ≡ true → isNumber b ≡ true → not (hasByte d) || isNumber d ≡ true → areGroups (a ∷ b ∷ c ∷ d ∷ fs) ≡ areGroups fs
+unfolding areGroups
+one-group a b c d fs e f g = rw (e, f, g)
+
+one-request : (a b c d : Bytes) (fs : List Bytes) → batchOf (a ∷ b ∷ c ∷ d ∷ fs) ≡ record { client = valueOf a; request = valueOf b; key = c; command = commandOf d } ∷ batchOf fs
+unfolding batchOf
+one-request a b c d fs = refl
+
+abbrev noGroup : ℕ → Group
+noGroup at = record { good = false; client = 0; request = 0; kind = 0; value = 0; start = 0; length = 0; next = at }
+
+no-group : (s : Bytes) (at : ℕ) (g : Group) → (at ≤ length s → areGroups (fieldsFrom s at) ≡ false) → g ≡ noGroup at → ReadsGroup s at g
+no-group s at g e k = rw k (record { first = λ z. absurd (true≢false (sym z)); bad = λ h _. e h })
+
+module _ (s : Bytes) (at : ℕ) (client : NumberAt) (a : ReadsNumberAt s at client) where
+  pub group-client : (g : Group) → not (client .good) ≡ true → g ≡ noGroup at → ReadsGroup s at g
+  group-client g e k =
+      no-group s at g (λ h. no-client (fieldsFrom s at) (ap noneLeft (some-left s at h)) (sym (a .good) ∙ not-true (client .good) e)) k
+
+  module _ (e : not (client .good) ≡ false) (request : NumberAt) (b : ReadsNumberAt s (client .next) request) where
+    is-client : client .good ≡ true
+    is-client = not-false (client .good) e
+
+    pub group-request : (g : Group) → not (request .good) ≡ true → g ≡ noGroup at → ReadsGroup s at g
+    group-request g f k =
+        let h : areGroups (fieldsFrom s at) ≡ false =
+        rw (a .first is-client .here) (no-request (getD (fieldsFrom s at) 0 []) (fieldsFrom s (client .next)) (sym (b .good) ∙ not-true (request .good) f)) in
+        no-group s at g (λ _. h) k
+
+    module _ (f : not (request .good) ≡ false) (key : Field) (c : ReadsField s (request .next) key) (value : Value) (d : ReadsValue s (key .next) value) where
+      is-request : request .good ≡ true
+      is-request = not-false (request .good) f
+
+      two : fieldsFrom s at ≡ getD (fieldsFrom s at) 0 [] ∷ getD (fieldsFrom s (client .next)) 0 [] ∷ fieldsFrom s (request .next)
+      two = a .first is-client .here ∙ ap {B = List Bytes} (λ l. getD (fieldsFrom s at) 0 [] ∷ l) (b .first is-request .here)
+
+      three : request .next ≤ length s
+          → fieldsFrom s at ≡ getD (fieldsFrom s at) 0 [] ∷ getD (fieldsFrom s (client .next)) 0 [] ∷ between s (key .start) (key .end) ∷ fieldsFrom s (key .next)
+      three h = two ∙ ap {B = List Bytes} (λ l. getD (fieldsFrom s at) 0 [] ∷ getD (fieldsFrom s (client .next)) 0 [] ∷ l) (c .first h .here)
+
+      pub group-value : (g : Group) → not (value .good) ≡ true → g ≡ noGroup at → ReadsGroup s at g
+      group-value g v k =
+          let w : isValue (fieldsFrom s (key .next)) ≡ false = sym (d .good) ∙ not-true (value .good) v in
+          let e : areGroups (fieldsFrom s at) ≡ false =
+          elim (decLt (length s) (request .next)) [
+            | yes h ↦ ap areGroups (two ∙ ap {B = List Bytes} (λ l. getD (fieldsFrom s at) 0 [] ∷ getD (fieldsFrom s (client .next)) 0 [] ∷ l) (c .past h .none)) ∙ two-alone (getD (fieldsFrom s at) 0 []) (getD (fieldsFrom s (client .next)) 0 [])
+            | no h ↦ ap areGroups (three (omega arith)) ∙ no-command (getD (fieldsFrom s at) 0 []) (getD (fieldsFrom s (client .next)) 0 []) (between s (key .start) (key .end)) (fieldsFrom s (key .next)) w
+          ] in
+          no-group s at g (λ _. e) k
+
+      module _ (v : not (value .good) ≡ false) where
+        is-value : value .good ≡ true
+        is-value = not-false (value .good) v
+
+        -- past the end there is no field
+        key-in : request .next ≤ length s
+        key-in =
+            elim (decLt (length s) (request .next)) [
+              | yes h ↦
+                  (let p = c .past h in
+                  let e : fieldsFrom s (key .next) ≡ [] = ap (λ (x : Field). fieldsFrom s (x .next)) (p .stands) ∙ p .none in
+                  absurd (true≢false (sym (ap noneLeft e) ∙ ap noneLeft (d .first is-value .here))))
+              | no h ↦ omega arith
+            ]
+
+        four : fieldsFrom s at ≡
+            getD (fieldsFrom s at) 0 [] ∷ getD (fieldsFrom s (client .next)) 0 [] ∷ between s (key .start) (key .end) ∷ getD (fieldsFrom s (key .next)) 0 [] ∷ fieldsFrom s (value .next)
+        four =
+            three key-in
+            ∙ ap {B = List Bytes} (λ l. getD (fieldsFrom s at) 0 [] ∷ getD (fieldsFrom s (client .next)) 0 [] ∷ between s (key .start) (key .end) ∷ l) (d .first is-value .here)
+
+        pub group-whole : ReadsGroup s at (record { good = true; client = client .value; request = request .value; kind = value .kind; value = value .value; start = key .start; length = key .end - key .start; next = value .next })
+        unfolding part
+        group-whole =
+            let n : isValue (fieldsFrom s (key .next)) ≡ true = sym (d .good) ∙ is-value in
+            let x = a .first is-client in
+            let y = b .first is-request in
+            let z = c .first key-in in
+            let w = d .first is-value in
+            let o : not (hasByte (getD (fieldsFrom s (key .next)) 0 [])) || isNumber (getD (fieldsFrom s (key .next)) 0 []) ≡ true =
+            (let l : noneLeft (fieldsFrom s (key .next)) ≡ false = ap noneLeft (w .here) in rw l at n) in
+            record {
+              first =
+                  λ _.
+                  record {
+                    low = omega (arith, x .low, y .low, z .low, z .next, w .low);
+                    good =
+                        ap areGroups four
+                        ∙ one-group (getD (fieldsFrom s at) 0 []) (getD (fieldsFrom s (client .next)) 0 []) (between s (key .start) (key .end)) (getD (fieldsFrom s (key .next)) 0 []) (fieldsFrom s (value .next)) (sym (a .good) ∙ is-client) (sym (b .good) ∙ is-request) o;
+                    batch =
+                        ap batchOf four
+                        ∙ one-request (getD (fieldsFrom s at) 0 []) (getD (fieldsFrom s (client .next)) 0 []) (between s (key .start) (key .end)) (getD (fieldsFrom s (key .next)) 0 []) (fieldsFrom s (value .next))
+                        ∙ rw (x .value, y .value, w .command);
+                  };
+              bad = λ _ z. absurd (true≢false z);
+            }

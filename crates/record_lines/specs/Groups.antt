@@ -1,0 +1,55 @@
+-- What is read of a record line's groups CLIENT,REQUEST,KEY,VALUE. Assumes nothing: these are definitions.
+use mathlib.Core.Path.{_≡_}
+use mathlib.Core.Bool.{Bool, true, false, _&&_, _||_, not}
+use mathlib.Core.List.{List, [], _∷_}
+use Prim.Native.Nat.{ℕ, _+_, _*_, _≤_, _<_}
+use lib.ListN.{length, getD, take}
+use Rattle.words.specs.Part.{part}
+use Rattle.fields.specs.Split.{Bytes, fieldsFrom}
+use Rattle.fields.specs.Number.{hasByte, isNumber}
+use Rattle.fields.specs.Reads.{noneLeft}
+use Rattle.bodega.specs.Replica.{Request}
+use Rattle.batch.specs.Batch.{commandAt}
+use Rattle.requests.specs.Given.{given}
+use Rattle.hosts.specs.Line.{areGroups, commandOf, batchOf}
+use Rattle.record_lines.specs.declared.Value.{Value}
+use Rattle.record_lines.specs.declared.Group.{Group}
+use Rattle.record_lines.specs.declared.Groups.{Groups}
+
+-- a VALUE: there is a field, empty or a number
+abbrev pub isValue : List Bytes → Bool
+isValue fs = not (noneLeft fs) && (not (hasByte (getD fs 0 [])) || isNumber (getD fs 0 []))
+
+pub record FirstValue (s : Bytes) (at : ℕ) (v : Value) : Type 0 where
+  pub command : commandAt (v .kind) (v .value) ≡ commandOf (getD (fieldsFrom s at) 0 [])
+  pub low : at < v .next
+  pub here : fieldsFrom s at ≡ getD (fieldsFrom s at) 0 [] ∷ fieldsFrom s (v .next)
+
+pub record ReadsValue (s : Bytes) (at : ℕ) (v : Value) : Type 0 where
+  pub good : v .good ≡ isValue (fieldsFrom s at)
+  pub first : v .good ≡ true → FirstValue s at v
+
+-- ---- one group, and the fields that are left after it
+
+abbrev pub requestIn : Bytes → Group → Request
+requestIn s g = record { client = g .client; request = g .request; key = part s (g .start) (g .length); command = commandAt (g .kind) (g .value) }
+
+-- its row as *record* is lent it
+abbrev pub rowOf : Group → List ℕ
+rowOf g = g .client ∷ g .request ∷ g .kind ∷ g .value ∷ g .start ∷ g .length ∷ []
+
+pub record FirstGroup (s : Bytes) (at : ℕ) (g : Group) : Type 0 where
+  pub low : at + 4 ≤ g .next
+  pub good : areGroups (fieldsFrom s at) ≡ areGroups (fieldsFrom s (g .next))
+  pub batch : batchOf (fieldsFrom s at) ≡ requestIn s g ∷ batchOf (fieldsFrom s (g .next))
+
+pub record ReadsGroup (s : Bytes) (at : ℕ) (g : Group) : Type 0 where
+  pub first : g .good ≡ true → FirstGroup s at g
+  pub bad : at ≤ length s → g .good ≡ false → areGroups (fieldsFrom s at) ≡ false
+
+-- ---- all of them: whether the fields that are left are whole groups, and their rows
+
+pub record ReadsGroups (s : Bytes) (at : ℕ) (r : Groups) (rows : List ℕ) : Type 0 where
+  pub good : r .good ≡ areGroups (fieldsFrom s at)
+  pub fits : r .count * 6 ≤ length rows
+  pub batch : r .good ≡ true → given (take (r .count * 6) rows) s ≡ batchOf (fieldsFrom s at)

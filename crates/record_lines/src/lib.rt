@@ -1,0 +1,146 @@
+// The record line of the event program: slot, ballot, and a request for each group of four fields.
+use fields::ended;
+use fields::field_at;
+use fields::number_at;
+use ids::Ballot;
+use ids::Slot;
+use node::Answered;
+use node::Node;
+ghost use mathlib.Core.Path.{_≡_};
+ghost use mathlib.Core.Bool.{false};
+ghost use Prim.Native.Nat.{_+_, _*_, _≤_};
+ghost use lib.ListN.{length, drop};
+ghost use Rattle.words.specs.Writes.{writes};
+ghost use Rattle.fields.specs.Split.{fieldsFrom};
+ghost use Rattle.fields.specs.Number.{numberAt};
+ghost use Rattle.bodega.specs.Replica.{Record};
+ghost use Rattle.hosts.specs.Line.{isRecord, batchOf};
+ghost use Rattle.hosts.specs.Acts.{AnswersLine};
+ghost use Rattle.record_lines.specs.Groups.{rowOf, ReadsValue, ReadsGroup, ReadsGroups};
+
+// A VALUE: of kind 1 a Put's, else a Get's empty one.
+struct Value {
+    good: bool,
+    kind: u64,
+    value: u64,
+    next: usize,
+}
+
+// CLIENT,REQUEST,KEY,VALUE, the key by its start and length in the line.
+struct Group {
+    good: bool,
+    client: u64,
+    request: u64,
+    kind: u64,
+    value: u64,
+    start: u64,
+    length: u64,
+    next: usize,
+}
+
+struct Groups {
+    good: bool,
+    count: usize,
+}
+
+fn no_value(at: usize) -> Value
+    ensures { λ r. ⌜ r ≡ record { good = false; kind = 0; value = 0; next = at } ⌝ }
+{
+    Value {
+        good: false,
+        kind: 0,
+        value: 0,
+        next: at,
+    }
+}
+
+// The VALUE that begins at a position.
+fn value_at(line: &[u8], at: usize) -> Value
+    ensures { λ r. ⌜ ReadsValue (now (line .entry)) at r ⌝ }
+{
+    let n = number_at(line, at);
+    if n.good {
+        return Value {
+            good: true,
+            kind: 1,
+            value: n.value,
+            next: n.next,
+        };
+    }
+    if ended(line, at) {
+        return no_value(at);
+    }
+    let f = field_at(line, at);
+    if f.end == at {
+        return Value {
+            good: true,
+            kind: 0,
+            value: 0,
+            next: f.next,
+        };
+    }
+    no_value(at)
+}
+
+fn no_group(at: usize) -> Group
+    ensures { λ r. ⌜ r ≡ record { good = false; client = 0; request = 0; kind = 0; value = 0; start = 0; length = 0; next = at } ⌝ }
+{
+    Group {
+        good: false,
+        client: 0,
+        request: 0,
+        kind: 0,
+        value: 0,
+        start: 0,
+        length: 0,
+        next: at,
+    }
+}
+
+// The group that begins at a position.
+fn group_at(line: &[u8], at: usize) -> Group
+    ensures { λ r. ⌜ ReadsGroup (now (line .entry)) at r ⌝ }
+{
+    let client = number_at(line, at);
+    if !client.good {
+        return no_group(at);
+    }
+    let request = number_at(line, client.next);
+    if !request.good {
+        return no_group(at);
+    }
+    let key = field_at(line, request.next);
+    let value = value_at(line, key.next);
+    if !value.good {
+        return no_group(at);
+    }
+    Group {
+        good: true,
+        client: client.value,
+        request: request.value,
+        kind: value.kind,
+        value: value.value,
+        start: key.start as u64,
+        length: (key.end - key.start) as u64,
+        next: value.next,
+    }
+}
+
+// The i-th row.
+fn put_group(groups: &mut [u64], i: usize, g: Group)
+    requires { ⌜ i * 6 + 6 ≤ length (now groups) ⌝ }
+    ensures { λ _. ⌜ now (groups .exit) ≡ writes (now (groups .entry)) (i * 6) (rowOf g) ⌝ }
+{
+    let p = i * 6;
+    let p1 = p + 1;
+    let p2 = p1 + 1;
+    let p3 = p2 + 1;
+    let p4 = p3 + 1;
+    let p5 = p4 + 1;
+    groups[p] = g.client;
+    groups[p1] = g.request;
+    groups[p2] = g.kind;
+    groups[p3] = g.value;
+    groups[p4] = g.start;
+    groups[p5] = g.length;
+}
