@@ -222,3 +222,80 @@ module _ (s : Bytes) (at : ℕ) (client : NumberAt) (a : ReadsNumberAt s at clie
                   };
               bad = λ _ z. absurd (true≢false z);
             }
+
+-- ---- the rows of the groups
+
+given-near : (s′ s text : List ℕ) (p : ℕ) → Agrees s′ s p (p + 6) → givenFrom s′ text p ≡ givenFrom s text p
+unfolding givenFrom
+given-near s′ s text p h =
+    let e : getD s′ p 0 ≡ getD s p 0 = h p (omega arith) (omega arith) in
+    rw (
+      e,
+      h (p + 1) (omega arith) (omega arith),
+      h (p + 2) (omega arith) (omega arith),
+      h (p + 3) (omega arith) (omega arith),
+      h (p + 4) (omega arith) (omega arith),
+      h (p + 5) (omega arith) (omega arith),
+    )
+
+-- a row that was written is read back
+given-row : (rows text : List ℕ) (p : ℕ) (g : Group) → p + 6 ≤ length rows → givenFrom (writes rows p (rowOf g)) text p ≡ requestIn text g
+unfolding givenFrom
+given-row rows text p g h =
+    let w = writes-same rows p (rowOf g) in
+    let e : getD (writes rows p (rowOf g)) p 0 ≡ g .client = rw add-zero at (w 0 h (omega arith)) in
+    rw (e, w 1 h (omega arith), w 2 h (omega arith), w 3 h (omega arith), w 4 h (omega arith), w 5 h (omega arith))
+
+pub given-take : (rows text : List ℕ) (n : ℕ) → n * 6 ≤ length rows → given (take (n * 6) rows) text ≡ tab (givenAt rows text) 0 n
+unfolding given
+given-take rows text n h =
+    let l : length (take (n * 6) rows) / 6 ≡ n = rw (length-take-le (n * 6) rows h) (omega arith) in
+    rw l
+    (tab-ext (givenAt (take (n * 6) rows) text) (givenAt rows text) 0 n
+    (λ i a b. given-near (take (n * 6) rows) rows text (i * 6) (λ j x y. getD-take (n * 6) rows j 0 (omega arith))))
+
+-- n groups are read, and the others begin at next
+pub record Grouped (s : Bytes) (at : ℕ) (rows₀ rows : List ℕ) (next n : ℕ) : Type 0 where
+  pub size : length rows ≡ length rows₀
+  pub few : n ≤ 257
+  pub low : n * 4 ≤ next
+  pub good : areGroups (fieldsFrom s next) ≡ areGroups (fieldsFrom s at)
+  pub batch : tab (givenAt rows s) 0 n ++ batchOf (fieldsFrom s next) ≡ batchOf (fieldsFrom s at)
+
+pub grouped-none : (s : Bytes) (at : ℕ) (rows : List ℕ) → Grouped s at rows rows at 0
+grouped-none s at rows = record { size = refl; few = omega arith; low = omega arith; good = refl; batch = refl }
+
+module _ (s : Bytes) (at : ℕ) (rows₀ rows : List ℕ) (next n : ℕ) (p : Grouped s at rows₀ rows next n) where
+  -- the next row fits
+  pub row-fits : next ≤ length s → length s ≤ 1024 → 1542 ≤ length rows₀ → n * 6 + 6 ≤ length rows
+  row-fits h l r = omega (arith, p .low, p .size)
+
+  pub grouped-more : (g : Group) (rows′ : List ℕ) → next ≤ length s → length s ≤ 1024 → 1542 ≤ length rows₀ → ReadsGroup s next g → g .good ≡ true → rows′ ≡ writes rows (n * 6) (rowOf g)
+      → Grouped s at rows₀ rows′ (g .next) (n + 1)
+  grouped-more g rows′ h l r a e w =
+      let f = a .first e in
+      let old : tab (givenAt rows′ s) 0 n ≡ tab (givenAt rows s) 0 n =
+      tab-ext (givenAt rows′ s) (givenAt rows s) 0 n
+      (λ i x y. given-near rows′ rows s (i * 6) (λ j b c. rw w (writes-other rows (n * 6) (rowOf g) j (inl (omega arith))))) in
+      let new : givenAt rows′ s n ≡ requestIn s g = rw w (given-row rows s (n * 6) g (row-fits h l r)) in
+      record {
+        size = ap length w ∙ length-writes rows (n * 6) (rowOf g) ∙ p .size;
+        few = omega (arith, p .low);
+        low = omega (arith, p .low, f .low);
+        good = sym (f .good) ∙ p .good;
+        batch = rw (tab-snoc (givenAt rows′ s) 0 n, zero-add n, old, new, append-assoc, ← (f .batch)) (p .batch);
+      }
+
+  pub grouped-bad : (g : Group) → next ≤ length s → ReadsGroup s next g → g .good ≡ false → ReadsGroups s at (record { good = false; count = 0 }) rows
+  grouped-bad g h a e = record { good = sym (sym (p .good) ∙ a .bad h e); fits = omega arith; batch = λ z. absurd (true≢false (sym z)) }
+
+  pub grouped-all : length s < next → 1542 ≤ length rows₀ → ReadsGroups s at (record { good = true; count = n }) rows
+  unfolding areGroups batchOf
+  grouped-all h r =
+      let z : fieldsFrom s next ≡ [] = from-past s next h in
+      let k : n * 6 ≤ length rows = omega (arith, p .few, p .size) in
+      record {
+        good = sym (ap areGroups z) ∙ p .good;
+        fits = k;
+        batch = λ _. given-take rows s n k ∙ sym (append-nil (tab (givenAt rows s) 0 n)) ∙ ap {B = List Request} (λ (l : List Bytes). tab (givenAt rows s) 0 n ++ batchOf l) (sym z) ∙ p .batch;
+      }

@@ -144,3 +144,29 @@ fn put_group(groups: &mut [u64], i: usize, g: Group)
     groups[p4] = g.start;
     groups[p5] = g.length;
 }
+
+// The groups from a position on: whether the fields are whole groups, and their rows.
+fn groups_at(line: &[u8], at: usize, groups: &mut [u64]) -> Groups
+    requires { ⌜ (length (now line) ≤ 1024) × (1542 ≤ length (now groups)) ⌝ }
+    ensures { λ r. ⌜ ReadsGroups (now (line .entry)) at r (now (groups .exit)) ⌝ }
+{
+    let mut next = at;
+    let mut n = 0;
+    while next <= line.len() {
+        let g = group_at(line, next);
+        if g.good {
+            put_group(groups, n, g);
+            next = g.next;
+            n += 1;
+        } else {
+            return Groups {
+                good: false,
+                count: 0,
+            };
+        }
+    }
+    Groups {
+        good: true,
+        count: n,
+    }
+}
