@@ -2,15 +2,15 @@
 use mathlib.Core.Path.{_≡_, refl, sym, ap, _∙_}
 use mathlib.Core.Bool.{Bool, true, false, _&&_, _||_, not, true≢false}
 use mathlib.Core.List.{List, [], _∷_, _++_, append-assoc, append-nil}
-use mathlib.Core.Logic.{inl, inr}
+use mathlib.Core.Logic.{inl}
 use Prim.Native.Nat.{ℕ, _+_, _-_, _*_, _/_, _^_, _≤_, _<_}
-use native.Mathlib.Nat.{add-zero, zero-add}
+use native.Mathlib.Nat.{add-zero, zero-add, sub-zero}
 use native.Mathlib.Decide.{decLt}
 use native.Mathlib.Omega.{arith}
-use lib.Dec.{ltb}
+use lib.Dec.{ltb, leb}
 use lib.ListN.{length, getD, take, drop}
 use lib.Seq.{getD-take, length-take-le}
-use borrow.Author.Tests.{ltb-false, not-true, not-false}
+use borrow.Author.Tests.{le-leb, ltb-false, not-true, not-false}
 use Rattle.words.specs.Part.{part}
 use Rattle.words.specs.Tab.{tab, tab-ext, tab-snoc}
 use Rattle.words.specs.Writes.{writes, Agrees, writes-other, writes-same, length-writes}
@@ -21,23 +21,23 @@ use Rattle.fields.specs.Number.{allDigits, valueOf, hasByte, isNumber, numberAt
 use Rattle.fields.specs.Reads.{noneLeft, between, FirstField, ReadsField, ReadsNumberAt}
 use Rattle.fields.proofs.Laws.{both-first, from-past, none-left, some-left, between-none, length-between}
 use Rattle.bodega.specs.Replica.{Request, Call, Record}
-use Rattle.batch.specs.Batch.{commandAt}
 use Rattle.requests.specs.Given.{givenFrom, givenAt, given}
+use Rattle.bodega.specs.Answers.{Answers}
+use Rattle.node.specs.declared.Node.{Node}
+use Rattle.node.specs.declared.Answered.{Answered}
+use Rattle.node.specs.View.{view, ready, givenOf}
 use Rattle.hosts.specs.Line.{areGroups, commandOf, batchOf, isRecord}
+use Rattle.hosts.specs.Acts.{AnswersLine}
 use Rattle.record_lines.specs.declared.Value.{Value}
 use Rattle.record_lines.specs.declared.Group.{Group}
 use Rattle.record_lines.specs.declared.Groups.{Groups}
-use Rattle.record_lines.specs.Groups.{isValue, FirstValue, ReadsValue, requestIn, rowOf, FirstGroup, ReadsGroup, ReadsGroups}
+use Rattle.record_lines.specs.Groups.{isValue, ReadsValue, requestIn, rowOf, ReadsGroup, ReadsGroups}
 
 -- ---- a VALUE
 
 has-byte : (f : Bytes) → isNumber f ≡ true → hasByte f ≡ true
 unfolding isNumber
 has-byte f e = both-first (hasByte f) (allDigits f) (both-first (hasByte f && allDigits f) (ltb (valueOf f) (2 ^ 64)) e)
-
-or-true : (b : Bool) → b || true ≡ true
-or-true true = refl
-or-true false = refl
 
 in-line : (s : Bytes) (at : ℕ) → noneLeft (fieldsFrom s at) ≡ false → at ≤ length s
 in-line s at e = ltb-false (length s) at (none-left s at ∙ e)
@@ -287,7 +287,7 @@ module _ (s : Bytes) (at : ℕ) (rows₀ rows : List ℕ) (next n : ℕ) (p : Gr
       }
 
   pub grouped-bad : (g : Group) → next ≤ length s → ReadsGroup s next g → g .good ≡ false → ReadsGroups s at (record { good = false; count = 0 }) rows
-  grouped-bad g h a e = record { good = sym (sym (p .good) ∙ a .bad h e); fits = omega arith; batch = λ z. absurd (true≢false (sym z)) }
+  grouped-bad g h a e = record { good = sym (sym (p .good) ∙ a .bad h e); few = omega arith; batch = λ z. absurd (true≢false (sym z)) }
 
   pub grouped-all : length s < next → 1542 ≤ length rows₀ → ReadsGroups s at (record { good = true; count = n }) rows
   unfolding areGroups batchOf
@@ -296,6 +296,57 @@ module _ (s : Bytes) (at : ℕ) (rows₀ rows : List ℕ) (next n : ℕ) (p : Gr
       let k : n * 6 ≤ length rows = omega (arith, p .few, p .size) in
       record {
         good = sym (ap areGroups z) ∙ p .good;
-        fits = k;
+        few = p .few;
         batch = λ _. given-take rows s n k ∙ sym (append-nil (tab (givenAt rows s) 0 n)) ∙ ap {B = List Request} (λ (l : List Bytes). tab (givenAt rows s) 0 n ++ batchOf l) (sym z) ∙ p .batch;
       }
+
+-- ---- the line
+
+-- not well-formed: the first field is no number, the second one, the others are no groups
+no-slot : (fs : List Bytes) → isNumber (getD fs 0 []) ≡ false → isRecord fs ≡ false
+no-slot fs e = rw (e, and-false (leb 2 (length fs)))
+
+no-ballot : (a : Bytes) (fs : List Bytes) → isNumber (getD fs 0 []) ≡ false → isRecord (a ∷ fs) ≡ false
+no-ballot a fs e = rw (e, and-false (leb 2 (length (a ∷ fs)) && isNumber a))
+
+two-numbers : (a b : Bytes) (fs : List Bytes) → isNumber a ≡ true → isNumber b ≡ true → isRecord (a ∷ b ∷ fs) ≡ areGroups fs
+two-numbers a b fs e f = rw (le-leb 2 (length (a ∷ b ∷ fs)) (omega arith), e, f)
+
+module _ (node : Node) (mem area : List ℕ) where
+  refused : (c : Call) (good : Bool) (r : Answered) → good ≡ false → r ≡ record { number = 1; count = 0; node = node } → AnswersLine good c node mem area r mem area
+  refused c good r e k = rw k (record { bad = λ _. record { number = refl; count = refl; sameNode = refl; sameMem = refl; sameArea = refl }; well = λ z. absurd (true≢false (sym z ∙ e)) })
+
+  module _ (s : Bytes) (at : ℕ) (slot : NumberAt) (a : ReadsNumberAt s at slot) where
+    pub line-slot : (c : Call) (r : Answered) → not (slot .good) ≡ true → r ≡ record { number = 1; count = 0; node = node } → AnswersLine (isRecord (fieldsFrom s at)) c node mem area r mem area
+    line-slot c r e k = refused c (isRecord (fieldsFrom s at)) r (no-slot (fieldsFrom s at) (sym (a .good) ∙ not-true (slot .good) e)) k
+
+    module _ (e : not (slot .good) ≡ false) (ballot : NumberAt) (b : ReadsNumberAt s (slot .next) ballot) where
+      is-slot : slot .good ≡ true
+      is-slot = not-false (slot .good) e
+
+      pub line-ballot : (c : Call) (r : Answered) → not (ballot .good) ≡ true → r ≡ record { number = 1; count = 0; node = node } → AnswersLine (isRecord (fieldsFrom s at)) c node mem area r mem area
+      line-ballot c r f k =
+          let n : isRecord (fieldsFrom s at) ≡ false = ap isRecord (a .first is-slot .here) ∙ no-ballot (getD (fieldsFrom s at) 0 []) (fieldsFrom s (slot .next)) (sym (b .good) ∙ not-true (ballot .good) f) in
+          refused c (isRecord (fieldsFrom s at)) r n k
+
+      module _ (f : not (ballot .good) ≡ false) (batch : Groups) (rows : List ℕ) (d : ReadsGroups s (ballot .next) batch rows) where
+        is-ballot : ballot .good ≡ true
+        is-ballot = not-false (ballot .good) f
+
+        both : fieldsFrom s at ≡ getD (fieldsFrom s at) 0 [] ∷ getD (fieldsFrom s (slot .next)) 0 [] ∷ fieldsFrom s (ballot .next)
+        both = a .first is-slot .here ∙ ap {B = List Bytes} (λ l. getD (fieldsFrom s at) 0 [] ∷ l) (b .first is-ballot .here)
+
+        by-groups : isRecord (fieldsFrom s at) ≡ areGroups (fieldsFrom s (ballot .next))
+        by-groups = ap isRecord both ∙ two-numbers (getD (fieldsFrom s at) 0 []) (getD (fieldsFrom s (slot .next)) 0 []) (fieldsFrom s (ballot .next)) (sym (a .good) ∙ is-slot) (sym (b .good) ∙ is-ballot)
+
+        pub line-groups : (c : Call) (r : Answered) → not (batch .good) ≡ true → r ≡ record { number = 1; count = 0; node = node } → AnswersLine (isRecord (fieldsFrom s at)) c node mem area r mem area
+        line-groups c r g k = refused c (isRecord (fieldsFrom s at)) r (by-groups ∙ sym (d .good) ∙ not-true (batch .good) g) k
+
+        pub line-whole : (r : Answered) (mem′ : List ℕ) → not (batch .good) ≡ false → Answers ready view (Record (slot .value) (ballot .value) (given (take (batch .count * 6 - 0) rows) s)) node mem area (givenOf r) mem′ area
+            → AnswersLine (isRecord (fieldsFrom s at)) (Record (numberAt (fieldsFrom s at) 0) (numberAt (fieldsFrom s at) 1) (batchOf (drop 2 (fieldsFrom s at)))) node mem area r mem′ area
+        line-whole r mem′ g w =
+            let t : batch .good ≡ true = not-false (batch .good) g in
+            let n : isRecord (fieldsFrom s at) ≡ true = by-groups ∙ sym (d .good) ∙ t in
+            let x : ballot .value ≡ numberAt (fieldsFrom s at) 1 = b .first is-ballot .value ∙ ap (λ (l : List Bytes). numberAt l 1) (sym both) in
+            let y : given (take (batch .count * 6 - 0) rows) s ≡ batchOf (drop 2 (fieldsFrom s at)) = rw (sub-zero (batch .count * 6)) (d .batch t ∙ ap (λ (l : List Bytes). batchOf (drop 2 l)) (sym both)) in
+            record { bad = λ z. absurd (true≢false (sym n ∙ z)); well = λ _. (rw (a .first is-slot .value, x, y) at w) }

@@ -51,5 +51,5 @@ pub record ReadsGroup (s : Bytes) (at : ℕ) (g : Group) : Type 0 where
 
 pub record ReadsGroups (s : Bytes) (at : ℕ) (r : Groups) (rows : List ℕ) : Type 0 where
   pub good : r .good ≡ areGroups (fieldsFrom s at)
-  pub fits : r .count * 6 ≤ length rows
+  pub few : r .count ≤ 257
   pub batch : r .good ≡ true → given (take (r .count * 6) rows) s ≡ batchOf (fieldsFrom s at)

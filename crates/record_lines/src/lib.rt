@@ -170,3 +170,43 @@ fn groups_at(line: &[u8], at: usize, groups: &mut [u64]) -> Groups
         count: n,
     }
 }
+
+fn malformed(node: Node) -> Answered
+    ensures { λ r. ⌜ r ≡ record { number = 1; count = 0; node = node } ⌝ }
+{
+    Answered {
+        number: 1,
+        count: 0,
+        node,
+    }
+}
+
+// The fields after the line's name: SLOT,BALLOT and the groups.
+pub fn record_line(
+    node: Node,
+    mem: &mut [u64],
+    area: &[u64],
+    groups: &mut [u64],
+    line: &[u8],
+    at: usize,
+) -> Answered
+    requires { ⌜ (length (now line) ≤ 1024) × (1542 ≤ length (now groups)) ⌝ }
+    ensures { λ r. ⌜ AnswersLine (isRecord (fieldsFrom (now (line .entry)) at)) (Record (numberAt (fieldsFrom (now (line .entry)) at) 0) (numberAt (fieldsFrom (now (line .entry)) at) 1) (batchOf (drop 2 (fieldsFrom (now (line .entry)) at)))) node (now (mem .entry)) (now (area .entry)) r (now (mem .exit)) (now (area .entry)) ⌝ }
+{
+    let slot = number_at(line, at);
+    if !slot.good {
+        return malformed(node);
+    }
+    let ballot = number_at(line, slot.next);
+    if !ballot.good {
+        return malformed(node);
+    }
+    let batch = groups_at(line, ballot.next, groups);
+    if !batch.good {
+        return malformed(node);
+    }
+    let words = batch.count * 6;
+    let to = Slot(slot.value);
+    let of = Ballot(ballot.value);
+    record::record(node, mem, area, to, of, &groups[0..words], line)
+}
