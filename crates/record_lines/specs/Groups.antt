@@ -1,4 +1,4 @@
--- What is read of a record line's groups CLIENT,REQUEST,KEY,VALUE. Assumes nothing: these are definitions.
+-- Document 01, "The event program": what is read of a record line's groups CLIENT,REQUEST,KEY,VALUE. Assumes nothing: these are definitions.
 use mathlib.Core.Path.{_≡_}
 use mathlib.Core.Bool.{Bool, true, false, _&&_, _||_, not}
 use mathlib.Core.List.{List, [], _∷_}
@@ -16,7 +16,7 @@ use Rattle.record_lines.specs.declared.Value.{Value}
 use Rattle.record_lines.specs.declared.Group.{Group}
 use Rattle.record_lines.specs.declared.Groups.{Groups}
 
--- a VALUE: there is a field, empty or a number
+-- "empty VALUE meaning a Get": there is a field, empty or a number
 abbrev pub isValue : List Bytes → Bool
 isValue fs = not (noneLeft fs) && (not (hasByte (getD fs 0 [])) || isNumber (getD fs 0 []))
 
@@ -47,7 +47,7 @@ pub record ReadsGroup (s : Bytes) (at : ℕ) (g : Group) : Type 0 where
   pub first : g .good ≡ true → FirstGroup s at g
   pub bad : at ≤ length s → g .good ≡ false → areGroups (fieldsFrom s at) ≡ false
 
--- ---- all of them: whether the fields that are left are whole groups, and their rows
+-- ---- all of them: whether the fields that are left are whole groups, and their rows; each group takes at least four positions of a line of at most 1,024 bytes
 
 pub record ReadsGroups (s : Bytes) (at : ℕ) (r : Groups) (rows : List ℕ) : Type 0 where
   pub good : r .good ≡ areGroups (fieldsFrom s at)
