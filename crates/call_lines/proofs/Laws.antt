@@ -1,0 +1,271 @@
+-- A line's fields as a call's arguments. Assumes nothing.
+use mathlib.Core.Path.{_≡_, refl, sym, ap, subst, _∙_, fun-ext}
+use mathlib.Core.Bool.{Bool, true, false, not, _&&_, _||_}
+use mathlib.Core.List.{List, [], _∷_, _++_}
+use mathlib.Core.Option.{Option, none, some}
+use Prim.Native.Nat.{ℕ, _<_, _≤_}
+use native.Mathlib.Omega.{arith}
+use lib.Dec.{leb, ltb, eqb}
+use lib.ListN.{length, getD}
+use borrow.Author.Tests.{le-leb, lt-ltb, le-ltb, ltb-false, ne-eqb, eq-eqb, not-true, not-false}
+use Rattle.words.specs.Choice.{if_then_else_}
+use Rattle.items.specs.Item.{places}
+use Rattle.responders.specs.Edits.{holdsRows}
+use Rattle.responders.specs.Conf.{Conf}
+use Rattle.bodega.specs.Replica.{Call, Heartbeat, Guard, Reply, Notice, CommitNotice, Read}
+use Rattle.bodega.specs.Grounds.{grounds}
+use Rattle.bodega.specs.Step.{turnedAway}
+use Rattle.bodega.specs.Answers.{Answers}
+use Rattle.node.specs.declared.Node.{Node}
+use Rattle.node.specs.declared.Answered.{Answered}
+use Rattle.node.specs.View.{view, ready, givenOf}
+use Rattle.node.proofs.Calls.{is-ready, gives-2, refused}
+use Rattle.fields.specs.Split.{Bytes, fieldsFrom}
+use Rattle.fields.specs.Number.{isNumber, valueOf, numbers, numberAt}
+use Rattle.fields.specs.Reads.{noneLeft, between, ReadsField, ReadsNumberAt, ReadsNumbers}
+use Rattle.fields.specs.declared.Field.{Field}
+use Rattle.fields.specs.declared.NumberAt.{NumberAt}
+use Rattle.fields.proofs.Laws.{all-read, none-left}
+use Rattle.heartbeat.specs.Heartbeat.{fitting}
+use Rattle.hosts.specs.Line.{isHeard, isRead}
+use Rattle.hosts.specs.Acts.{AnswersLine}
+use Rattle.call_lines.specs.declared.ReadFields.{ReadFields}
+use Rattle.call_lines.specs.ReadsRead.{ReadsRead}
+
+-- ---- a replica number that no byte has
+
+module _ (n : Node) (m : List ℕ) (places peer : ℕ) (h : 255 < peer) (e : ready n m ≡ true) where
+  past : leb (n .population) peer ≡ true
+  past = le-leb (n .population) peer (omega (arith, is-ready n m true (sym e) refl))
+
+  pub guard-3 : (number bar : ℕ) → turnedAway (view n m) (Guard peer number bar) places ≡ some 3
+  unfolding turnedAway grounds view
+  guard-3 number bar = rw past
+
+  pub reply-3 : (slot ballot : ℕ) → turnedAway (view n m) (Reply peer slot ballot) places ≡ some 3
+  unfolding turnedAway grounds view
+  reply-3 slot ballot = rw past
+
+  pub notice-3 : (slot ballot : ℕ) → turnedAway (view n m) (Notice peer slot ballot) places ≡ some 3
+  unfolding turnedAway grounds view
+  notice-3 slot ballot = rw past
+
+  pub commit-3 : (ballot bar : ℕ) → turnedAway (view n m) (CommitNotice peer ballot bar) places ≡ some 3
+  unfolding turnedAway grounds view
+  commit-3 ballot bar = rw past
+
+  pub heartbeat-3 : (ballot : ℕ) (conf : Option Conf) (commit exec snap : ℕ) → turnedAway (view n m) (Heartbeat peer ballot conf commit exec snap) places ≡ some 3
+  unfolding turnedAway grounds view
+  heartbeat-3 ballot conf commit exec snap = rw past
+
+pub foreign : (c : Call) (n : Node) (m area : List ℕ) (r : Answered) → r ≡ record { number = if ready n m then 3 else 2; count = 0; node = n }
+    → (ready n m ≡ true → turnedAway (view n m) c (places area) ≡ some 3) → Answers ready view c n m area (givenOf r) m area
+foreign c n m area r e f = rw e (go (ready n m) refl)
+  where
+    go : (t : Bool) → t ≡ ready n m → Answers ready view c n m area (record { number = if t then 3 else 2; count = 0; node = n }) m area
+    go true g = refused c n m area true g refl 3 (f (sym g))
+    go false g = gives-2 c n m area false g refl
+
+pub byte-3 : (n : Node) (m : List ℕ) (t : Bool) → t ≡ ready n m → t ≡ true → _≡_ {A = Answered} (record { number = 3; count = 0; node = n }) (record { number = if ready n m then 3 else 2; count = 0; node = n })
+byte-3 n m t e f = rw (sym e ∙ f)
+
+pub byte-2 : (n : Node) (m : List ℕ) (t : Bool) → t ≡ ready n m → t ≡ false → _≡_ {A = Answered} (record { number = 2; count = 0; node = n }) (record { number = if ready n m then 3 else 2; count = 0; node = n })
+byte-2 n m t e f = rw (sym e ∙ f)
+
+-- ---- fields that are not well-formed
+
+pub malformed : (good : Bool) (c : Call) (n : Node) (m area : List ℕ) (r : Answered) → good ≡ false → r ≡ record { number = 1; count = 0; node = n }
+    → AnswersLine good c n m area r m area
+malformed good c n m area r g e =
+    record {
+      bad = λ b. rw e (record { number = refl; count = refl; sameNode = refl; sameMem = refl; sameArea = refl });
+      well = λ b. let z : false ≡ true = sym g ∙ b in let o : _≡_ {A = ℕ} 0 1 = cc in absurd (omega arith);
+    }
+
+pub well-formed : (good : Bool) (c : Call) (n : Node) (m area m′ area′ : List ℕ) (r : Answered) → good ≡ true → Answers ready view c n m area (givenOf r) m′ area′
+    → AnswersLine good c n m area r m′ area′
+well-formed good c n m area m′ area′ r g h =
+    record {
+      bad = λ b. let z : false ≡ true = sym b ∙ g in let o : _≡_ {A = ℕ} 0 1 = cc in absurd (omega arith);
+      well = λ b. h;
+    }
+
+module _ (s : Bytes) (at k : ℕ) (out out′ : List ℕ) (b : Bool) (h : ReadsNumbers s at k out b out′) where
+  pub not-numbers : (c : Call) (n : Node) (m area : List ℕ) (r : Answered) → not b ≡ true → r ≡ record { number = 1; count = 0; node = n }
+      → AnswersLine (numbers k (fieldsFrom s at)) c n m area r m area
+  not-numbers c n m area r f e = malformed _ c n m area r (sym (h .good) ∙ not-true b f) e
+
+  module _ (f : not b ≡ false) where
+    are-numbers : numbers k (fieldsFrom s at) ≡ true
+    are-numbers = sym (h .good) ∙ not-false b f
+
+    value : (i : ℕ) → i < k → getD out′ i 0 ≡ numberAt (fieldsFrom s at) i
+    value i l = h .values (not-false b f) i l
+
+    module _ (n : Node) (m area m′ area′ : List ℕ) (r : Answered) where
+      pub one : (c : ℕ → Call) → 0 < k → Answers ready view (c (getD out′ 0 0)) n m area (givenOf r) m′ area′
+          → AnswersLine (numbers k (fieldsFrom s at)) (c (numberAt (fieldsFrom s at) 0)) n m area r m′ area′
+      one c l a = well-formed _ _ n m area m′ area′ r are-numbers (rw (value 0 l) at a)
+
+      pub three : (c : ℕ → ℕ → ℕ → Call) → 2 < k → Answers ready view (c (getD out′ 0 0) (getD out′ 1 0) (getD out′ 2 0)) n m area (givenOf r) m′ area′
+          → AnswersLine (numbers k (fieldsFrom s at)) (c (numberAt (fieldsFrom s at) 0) (numberAt (fieldsFrom s at) 1) (numberAt (fieldsFrom s at) 2)) n m area r m′ area′
+      three c l a = well-formed _ _ n m area m′ area′ r are-numbers (rw (value 0 (omega arith), value 1 (omega arith), value 2 l) at a)
+
+      pub four : (c : ℕ → ℕ → ℕ → ℕ → Call) → 3 < k → Answers ready view (c (getD out′ 0 0) (getD out′ 1 0) (getD out′ 2 0) (getD out′ 3 0)) n m area (givenOf r) m′ area′
+          → AnswersLine (numbers k (fieldsFrom s at)) (c (numberAt (fieldsFrom s at) 0) (numberAt (fieldsFrom s at) 1) (numberAt (fieldsFrom s at) 2) (numberAt (fieldsFrom s at) 3)) n m area r m′ area′
+      four c l a = well-formed _ _ n m area m′ area′ r are-numbers (rw (value 0 (omega arith), value 1 (omega arith), value 2 (omega arith), value 3 l) at a)
+
+-- ---- a heartbeat
+
+and-true : (b : Bool) → b && true ≡ b
+and-true true = refl
+and-true false = refl
+
+fits-roster : (attached : Bool) (count : ℕ) (rows : List ℕ) → holdsRows (length rows) count ≡ true → fitting attached count rows ≡ true
+fits-roster true count rows h = h
+fits-roster false count rows h = refl
+
+-- a roster that is whole asks no more of the node
+pub whole-roster : (attached : Bool) (count : ℕ) (rows : List ℕ) (c : Call) (n : Node) (m area m′ area′ : List ℕ) (r : Answered) → holdsRows (length rows) count ≡ true
+    → Answers (λ (k : Node) (w : List ℕ). ready k w && fitting attached count rows) view c n m area (givenOf r) m′ area′ → Answers ready view c n m area (givenOf r) m′ area′
+whole-roster attached count rows c n m area m′ area′ r e h =
+    subst (λ (f : Node → List ℕ → Bool). Answers f view c n m area (givenOf r) m′ area′)
+    (fun-ext (λ (k : Node). fun-ext (λ (w : List ℕ). ap (λ (b : Bool). ready k w && b) (fits-roster attached count rows e) ∙ and-true (ready k w))))
+    h
+
+module _ (s : Bytes) (at : ℕ) (out out′ : List ℕ) (b : Bool) (h : ReadsNumbers s at 6 out b out′) where
+  pub not-heard : (c : Call) (n : Node) (m area : List ℕ) (r : Answered) → not b ≡ true → r ≡ record { number = 1; count = 0; node = n }
+      → AnswersLine (isHeard (fieldsFrom s at)) c n m area r m area
+  not-heard c n m area r f e = malformed _ c n m area r (ap (λ (x : Bool). x && ltb (numberAt (fieldsFrom s at) 2) 2) (sym (h .good) ∙ not-true b f)) e
+
+  module _ (f : not b ≡ false) where
+    with-is : getD out′ 2 0 ≡ numberAt (fieldsFrom s at) 2
+    with-is = value s at 6 out out′ b h f 2 (omega arith)
+
+    pub other-with : (c : Call) (n : Node) (m area : List ℕ) (r : Answered) → 1 < getD out′ 2 0 → r ≡ record { number = 1; count = 0; node = n }
+        → AnswersLine (isHeard (fieldsFrom s at)) c n m area r m area
+    other-with c n m area r g e =
+        malformed _ c n m area r (rw (are-numbers s at 6 out out′ b h f, le-ltb (numberAt (fieldsFrom s at) 2) 2 (omega (arith, with-is)))) e
+
+    pub is-heard : (c : ℕ → ℕ → Bool → ℕ → ℕ → ℕ → Call) (n : Node) (m area m′ area′ : List ℕ) (r : Answered) → getD out′ 2 0 ≤ 1
+        → Answers ready view (c (getD out′ 0 0) (getD out′ 1 0) (eqb (getD out′ 2 0) 1) (getD out′ 3 0) (getD out′ 4 0) (getD out′ 5 0)) n m area (givenOf r) m′ area′
+        → AnswersLine (isHeard (fieldsFrom s at))
+        (c (numberAt (fieldsFrom s at) 0) (numberAt (fieldsFrom s at) 1) (eqb (numberAt (fieldsFrom s at) 2) 1) (numberAt (fieldsFrom s at) 3) (numberAt (fieldsFrom s at) 4) (numberAt (fieldsFrom s at) 5)) n m
+        area r m′ area′
+    is-heard c n m area m′ area′ r g a =
+        let v = value s at 6 out out′ b h f in
+        well-formed _ _ n m area m′ area′ r (rw (are-numbers s at 6 out out′ b h f, lt-ltb (numberAt (fieldsFrom s at) 2) 2 (omega (arith, with-is))))
+        (rw (v 0 (omega arith), v 1 (omega arith), with-is, v 3 (omega arith), v 4 (omega arith), v 5 (omega arith)) at a)
+
+-- ---- a read
+
+module _ (fs : List Bytes) where
+  not-1 : isNumber (getD fs 0 []) ≡ false → isRead fs ≡ false
+  not-1 e = rw e (go (eqb (length fs) 4) (isNumber (getD fs 1 [])) (isNumber (getD fs 2 [])))
+    where
+      go : (a c d : Bool) → a && false && c && d ≡ false
+      go true c d = refl
+      go false c d = refl
+
+  not-2 : isNumber (getD fs 1 []) ≡ false → isRead fs ≡ false
+  not-2 e = rw e (go (eqb (length fs) 4 && isNumber (getD fs 0 [])) (isNumber (getD fs 2 [])))
+    where
+      go : (a d : Bool) → a && false && d ≡ false
+      go true d = refl
+      go false d = refl
+
+  not-3 : isNumber (getD fs 2 []) ≡ false → isRead fs ≡ false
+  not-3 e = rw e (go (eqb (length fs) 4 && isNumber (getD fs 0 []) && isNumber (getD fs 1 [])))
+    where
+      go : (a : Bool) → a && false ≡ false
+      go true = refl
+      go false = refl
+
+-- by how many fields are left after three
+many : (l : List Bytes) → noneLeft l ≡ false → length l ≡ 0 → ⊥
+many [] n e = let o : _≡_ {A = ℕ} 0 1 = cc in absurd (omega arith)
+many (f ∷ l) n e = absurd (omega arith)
+
+not-read : (s : Bytes) (at : ℕ) (r : ReadFields) → r .good ≡ false → isRead (fieldsFrom s at) ≡ false → ReadsRead s at r
+not-read s at r e g = record { good = e ∙ sym g; well = λ w. let z : false ≡ true = sym e ∙ w in let o : _≡_ {A = ℕ} 0 1 = cc in absurd (omega arith) }
+
+module _ (s : Bytes) (at : ℕ) (x : NumberAt) (h : ReadsNumberAt s at x) where
+  pub bad-client : (r : ReadFields) → not (x .good) ≡ true → r .good ≡ false → ReadsRead s at r
+  bad-client r f e = not-read s at r e (not-1 (fieldsFrom s at) (sym (h .good) ∙ not-true (x .good) f))
+
+  module _ (f : not (x .good) ≡ false) (y : NumberAt) (i : ReadsNumberAt s (x .next) y) where
+    one-field : fieldsFrom s at ≡ getD (fieldsFrom s at) 0 [] ∷ fieldsFrom s (x .next)
+    one-field = h .first (not-false (x .good) f) .here
+
+    second : getD (fieldsFrom s at) 1 [] ≡ getD (fieldsFrom s (x .next)) 0 []
+    second = ap (λ (l : List Bytes). getD l 1 []) one-field
+
+    pub bad-request : (r : ReadFields) → not (y .good) ≡ true → r .good ≡ false → ReadsRead s at r
+    bad-request r g e = not-read s at r e (not-2 (fieldsFrom s at) (ap isNumber second ∙ sym (i .good) ∙ not-true (y .good) g))
+
+    module _ (g : not (y .good) ≡ false) (z : NumberAt) (j : ReadsNumberAt s (y .next) z) where
+      two-fields : fieldsFrom s at ≡ getD (fieldsFrom s at) 0 [] ∷ getD (fieldsFrom s (x .next)) 0 [] ∷ fieldsFrom s (y .next)
+      two-fields = one-field ∙ ap (λ (l : List Bytes). getD (fieldsFrom s at) 0 [] ∷ l) (i .first (not-false (y .good) g) .here)
+
+      third : getD (fieldsFrom s at) 2 [] ≡ getD (fieldsFrom s (y .next)) 0 []
+      third = ap (λ (l : List Bytes). getD l 2 []) two-fields
+
+      pub bad-leases : (r : ReadFields) → not (z .good) ≡ true → r .good ≡ false → ReadsRead s at r
+      bad-leases r k e = not-read s at r e (not-3 (fieldsFrom s at) (ap isNumber third ∙ sym (j .good) ∙ not-true (z .good) k))
+
+      module _ (k : not (z .good) ≡ false) where
+        three-fields : fieldsFrom s at ≡ getD (fieldsFrom s at) 0 [] ∷ getD (fieldsFrom s (x .next)) 0 [] ∷ getD (fieldsFrom s (y .next)) 0 [] ∷ fieldsFrom s (z .next)
+        three-fields = two-fields ∙ ap (λ (l : List Bytes). getD (fieldsFrom s at) 0 [] ∷ getD (fieldsFrom s (x .next)) 0 [] ∷ l) (j .first (not-false (z .good) k) .here)
+
+        not-four : (r : ReadFields) → r .good ≡ false → (length (fieldsFrom s (z .next)) ≡ 1 → ⊥) → ReadsRead s at r
+        not-four r e n = not-read s at r e (rw (ne-eqb (length (fieldsFrom s at)) 4 (λ l. n (omega (arith, ap length three-fields)))))
+
+        pub no-key : (r : ReadFields) (t : Bool) → t ≡ noneLeft (fieldsFrom s (z .next)) → t ≡ true → r .good ≡ false → ReadsRead s at r
+        no-key r t n q e = not-four r e (λ l. absurd (omega (arith, ap length (all-read (fieldsFrom s (z .next)) (sym n ∙ q)))))
+
+        module _ (t : Bool) (n : t ≡ noneLeft (fieldsFrom s (z .next))) (q : t ≡ false) (w : Field) (o : ReadsField s (z .next) w) (u : Bool) (v : u ≡ noneLeft (fieldsFrom s (w .next))) where
+          within : z .next ≤ length s
+          within = ltb-false (length s) (z .next) (none-left s (z .next) ∙ sym n ∙ q)
+
+          fourth : fieldsFrom s (z .next) ≡ between s (w .start) (w .end) ∷ fieldsFrom s (w .next)
+          fourth = o .first within .here
+
+          pub fifth : (r : ReadFields) → not u ≡ true → r .good ≡ false → ReadsRead s at r
+          fifth r p e = not-four r e (λ l. many (fieldsFrom s (w .next)) (sym v ∙ not-true u p) (omega (arith, ap length fourth)))
+
+          pub is-read : not u ≡ false
+              → ReadsRead s at (record { good = true; client = x .value; request = y .value; leases = z .value; start = w .start; end = w .end })
+          is-read p =
+              let four : fieldsFrom s at ≡ getD (fieldsFrom s at) 0 [] ∷ getD (fieldsFrom s (x .next)) 0 [] ∷ getD (fieldsFrom s (y .next)) 0 [] ∷ between s (w .start) (w .end) ∷ [] =
+              three-fields
+              ∙ ap (λ (l : List Bytes). getD (fieldsFrom s at) 0 [] ∷ getD (fieldsFrom s (x .next)) 0 [] ∷ getD (fieldsFrom s (y .next)) 0 [] ∷ l)
+              (fourth ∙ ap (λ (l : List Bytes). between s (w .start) (w .end) ∷ l) (all-read (fieldsFrom s (w .next)) (sym v ∙ not-false u p))) in
+              let g0 = not-false (x .good) f in
+              let g1 = not-false (y .good) g in
+              let g2 = not-false (z .good) k in
+              record {
+                good = sym (rw (eq-eqb (length (fieldsFrom s at)) 4 (ap length four), sym (h .good) ∙ g0, ap isNumber second ∙ sym (i .good) ∙ g1, ap isNumber third ∙ sym (j .good) ∙ g2));
+                well = λ e.
+                    record {
+                      client = h .first g0 .value;
+                      request = i .first g1 .value ∙ sym (ap valueOf second);
+                      leases = j .first g2 .value ∙ sym (ap valueOf third);
+                      low = omega (arith, o .first within);
+                      high = o .first within .high;
+                      key = sym (ap (λ (l : List Bytes). getD l 3 []) four);
+                    };
+              }
+
+-- ---- the key of a read
+
+pub read-bad : (s : Bytes) (at : ℕ) (f : ReadFields) (c : Call) (n : Node) (m area : List ℕ) (r : Answered) → ReadsRead s at f → not (f .good) ≡ true → r ≡ record { number = 1; count = 0; node = n }
+    → AnswersLine (isRead (fieldsFrom s at)) c n m area r m area
+read-bad s at f c n m area r h g e = malformed _ c n m area r (sym (h .good) ∙ not-true (f .good) g) e
+
+pub read-well : (s : Bytes) (at : ℕ) (f : ReadFields) (n : Node) (m area m′ area′ : List ℕ) (r : Answered) → ReadsRead s at f → not (f .good) ≡ false
+    → Answers ready view (Read (f .leases) (record { client = f .client; request = f .request; key = between s (f .start) (f .end) })) n m area (givenOf r) m′ area′
+    → AnswersLine (isRead (fieldsFrom s at))
+    (Read (numberAt (fieldsFrom s at) 2) (record { client = numberAt (fieldsFrom s at) 0; request = numberAt (fieldsFrom s at) 1; key = getD (fieldsFrom s at) 3 [] })) n m area r m′ area′
+read-well s at f n m area m′ area′ r h g a =
+    let w = h .well (not-false (f .good) g) in
+    well-formed _ _ n m area m′ area′ r (sym (h .good) ∙ not-false (f .good) g) (rw (w .client, w .request, w .leases, w .key) at a)

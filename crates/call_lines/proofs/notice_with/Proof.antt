@@ -1,0 +1,41 @@
+use Rattle.call_lines.proofs.Laws as law
+use borrow.Author.Needs.{needs}
+use Rattle.call_lines.proofs.notice_with.Statement.{statement}
+use Rattle.call_lines.proofs.notice_with.Tie as tie
+
+foreign-requires : tie.Need-foreign-requires
+foreign-requires c κs = search needs
+
+same-length : tie.Need-same-length
+same-length c = search needs
+
+returns : tie.Need-returns
+returns c = law.foreign _ _ _ _ _ (c .foreign .ensures) (λ e. law.notice-3 _ _ _ _ (c .before .before .if1 .taken) e _ _)
+
+cast-t14 : tie.Need-cast-t14
+cast-t14 c = search needs
+
+notice-requires : tie.Need-notice-requires
+notice-requires c κs = search needs
+
+same-length-2 : tie.Need-same-length-2
+same-length-2 c = search needs
+
+same-length-3 : tie.Need-same-length-3
+same-length-3 c = search needs
+
+returns-2 : tie.Need-returns-2
+returns-2 c = search needs
+
+pub notice-with-spec : {M : Type 1} → statement M
+notice-with-spec =
+    tie.close
+    (tie.spec
+    foreign-requires
+    same-length
+    returns
+    cast-t14
+    notice-requires
+    same-length-2
+    same-length-3
+    returns-2)

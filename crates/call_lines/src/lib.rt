@@ -1,0 +1,381 @@
+// The lines of the calls: a line's fields, from a position on, are the call's arguments. A line whose fields are not well-formed is refused 1.
+use ids::Ballot;
+use ids::Replica;
+use ids::Slot;
+use node::Answered;
+use node::Node;
+use responders::RespondersConf;
+ghost use mathlib.Core.Path.{_≡_};
+ghost use mathlib.Core.Bool.{true, false};
+ghost use mathlib.Core.List.{[]};
+ghost use lib.Dec.{eqb};
+ghost use lib.ListN.{length, getD};
+ghost use Rattle.words.specs.Choice.{if_then_else_};
+ghost use Rattle.fields.specs.Split.{fieldsFrom};
+ghost use Rattle.fields.specs.Number.{numbers, numberAt};
+ghost use Rattle.responders.specs.Edits.{view as rosterOf, holdsRows};
+ghost use Rattle.bodega.specs.Replica.{Heartbeat, Guard, Prepared, Reply, Notice, CommitNotice, Bars, Read, Release};
+ghost use Rattle.bodega.specs.Answers.{Answers};
+ghost use Rattle.node.specs.View.{view, ready, givenOf};
+ghost use Rattle.heartbeat.specs.Heartbeat.{carried};
+ghost use Rattle.hosts.specs.Line.{isHeard, isRead};
+ghost use Rattle.hosts.specs.Acts.{AnswersLine};
+ghost use Rattle.call_lines.specs.ReadsRead.{ReadsRead};
+
+fn malformed(node: Node) -> Answered
+    ensures { λ r. ⌜ r ≡ record { number = 1; count = 0; node = node } ⌝ }
+{
+    Answered {
+        number: 1,
+        count: 0,
+        node,
+    }
+}
+
+// What a call answers to a replica number that no byte has: 2 where no call made the node, else 3.
+fn foreign(node: Node, mem: &[u64]) -> Answered
+    ensures { λ r. ⌜ r ≡ record { number = if ready node (now (mem .entry)) then 3 else 2; count = 0; node = node } ⌝ }
+{
+    if node::is_ready(node, mem) {
+        return Answered {
+            number: 3,
+            count: 0,
+            node,
+        };
+    }
+    Answered {
+        number: 2,
+        count: 0,
+        node,
+    }
+}
+
+fn guard_with(
+    node: Node,
+    mem: &mut [u64],
+    area: &[u64],
+    peer: u64,
+    number: u64,
+    bar: u64,
+) -> Answered
+    ensures { λ r. ⌜ Answers ready view (Guard peer number bar) node (now (mem .entry)) (now (area .entry)) (givenOf r) (now (mem .exit)) (now (area .entry)) ⌝ }
+{
+    if 255 < peer {
+        return foreign(node, mem);
+    }
+    guard::guard(
+        node,
+        mem,
+        area,
+        Replica(peer as u8),
+        Ballot(number),
+        Slot(bar),
+    )
+}
+
+pub fn guard_line(node: Node, mem: &mut [u64], area: &[u64], line: &[u8], at: usize) -> Answered
+    ensures { λ r. ⌜ AnswersLine (numbers 3 (fieldsFrom (now (line .entry)) at)) (Guard (numberAt (fieldsFrom (now (line .entry)) at) 0) (numberAt (fieldsFrom (now (line .entry)) at) 1) (numberAt (fieldsFrom (now (line .entry)) at) 2)) node (now (mem .entry)) (now (area .entry)) r (now (mem .exit)) (now (area .entry)) ⌝ }
+{
+    let mut a = [0u64; 3];
+    if !fields::numbers(line, at, 3, &mut a) {
+        return malformed(node);
+    }
+    guard_with(node, mem, area, a[0], a[1], a[2])
+}
+
+pub fn prepared_line(node: Node, mem: &[u64], area: &[u64], line: &[u8], at: usize) -> Answered
+    ensures { λ r. ⌜ AnswersLine (numbers 1 (fieldsFrom (now (line .entry)) at)) (Prepared (numberAt (fieldsFrom (now (line .entry)) at) 0)) node (now (mem .entry)) (now (area .entry)) r (now (mem .entry)) (now (area .entry)) ⌝ }
+{
+    let mut a = [0u64; 1];
+    if !fields::numbers(line, at, 1, &mut a) {
+        return malformed(node);
+    }
+    prepared::prepared(node, mem, area, Ballot(a[0]))
+}
+
+fn reply_with(
+    node: Node,
+    mem: &mut [u64],
+    area: &mut [u64],
+    peer: u64,
+    slot: u64,
+    ballot: u64,
+) -> Answered
+    ensures { λ r. ⌜ Answers ready view (Reply peer slot ballot) node (now (mem .entry)) (now (area .entry)) (givenOf r) (now (mem .exit)) (now (area .exit)) ⌝ }
+{
+    if 255 < peer {
+        return foreign(node, mem);
+    }
+    reply::reply(
+        node,
+        mem,
+        area,
+        Replica(peer as u8),
+        Slot(slot),
+        Ballot(ballot),
+    )
+}
+
+pub fn reply_line(node: Node, mem: &mut [u64], area: &mut [u64], line: &[u8], at: usize) -> Answered
+    ensures { λ r. ⌜ AnswersLine (numbers 3 (fieldsFrom (now (line .entry)) at)) (Reply (numberAt (fieldsFrom (now (line .entry)) at) 0) (numberAt (fieldsFrom (now (line .entry)) at) 1) (numberAt (fieldsFrom (now (line .entry)) at) 2)) node (now (mem .entry)) (now (area .entry)) r (now (mem .exit)) (now (area .exit)) ⌝ }
+{
+    let mut a = [0u64; 3];
+    if !fields::numbers(line, at, 3, &mut a) {
+        return malformed(node);
+    }
+    reply_with(node, mem, area, a[0], a[1], a[2])
+}
+
+fn notice_with(
+    node: Node,
+    mem: &mut [u64],
+    area: &mut [u64],
+    peer: u64,
+    slot: u64,
+    ballot: u64,
+) -> Answered
+    ensures { λ r. ⌜ Answers ready view (Notice peer slot ballot) node (now (mem .entry)) (now (area .entry)) (givenOf r) (now (mem .exit)) (now (area .exit)) ⌝ }
+{
+    if 255 < peer {
+        return foreign(node, mem);
+    }
+    notice::notice(
+        node,
+        mem,
+        area,
+        Replica(peer as u8),
+        Slot(slot),
+        Ballot(ballot),
+    )
+}
+
+pub fn notice_line(
+    node: Node,
+    mem: &mut [u64],
+    area: &mut [u64],
+    line: &[u8],
+    at: usize,
+) -> Answered
+    ensures { λ r. ⌜ AnswersLine (numbers 3 (fieldsFrom (now (line .entry)) at)) (Notice (numberAt (fieldsFrom (now (line .entry)) at) 0) (numberAt (fieldsFrom (now (line .entry)) at) 1) (numberAt (fieldsFrom (now (line .entry)) at) 2)) node (now (mem .entry)) (now (area .entry)) r (now (mem .exit)) (now (area .exit)) ⌝ }
+{
+    let mut a = [0u64; 3];
+    if !fields::numbers(line, at, 3, &mut a) {
+        return malformed(node);
+    }
+    notice_with(node, mem, area, a[0], a[1], a[2])
+}
+
+fn commit_with(
+    node: Node,
+    mem: &mut [u64],
+    area: &mut [u64],
+    peer: u64,
+    ballot: u64,
+    bar: u64,
+) -> Answered
+    ensures { λ r. ⌜ Answers ready view (CommitNotice peer ballot bar) node (now (mem .entry)) (now (area .entry)) (givenOf r) (now (mem .exit)) (now (area .exit)) ⌝ }
+{
+    if 255 < peer {
+        return foreign(node, mem);
+    }
+    commit::commit(
+        node,
+        mem,
+        area,
+        Replica(peer as u8),
+        Ballot(ballot),
+        Slot(bar),
+    )
+}
+
+pub fn commit_line(
+    node: Node,
+    mem: &mut [u64],
+    area: &mut [u64],
+    line: &[u8],
+    at: usize,
+) -> Answered
+    ensures { λ r. ⌜ AnswersLine (numbers 3 (fieldsFrom (now (line .entry)) at)) (CommitNotice (numberAt (fieldsFrom (now (line .entry)) at) 0) (numberAt (fieldsFrom (now (line .entry)) at) 1) (numberAt (fieldsFrom (now (line .entry)) at) 2)) node (now (mem .entry)) (now (area .entry)) r (now (mem .exit)) (now (area .exit)) ⌝ }
+{
+    let mut a = [0u64; 3];
+    if !fields::numbers(line, at, 3, &mut a) {
+        return malformed(node);
+    }
+    commit_with(node, mem, area, a[0], a[1], a[2])
+}
+
+pub fn bars_line(node: Node, mem: &mut [u64], area: &[u64], line: &[u8], at: usize) -> Answered
+    ensures { λ r. ⌜ AnswersLine (numbers 4 (fieldsFrom (now (line .entry)) at)) (Bars (numberAt (fieldsFrom (now (line .entry)) at) 0) (numberAt (fieldsFrom (now (line .entry)) at) 1) (numberAt (fieldsFrom (now (line .entry)) at) 2) (numberAt (fieldsFrom (now (line .entry)) at) 3)) node (now (mem .entry)) (now (area .entry)) r (now (mem .exit)) (now (area .entry)) ⌝ }
+{
+    let mut a = [0u64; 4];
+    if !fields::numbers(line, at, 4, &mut a) {
+        return malformed(node);
+    }
+    bars::bars(
+        node,
+        mem,
+        area,
+        Slot(a[0]),
+        Slot(a[1]),
+        Slot(a[2]),
+        Slot(a[3]),
+    )
+}
+
+pub fn release_line(
+    node: Node,
+    mem: &mut [u64],
+    area: &mut [u64],
+    line: &[u8],
+    at: usize,
+) -> Answered
+    ensures { λ r. ⌜ AnswersLine (numbers 1 (fieldsFrom (now (line .entry)) at)) (Release (numberAt (fieldsFrom (now (line .entry)) at) 0)) node (now (mem .entry)) (now (area .entry)) r (now (mem .exit)) (now (area .exit)) ⌝ }
+{
+    let mut a = [0u64; 1];
+    if !fields::numbers(line, at, 1, &mut a) {
+        return malformed(node);
+    }
+    release::release(node, mem, area, Slot(a[0]))
+}
+
+// The fields of a read line: where the key starts and ends.
+struct ReadFields {
+    good: bool,
+    client: u64,
+    request: u64,
+    leases: u64,
+    start: usize,
+    end: usize,
+}
+
+fn no_read() -> ReadFields
+    ensures { λ r. ⌜ r .good ≡ false ⌝ }
+{
+    ReadFields {
+        good: false,
+        client: 0,
+        request: 0,
+        leases: 0,
+        start: 0,
+        end: 0,
+    }
+}
+
+fn read_fields(line: &[u8], at: usize) -> ReadFields
+    ensures { λ r. ⌜ ReadsRead (now (line .entry)) at r ⌝ }
+{
+    let client = fields::number_at(line, at);
+    if !client.good {
+        return no_read();
+    }
+    let request = fields::number_at(line, client.next);
+    if !request.good {
+        return no_read();
+    }
+    let leases = fields::number_at(line, request.next);
+    if !leases.good {
+        return no_read();
+    }
+    if fields::ended(line, leases.next) {
+        return no_read();
+    }
+    let key = fields::field_at(line, leases.next);
+    if !fields::ended(line, key.next) {
+        return no_read();
+    }
+    ReadFields {
+        good: true,
+        client: client.value,
+        request: request.value,
+        leases: leases.value,
+        start: key.start,
+        end: key.end,
+    }
+}
+
+pub fn read_line(node: Node, mem: &mut [u64], area: &mut [u64], line: &[u8], at: usize) -> Answered
+    ensures { λ r. ⌜ AnswersLine (isRead (fieldsFrom (now (line .entry)) at)) (Read (numberAt (fieldsFrom (now (line .entry)) at) 2) (record { client = numberAt (fieldsFrom (now (line .entry)) at) 0; request = numberAt (fieldsFrom (now (line .entry)) at) 1; key = getD (fieldsFrom (now (line .entry)) at) 3 [] })) node (now (mem .entry)) (now (area .entry)) r (now (mem .exit)) (now (area .exit)) ⌝ }
+{
+    let f = read_fields(line, at);
+    if !f.good {
+        return malformed(node);
+    }
+    let start = f.start;
+    let end = f.end;
+    read::read(
+        node,
+        mem,
+        area,
+        f.client,
+        f.request,
+        f.leases,
+        &line[start..end],
+    )
+}
+
+// A draft that is attached is whole.
+fn heard_with(
+    node: Node,
+    mem: &mut [u64],
+    area: &mut [u64],
+    draft: RespondersConf,
+    rows: &[u64],
+    peer: u64,
+    ballot: u64,
+    attached: bool,
+    commit: u64,
+    exec: u64,
+    snap: u64,
+) -> Answered
+    ensures { λ r. ⌜ (holdsRows (length (now (rows .entry))) (draft .count) ≡ true → Answers ready view (Heartbeat peer ballot (carried attached (rosterOf draft (now (rows .entry)))) commit exec snap) node (now (mem .entry)) (now (area .entry)) (givenOf r) (now (mem .exit)) (now (area .exit))) ⌝ }
+{
+    if 255 < peer {
+        return foreign(node, mem);
+    }
+    heartbeat::heartbeat(
+        node,
+        mem,
+        area,
+        Replica(peer as u8),
+        Ballot(ballot),
+        attached,
+        draft,
+        rows,
+        Slot(commit),
+        Slot(exec),
+        Slot(snap),
+    )
+}
+
+pub fn heard_line(
+    node: Node,
+    mem: &mut [u64],
+    area: &mut [u64],
+    draft: RespondersConf,
+    rows: &[u64],
+    line: &[u8],
+    at: usize,
+) -> Answered
+    ensures { λ r. ⌜ (holdsRows (length (now (rows .entry))) (draft .count) ≡ true → AnswersLine (isHeard (fieldsFrom (now (line .entry)) at)) (Heartbeat (numberAt (fieldsFrom (now (line .entry)) at) 0) (numberAt (fieldsFrom (now (line .entry)) at) 1) (carried (eqb (numberAt (fieldsFrom (now (line .entry)) at) 2) 1) (rosterOf draft (now (rows .entry)))) (numberAt (fieldsFrom (now (line .entry)) at) 3) (numberAt (fieldsFrom (now (line .entry)) at) 4) (numberAt (fieldsFrom (now (line .entry)) at) 5)) node (now (mem .entry)) (now (area .entry)) r (now (mem .exit)) (now (area .exit))) ⌝ }
+{
+    let mut a = [0u64; 6];
+    if !fields::numbers(line, at, 6, &mut a) {
+        return malformed(node);
+    }
+    if 1 < a[2] {
+        return malformed(node);
+    }
+    heard_with(
+        node,
+        mem,
+        area,
+        draft,
+        rows,
+        a[0],
+        a[1],
+        a[2] == 1,
+        a[3],
+        a[4],
+        a[5],
+    )
+}
