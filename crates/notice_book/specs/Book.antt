@@ -1,0 +1,19 @@
+-- A slot's notice book takes a notice, and is emptied. Assumes nothing: these are definitions.
+use mathlib.Core.Path.{_≡_}
+use mathlib.Core.List.{List}
+use Prim.Native.Nat.{ℕ}
+use Rattle.bodega.specs.Replica.{ReadReq, Book}
+use Rattle.bodega.specs.Messages.{takeNotice}
+use Rattle.cells.specs.declared.NoticeBook.{NoticeBook}
+
+-- the code's book with the reads that wait
+abbrev pub bookWith : NoticeBook → List ReadReq → Book
+bookWith b held = record { bal = b .bal .0; notices = b .notices; holding = held }
+
+-- the book r is b with the notice, whatever reads wait
+abbrev pub Takes : ℕ → ℕ → NoticeBook → NoticeBook → Type 0
+Takes peer ballot b r = (held : List ReadReq) → bookWith r held ≡ takeNotice peer ballot (bookWith b held)
+
+-- `accept_notices.clear()`: the ballot stays
+abbrev pub cleared : NoticeBook → NoticeBook
+cleared b = record { bal = b .bal; notices = 0 }
