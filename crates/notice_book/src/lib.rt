@@ -4,7 +4,18 @@ use cells::NoticeBook;
 use ids::Ballot;
 use ids::Replica;
 ghost use mathlib.Core.Path.{_≡_};
-ghost use Rattle.notice_book.specs.Book.{cleared, Takes};
+ghost use Rattle.notice_book.specs.Book.{fresh, cleared, Takes};
+
+// The book of a slot that had none.
+pub fn fresh() -> NoticeBook
+    ensures { λ r. ⌜ r ≡ fresh ⌝ }
+{
+    let none = Ballot(0);
+    NoticeBook {
+        bal: none,
+        notices: 0,
+    }
+}
 
 fn cleared(book: NoticeBook) -> NoticeBook
     ensures { λ r. ⌜ r ≡ cleared book ⌝ }

@@ -12,7 +12,7 @@ use lib.ListN.{length, set, replicate, getElem?, length-append, length-replicate
 use borrow.Author.Tests.{lt-ltb, le-ltb, eq-eqb, ne-eqb, not-true, not-false}
 use Rattle.words.specs.Choice.{if_then_else_, ifNone_then_else_}
 use Rattle.words.specs.Writes.{writes}
-use Rattle.bitmap.specs.Bitmap.{setTo, count}
+use Rattle.bitmap.specs.Bitmap.{count}
 use Rattle.items.specs.Item.{Item, encode, places}
 use Rattle.bodega.specs.Replica as machine
 use Rattle.bodega.specs.Messages.{takeNotice}
@@ -21,36 +21,25 @@ use Rattle.cells.specs.declared.Cell.{Cell}
 use Rattle.cells.specs.declared.NoticeBook.{NoticeBook}
 use Rattle.cells.specs.declared.ReplicaBk.{ReplicaBk}
 use Rattle.cells.specs.declared.ReplicaBk.the-variants as replica
+use Rattle.notice_book.specs.Book.{bookWith, fresh, Takes}
 use Rattle.slots.specs.Slots.{shortAt, batchAt, readsAt, bookOf as slotBook, instOf, instIn, instsOf, Puts}
 use Rattle.slots.proofs.Laws.{puts-then, short-after, here-is, moved, inst-at, length-insts}
 use Rattle.localread.specs.Release.{holdingOf, answersOf, emptied, Releases}
 use Rattle.localread.proofs.Laws.{length-answers}
 use Rattle.localread.proofs.Machine.{emptied-is}
-use Rattle.notices.specs.Notices.{bookWith, seenBy, noticedBook, withNotice, applies, quorate, noticedInst, noticedItems, padded, Noticed, noticedAt, after, Sets, Notes, NotesAt}
+use Rattle.notices.specs.Notices.{seenBy, noticedBook, withNotice, applies, quorate, noticedInst, noticedItems, padded, Noticed, noticedAt, after, Sets, Notes, NotesAt}
 
 -- ---- one book
 
-module _ (bal notices peer ballot n : ℕ) (held : List machine.ReadReq) where
-  abbrev Taken : ℕ → Type 0
-  Taken b = _≡_ {A = machine.Book} (record { bal = b; notices = n; holding = held }) (takeNotice peer ballot (record { bal = bal; notices = notices; holding = held }))
-
-  pub higher : bal < ballot → n ≡ setTo 0 peer true → Taken ballot
-  unfolding takeNotice setTo
-  higher h e = rw (lt-ltb bal ballot h, ← e)
-
-  pub not-higher : ballot ≤ bal → n ≡ setTo notices peer true → Taken bal
-  unfolding takeNotice setTo
-  not-higher h e = rw (le-ltb bal ballot h, ← e)
-
-module _ (bk : ReplicaBk) (r : NoticeBook) (peer ballot : ℕ) (held : List machine.ReadReq) where
+module _ (bk : ReplicaBk) (r : NoticeBook) (peer ballot : ℕ) where
   abbrev Noted : Type 0
-  Noted = bookWith r (seenBy (bookOf bk) held) ≡ noticedBook peer ballot (slotBook (bookOf bk) held)
+  Noted = (held : List machine.ReadReq) → bookWith r (seenBy (bookOf bk) held) ≡ noticedBook peer ballot (slotBook (bookOf bk) held)
 
-  pub new-book : bk ≡ replica.None → bookWith r [] ≡ takeNotice peer ballot machine.newBook → Noted
-  new-book e f = rw e f
+  pub new-book : (b : NoticeBook) → bk ≡ replica.None → b ≡ fresh → Takes peer ballot b r → Noted
+  new-book b e g f held = rw e (f [] ∙ ap (λ (k : NoticeBook). takeNotice peer ballot (bookWith k [])) g)
 
-  pub old-book : (b : NoticeBook) → bk ≡ replica.Some b → bookWith r held ≡ takeNotice peer ballot (bookWith b held) → Noted
-  old-book b e f = rw e f
+  pub old-book : (b : NoticeBook) → bk ≡ replica.Some b → Takes peer ballot b r → Noted
+  old-book b e f held = rw e (f held)
 
 -- ---- whether a notice is one for a slot
 

@@ -13,15 +13,10 @@ use Rattle.items.specs.Item.{Item, encode}
 use Rattle.bodega.specs.Replica.{ReadReq, Book, newBook, Instance, nullInstance, withReplicaBk}
 use Rattle.bodega.specs.Messages.{takeNotice}
 use Rattle.cells.specs.Cell.{Notices}
-use Rattle.cells.specs.declared.NoticeBook.{NoticeBook}
 use Rattle.slots.specs.Slots.{shortAt, batchAt, readsAt, instIn, instsOf, Puts}
 use Rattle.localread.specs.Release.{answersOf, emptied}
 
 -- ---- one instance
-
--- the code's book with the reads that wait
-abbrev pub bookWith : NoticeBook → List ReadReq → Book
-bookWith b held = record { bal = b .bal .0; notices = b .notices; holding = held }
 
 -- reads are held where there is a book
 abbrev pub seenBy : Option Notices → List ReadReq → List ReadReq

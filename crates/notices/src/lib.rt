@@ -15,38 +15,20 @@ ghost use lib.ListN.{length};
 ghost use Rattle.ids.specs.Leader.{leaderOf};
 ghost use Rattle.items.specs.Item.{places};
 ghost use Rattle.bodega.specs.Replica.{ReadReq};
-ghost use Rattle.bodega.specs.Messages.{takeNotice};
 ghost use Rattle.cells.specs.Cell.{bookOf};
+ghost use Rattle.notice_book.specs.Book.{bookWith};
 ghost use Rattle.slots.specs.Slots.{shortAt, batchAt, readsAt, bookOf as slotBook, instIn, instsOf, Puts};
-ghost use Rattle.notices.specs.Notices.{bookWith, seenBy, noticedBook, applies, withNotice, noticedItems, noticedAt, after, Sets, Notes, NotesAt};
+ghost use Rattle.notices.specs.Notices.{seenBy, noticedBook, applies, withNotice, noticedItems, noticedAt, after, Sets, Notes, NotesAt};
 
-// A book takes one notice: one of a higher ballot empties it first.
-pub fn taken_notice(book: NoticeBook, peer: Replica, ballot: Ballot) -> NoticeBook
-    ensures { λ r. ⌜ ((held : List ReadReq) → bookWith r held ≡ takeNotice (peer .0) (ballot .0) (bookWith book held)) ⌝ }
-{
-    let bal = book.bal;
-    if bal.0 < ballot.0 {
-        return NoticeBook {
-            bal: ballot,
-            notices: bitmap::set(0, peer, true),
-        };
-    }
-    NoticeBook {
-        bal,
-        notices: bitmap::set(book.notices, peer, true),
-    }
-}
-
-// The same for a slot's book, a new one where there is none.
+// A slot's book takes a notice, a new one where there is none.
 fn noticed_book(book: ReplicaBk, peer: Replica, ballot: Ballot) -> NoticeBook
     ensures { λ r. ⌜ ((held : List ReadReq) → bookWith r (seenBy (bookOf book) held) ≡ noticedBook (peer .0) (ballot .0) (slotBook (bookOf book) held)) ⌝ }
 {
     let ReplicaBk::Some(b) = book else {
-        let bal = Ballot(0);
-        let new = NoticeBook { bal, notices: 0 };
-        return taken_notice(new, peer, ballot);
+        let fresh = notice_book::fresh();
+        return notice_book::noticed(fresh, peer, ballot);
     };
-    taken_notice(b, peer, ballot)
+    notice_book::noticed(b, peer, ballot)
 }
 
 // Whether a notice is one for a slot: of its ballot, or the slot has none yet and is the last.

@@ -14,6 +14,7 @@ use Rattle.ids.specs.Leader.{leaderOf}
 use Rattle.responders.specs.Edits.{view as rosterOf}
 use Rattle.cells.specs.Cell.{Notices, Short, cellAt, hasBook, bookOf as noticesOf}
 use Rattle.cells.specs.declared.NoticeBook.{NoticeBook}
+use Rattle.notice_book.specs.Book.{fresh}
 use Rattle.cells.specs.declared.ReplicaBk.{ReplicaBk}
 use Rattle.cells.specs.declared.ReplicaBk.the-variants.{None, Some}
 use Rattle.batch.specs.Batch.{requestsOf}
@@ -191,8 +192,8 @@ seen-none none l e = refl
 seen-none (some b) l e = let z : _≡_ {A = ℕ} 0 1 = cc in absurd (omega arith)
 
 module _ (leader : Bool) (o : ReplicaBk) (f : leader ≡ false) where
-  pub new-book : o ≡ None → some (record { bal = 0; notices = 0 }) ≡ keptBook leader (noticesOf o)
-  new-book e = sym (rw (f, e))
+  pub new-book : (b : NoticeBook) → o ≡ None → b ≡ fresh → some (record { bal = b .bal .0; notices = b .notices }) ≡ keptBook leader (noticesOf o)
+  new-book b e g = rw g (sym (rw (f, e)))
 
   pub old-book : (b : NoticeBook) → o ≡ Some b → some (record { bal = b .bal .0; notices = b .notices }) ≡ keptBook leader (noticesOf o)
   old-book b e = sym (rw (f, e))

@@ -1,7 +1,6 @@
 // The call *record*: a batch into a slot at the current ballot; null slots before it where they are not held, and the keys that it writes.
 use cells::Cell;
 use cells::LeaderBk;
-use cells::NoticeBook;
 use cells::ReplicaBk;
 use cells::Status;
 use ids::Ballot;
@@ -137,11 +136,7 @@ fn kept_book(leader: bool, book: ReplicaBk) -> ReplicaBk
         return book;
     }
     match book {
-        ReplicaBk::None => {
-            let bal = Ballot(0);
-            let fresh = NoticeBook { bal, notices: 0 };
-            ReplicaBk::Some(fresh)
-        }
+        ReplicaBk::None => ReplicaBk::Some(notice_book::fresh()),
         ReplicaBk::Some(b) => ReplicaBk::Some(b),
     }
 }
