@@ -1,0 +1,32 @@
+// A reader that keeps its line and its position. Each function over it is thin, with the work in `fields`; those with plain parameters stand above it.
+use fields::Field;
+ghost use mathlib.Core.Path.{_≡_};
+ghost use Rattle.fields.specs.Reads.{ReadsField};
+ghost use Rattle.reader.specs.Takes.{TakesField};
+
+pub struct LineReader<'a> {
+    pub line: &'a [u8],
+    pub at: usize,
+}
+
+pub fn new<'a>(line: &'a [u8], at: usize) -> LineReader<'a>
+    ensures { λ r. ⌜ r ≡ record { line = line .entry; at = at } ⌝ }
+{
+    LineReader { line, at }
+}
+
+// The first field that is left. The reader moves on to the one after it.
+pub fn next_field<'s, 'a>(r: &'s mut LineReader<'a>) -> Field
+    ensures { λ f. ⌜ TakesField (now (r .entry)) f (now (r .exit)) ⌝ }
+{
+    let f = fields::field_at(r.line, r.at);
+    r.at = f.next;
+    f
+}
+
+pub fn field_from(line: &[u8], at: usize) -> Field
+    ensures { λ r. ⌜ ReadsField (now (line .entry)) at r ⌝ }
+{
+    let mut r = LineReader { line, at };
+    next_field(&mut r)
+}
