@@ -1,8 +1,9 @@
 // A reader that keeps its line and its position. Each function over it is thin, with the work in `fields`; those with plain parameters stand above it.
 use fields::Field;
+use fields::NumberAt;
 ghost use mathlib.Core.Path.{_≡_};
-ghost use Rattle.fields.specs.Reads.{ReadsField};
-ghost use Rattle.reader.specs.Takes.{TakesField};
+ghost use Rattle.fields.specs.Reads.{ReadsField, ReadsNumberAt};
+ghost use Rattle.reader.specs.Takes.{TakesField, TakesNumber};
 
 pub struct LineReader<'a> {
     pub line: &'a [u8],
@@ -29,4 +30,20 @@ pub fn field_from(line: &[u8], at: usize) -> Field
 {
     let mut r = LineReader { line, at };
     next_field(&mut r)
+}
+
+// The first field that is left, if it is a number. The reader then moves on to the one after it.
+pub fn next_number<'s, 'a>(r: &'s mut LineReader<'a>) -> NumberAt
+    ensures { λ n. ⌜ TakesNumber (now (r .entry)) n (now (r .exit)) ⌝ }
+{
+    let n = fields::number_at(r.line, r.at);
+    r.at = n.next;
+    n
+}
+
+pub fn number_from(line: &[u8], at: usize) -> NumberAt
+    ensures { λ r. ⌜ ReadsNumberAt (now (line .entry)) at r ⌝ }
+{
+    let mut r = LineReader { line, at };
+    next_number(&mut r)
 }
