@@ -7,7 +7,7 @@ ghost use lib.ListN.{length};
 ghost use Rattle.fields.specs.Split.{fieldsFrom};
 ghost use Rattle.fields.specs.Number.{isDigit};
 ghost use Rattle.fields.specs.Kind.{kindOf, wordOf, kindBy};
-ghost use Rattle.fields.specs.Reads.{noneLeft, ReadsField, ReadsNumber, ReadsNumberAt, ReadsNumbers};
+ghost use Rattle.fields.specs.Reads.{noneLeft, ReadsField, ReadsNumber, ReadsNumberAt};
 
 pub struct Field {
     pub start: usize,
@@ -156,26 +156,6 @@ pub fn number_of(s: &[u8]) -> Number
         good: false,
         value: 0,
     }
-}
-
-// The fields from a position on: whether they are k numbers, and which.
-pub fn numbers(line: &[u8], at: usize, k: usize, out: &mut [u64]) -> bool
-    requires { ⌜ k ≤ length (now out) ⌝ }
-    ensures { λ r. ⌜ ReadsNumbers (now (line .entry)) at k (now (out .entry)) r (now (out .exit)) ⌝ }
-{
-    let mut next = at;
-    let mut i = 0;
-    while i < k {
-        let r = number_at(line, next);
-        if r.good {
-            out[i] = r.value;
-            next = r.next;
-            i += 1;
-        } else {
-            return false;
-        }
-    }
-    ended(line, next)
 }
 
 // The seventeen kinds of lines.

@@ -1,5 +1,5 @@
 -- Document 01, "The event program": "The line reader keeps its line and its position". Assumes nothing: these are definitions.
-use Prim.Native.Nat.{ℕ, _+_}
+use Prim.Native.Nat.{ℕ}
 use mathlib.Core.Path.{_≡_}
 use denote.Ref.{now}
 use Rattle.fields.specs.declared.Field.{Field}

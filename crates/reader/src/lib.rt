@@ -2,7 +2,9 @@
 use fields::Field;
 use fields::NumberAt;
 ghost use mathlib.Core.Path.{_≡_};
-ghost use Rattle.fields.specs.Reads.{ReadsField, ReadsNumberAt};
+ghost use Prim.Native.Nat.{_≤_};
+ghost use lib.ListN.{length};
+ghost use Rattle.fields.specs.Reads.{ReadsField, ReadsNumberAt, ReadsNumbers};
 ghost use Rattle.reader.specs.Takes.{TakesField, TakesNumber};
 
 pub struct LineReader<'a> {
@@ -46,4 +48,24 @@ pub fn number_from(line: &[u8], at: usize) -> NumberAt
 {
     let mut r = LineReader { line, at };
     next_number(&mut r)
+}
+
+// The fields from a position on: whether they are k numbers, and which.
+pub fn numbers(line: &[u8], at: usize, k: usize, out: &mut [u64]) -> bool
+    requires { ⌜ k ≤ length (now out) ⌝ }
+    ensures { λ r. ⌜ ReadsNumbers (now (line .entry)) at k (now (out .entry)) r (now (out .exit)) ⌝ }
+{
+    let mut next = at;
+    let mut i = 0;
+    while i < k {
+        let r = number_from(line, next);
+        if r.good {
+            out[i] = r.value;
+            next = r.next;
+            i += 1;
+        } else {
+            return false;
+        }
+    }
+    fields::ended(line, next)
 }

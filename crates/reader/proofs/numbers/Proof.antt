@@ -1,10 +1,10 @@
 use Prim.Native.Nat.{_-_}
 use borrow.Author.Needs.{needs}
-use Rattle.fields.proofs.Laws as law
-use Rattle.fields.proofs.Laws.{Took}
+use Rattle.reader.proofs.Laws as law
+use Rattle.reader.proofs.Laws.{Took}
 use native.Mathlib.Omega.{arith}
-use Rattle.fields.proofs.numbers.Statement.{statement}
-use Rattle.fields.proofs.numbers.Tie as tie
+use Rattle.reader.proofs.numbers.Statement.{statement}
+use Rattle.reader.proofs.numbers.Tie as tie
 
 abbrev Inv-loop : tie.InvT-loop
 Inv-loop line at k out₀ next₀ i₀ out next i = Took line at k out₀ out next i
@@ -15,8 +15,8 @@ abbrev μ-loop : tie.MeasureT-loop
 loop-holds : tie.Need-loop-holds Inv-loop μ-loop
 loop-holds c = law.took-none _ _ _ _
 
-number-at-requires : tie.Need-number-at-requires Inv-loop μ-loop
-number-at-requires c κs = omega arith
+number-from-requires : tie.Need-number-from-requires Inv-loop μ-loop
+number-from-requires c κs = omega arith
 
 mul-out : tie.Need-mul-out Inv-loop μ-loop
 mul-out c = omega arith
@@ -31,13 +31,13 @@ loop-less : tie.Need-loop-less Inv-loop μ-loop
 loop-less c = omega arith
 
 loop-again : tie.Need-loop-again Inv-loop μ-loop
-loop-again c = law.took-more _ _ _ _ _ _ _ (c .before .before .before .loop .inv) _ (omega arith) (search needs) (c .before .number-at .ensures) (c .if1 .taken)
+loop-again c = law.took-more _ _ _ _ _ _ _ (c .before .before .before .loop .inv) _ (omega arith) (search needs) (c .before .number-from .ensures) (c .if1 .taken)
 
 same-length : tie.Need-same-length Inv-loop μ-loop
 same-length c = c .before .before .before .loop .inv .size
 
 returns : tie.Need-returns Inv-loop μ-loop
-returns c = law.took-bad _ _ _ _ _ _ _ (c .before .before .before .loop .inv) _ (omega arith) (c .before .number-at .ensures) (c .if1 .left)
+returns c = law.took-bad _ _ _ _ _ _ _ (c .before .before .before .loop .inv) _ (omega arith) (c .before .number-from .ensures) (c .if1 .left)
 
 ended-requires : tie.Need-ended-requires Inv-loop μ-loop
 ended-requires c κs = omega arith
@@ -55,7 +55,7 @@ numbers-spec =
     Inv-loop
     μ-loop
     loop-holds
-    number-at-requires
+    number-from-requires
     mul-out
     slice-write-out
     add-i
