@@ -77,7 +77,7 @@ pub fn guard_line(node: Node, mem: &mut [u64], area: &[u64], line: &[u8], at: us
     ensures { λ r. ⌜ AnswersLine (numbers 3 (fieldsFrom (now (line .entry)) at)) (Guard (numberAt (fieldsFrom (now (line .entry)) at) 0) (numberAt (fieldsFrom (now (line .entry)) at) 1) (numberAt (fieldsFrom (now (line .entry)) at) 2)) node (now (mem .entry)) (now (area .entry)) r (now (mem .exit)) (now (area .entry)) ⌝ }
 {
     let mut a = [0u64; 3];
-    if !fields::numbers(line, at, 3, &mut a) {
+    if !reader::numbers(line, at, 3, &mut a) {
         return malformed(node);
     }
     guard_with(node, mem, area, a[0], a[1], a[2])
@@ -87,7 +87,7 @@ pub fn prepared_line(node: Node, mem: &[u64], area: &[u64], line: &[u8], at: usi
     ensures { λ r. ⌜ AnswersLine (numbers 1 (fieldsFrom (now (line .entry)) at)) (Prepared (numberAt (fieldsFrom (now (line .entry)) at) 0)) node (now (mem .entry)) (now (area .entry)) r (now (mem .entry)) (now (area .entry)) ⌝ }
 {
     let mut a = [0u64; 1];
-    if !fields::numbers(line, at, 1, &mut a) {
+    if !reader::numbers(line, at, 1, &mut a) {
         return malformed(node);
     }
     prepared::prepared(node, mem, area, Ballot(a[0]))
@@ -120,7 +120,7 @@ pub fn reply_line(node: Node, mem: &mut [u64], area: &mut [u64], line: &[u8], at
     ensures { λ r. ⌜ AnswersLine (numbers 3 (fieldsFrom (now (line .entry)) at)) (Reply (numberAt (fieldsFrom (now (line .entry)) at) 0) (numberAt (fieldsFrom (now (line .entry)) at) 1) (numberAt (fieldsFrom (now (line .entry)) at) 2)) node (now (mem .entry)) (now (area .entry)) r (now (mem .exit)) (now (area .exit)) ⌝ }
 {
     let mut a = [0u64; 3];
-    if !fields::numbers(line, at, 3, &mut a) {
+    if !reader::numbers(line, at, 3, &mut a) {
         return malformed(node);
     }
     reply_with(node, mem, area, a[0], a[1], a[2])
@@ -159,7 +159,7 @@ pub fn notice_line(
     ensures { λ r. ⌜ AnswersLine (numbers 3 (fieldsFrom (now (line .entry)) at)) (Notice (numberAt (fieldsFrom (now (line .entry)) at) 0) (numberAt (fieldsFrom (now (line .entry)) at) 1) (numberAt (fieldsFrom (now (line .entry)) at) 2)) node (now (mem .entry)) (now (area .entry)) r (now (mem .exit)) (now (area .exit)) ⌝ }
 {
     let mut a = [0u64; 3];
-    if !fields::numbers(line, at, 3, &mut a) {
+    if !reader::numbers(line, at, 3, &mut a) {
         return malformed(node);
     }
     notice_with(node, mem, area, a[0], a[1], a[2])
@@ -198,7 +198,7 @@ pub fn commit_line(
     ensures { λ r. ⌜ AnswersLine (numbers 3 (fieldsFrom (now (line .entry)) at)) (CommitNotice (numberAt (fieldsFrom (now (line .entry)) at) 0) (numberAt (fieldsFrom (now (line .entry)) at) 1) (numberAt (fieldsFrom (now (line .entry)) at) 2)) node (now (mem .entry)) (now (area .entry)) r (now (mem .exit)) (now (area .exit)) ⌝ }
 {
     let mut a = [0u64; 3];
-    if !fields::numbers(line, at, 3, &mut a) {
+    if !reader::numbers(line, at, 3, &mut a) {
         return malformed(node);
     }
     commit_with(node, mem, area, a[0], a[1], a[2])
@@ -208,7 +208,7 @@ pub fn bars_line(node: Node, mem: &mut [u64], area: &[u64], line: &[u8], at: usi
     ensures { λ r. ⌜ AnswersLine (numbers 4 (fieldsFrom (now (line .entry)) at)) (Bars (numberAt (fieldsFrom (now (line .entry)) at) 0) (numberAt (fieldsFrom (now (line .entry)) at) 1) (numberAt (fieldsFrom (now (line .entry)) at) 2) (numberAt (fieldsFrom (now (line .entry)) at) 3)) node (now (mem .entry)) (now (area .entry)) r (now (mem .exit)) (now (area .entry)) ⌝ }
 {
     let mut a = [0u64; 4];
-    if !fields::numbers(line, at, 4, &mut a) {
+    if !reader::numbers(line, at, 4, &mut a) {
         return malformed(node);
     }
     bars::bars(
@@ -232,7 +232,7 @@ pub fn release_line(
     ensures { λ r. ⌜ AnswersLine (numbers 1 (fieldsFrom (now (line .entry)) at)) (Release (numberAt (fieldsFrom (now (line .entry)) at) 0)) node (now (mem .entry)) (now (area .entry)) r (now (mem .exit)) (now (area .exit)) ⌝ }
 {
     let mut a = [0u64; 1];
-    if !fields::numbers(line, at, 1, &mut a) {
+    if !reader::numbers(line, at, 1, &mut a) {
         return malformed(node);
     }
     release::release(node, mem, area, Slot(a[0]))
@@ -264,22 +264,22 @@ fn no_read() -> ReadFields
 fn read_fields(line: &[u8], at: usize) -> ReadFields
     ensures { λ r. ⌜ ReadsRead (now (line .entry)) at r ⌝ }
 {
-    let client = fields::number_at(line, at);
+    let client = reader::number_from(line, at);
     if !client.good {
         return no_read();
     }
-    let request = fields::number_at(line, client.next);
+    let request = reader::number_from(line, client.next);
     if !request.good {
         return no_read();
     }
-    let leases = fields::number_at(line, request.next);
+    let leases = reader::number_from(line, request.next);
     if !leases.good {
         return no_read();
     }
     if fields::ended(line, leases.next) {
         return no_read();
     }
-    let key = fields::field_at(line, leases.next);
+    let key = reader::field_from(line, leases.next);
     if !fields::ended(line, key.next) {
         return no_read();
     }
@@ -359,7 +359,7 @@ pub fn heard_line(
     ensures { λ r. ⌜ (holdsRows (length (now (rows .entry))) (draft .count) ≡ true → AnswersLine (isHeard (fieldsFrom (now (line .entry)) at)) (Heartbeat (numberAt (fieldsFrom (now (line .entry)) at) 0) (numberAt (fieldsFrom (now (line .entry)) at) 1) (carried (eqb (numberAt (fieldsFrom (now (line .entry)) at) 2) 1) (rosterOf draft (now (rows .entry)))) (numberAt (fieldsFrom (now (line .entry)) at) 3) (numberAt (fieldsFrom (now (line .entry)) at) 4) (numberAt (fieldsFrom (now (line .entry)) at) 5)) node (now (mem .entry)) (now (area .entry)) r (now (mem .exit)) (now (area .exit))) ⌝ }
 {
     let mut a = [0u64; 6];
-    if !fields::numbers(line, at, 6, &mut a) {
+    if !reader::numbers(line, at, 6, &mut a) {
         return malformed(node);
     }
     if 1 < a[2] {

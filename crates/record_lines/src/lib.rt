@@ -1,11 +1,11 @@
 // The record line of the event program: slot, ballot, and a request for each group of four fields.
 use fields::ended;
-use fields::field_at;
-use fields::number_at;
 use ids::Ballot;
 use ids::Slot;
 use node::Answered;
 use node::Node;
+use reader::field_from;
+use reader::number_from;
 ghost use mathlib.Core.Path.{_≡_};
 ghost use mathlib.Core.Bool.{false};
 ghost use Prim.Native.Nat.{_+_, _*_, _≤_};
@@ -58,7 +58,7 @@ fn no_value(at: usize) -> Value
 fn value_at(line: &[u8], at: usize) -> Value
     ensures { λ r. ⌜ ReadsValue (now (line .entry)) at r ⌝ }
 {
-    let n = number_at(line, at);
+    let n = number_from(line, at);
     if n.good {
         return Value {
             good: true,
@@ -70,7 +70,7 @@ fn value_at(line: &[u8], at: usize) -> Value
     if ended(line, at) {
         return no_value(at);
     }
-    let f = field_at(line, at);
+    let f = field_from(line, at);
     if f.end == at {
         return Value {
             good: true,
@@ -101,15 +101,15 @@ fn no_group(at: usize) -> Group
 fn group_at(line: &[u8], at: usize) -> Group
     ensures { λ r. ⌜ ReadsGroup (now (line .entry)) at r ⌝ }
 {
-    let client = number_at(line, at);
+    let client = number_from(line, at);
     if !client.good {
         return no_group(at);
     }
-    let request = number_at(line, client.next);
+    let request = number_from(line, client.next);
     if !request.good {
         return no_group(at);
     }
-    let key = field_at(line, request.next);
+    let key = field_from(line, request.next);
     let value = value_at(line, key.next);
     if !value.good {
         return no_group(at);
@@ -193,11 +193,11 @@ pub fn record_line(
     requires { ⌜ (length (now line) ≤ 1024) × (1542 ≤ length (now groups)) ⌝ }
     ensures { λ r. ⌜ AnswersLine (isRecord (fieldsFrom (now (line .entry)) at)) (Record (numberAt (fieldsFrom (now (line .entry)) at) 0) (numberAt (fieldsFrom (now (line .entry)) at) 1) (batchOf (drop 2 (fieldsFrom (now (line .entry)) at)))) node (now (mem .entry)) (now (area .entry)) r (now (mem .exit)) (now (area .entry)) ⌝ }
 {
-    let slot = number_at(line, at);
+    let slot = number_from(line, at);
     if !slot.good {
         return malformed(node);
     }
-    let ballot = number_at(line, slot.next);
+    let ballot = number_from(line, slot.next);
     if !ballot.good {
         return malformed(node);
     }

@@ -4,17 +4,17 @@ use borrow.Author.Needs.{needs}
 use Rattle.record_lines.proofs.record_line.Statement.{statement}
 use Rattle.record_lines.proofs.record_line.Tie as tie
 
-number-at-requires : tie.Need-number-at-requires
-number-at-requires c κs = search needs
+number-from-requires : tie.Need-number-from-requires
+number-from-requires c κs = search needs
 
 malformed-requires : tie.Need-malformed-requires
 malformed-requires c κs = search needs
 
 returns : tie.Need-returns
-returns c = law.line-slot _ _ _ _ _ _ (c .before .before .before .number-at .ensures) _ _ (c .before .if1 .taken) (c .malformed .ensures)
+returns c = law.line-slot _ _ _ _ _ _ (c .before .before .before .number-from .ensures) _ _ (c .before .if1 .taken) (c .malformed .ensures)
 
-number-at-requires-2 : tie.Need-number-at-requires-2
-number-at-requires-2 c κs = search needs
+number-from-requires-2 : tie.Need-number-from-requires-2
+number-from-requires-2 c κs = search needs
 
 malformed-requires-2 : tie.Need-malformed-requires-2
 malformed-requires-2 c κs = search needs
@@ -22,7 +22,7 @@ malformed-requires-2 c κs = search needs
 returns-2 : tie.Need-returns-2
 returns-2 c =
     let b = c .before .before .before in
-    law.line-ballot _ _ _ _ _ _ (b .before .before .before .number-at .ensures) (b .before .if1 .left) _ (b .number-at2 .ensures) _ _ (c .before .if2 .taken) (c .malformed2 .ensures)
+    law.line-ballot _ _ _ _ _ _ (b .before .before .before .number-from .ensures) (b .before .if1 .left) _ (b .number-from2 .ensures) _ _ (c .before .if2 .taken) (c .malformed2 .ensures)
 
 groups-at-requires : tie.Need-groups-at-requires
 groups-at-requires c κs = search needs
@@ -37,7 +37,7 @@ returns-3 : tie.Need-returns-3
 returns-3 c =
     let g = c .before .before .before .before .before in
     let b = g .before .before .before .before in
-    law.line-groups _ _ _ _ _ _ (b .before .before .before .number-at .ensures) (b .before .if1 .left) _ (b .number-at2 .ensures) (g .before .before .if2 .left) _ _ (g .groups-at .ensures) _ _ (c .before .if3 .taken) (c .malformed3 .ensures)
+    law.line-groups _ _ _ _ _ _ (b .before .before .before .number-from .ensures) (b .before .if1 .left) _ (b .number-from2 .ensures) (g .before .before .if2 .left) _ _ (g .groups-at .ensures) _ _ (c .before .if3 .taken) (c .malformed3 .ensures)
 
 mul-words : tie.Need-mul-words
 mul-words c = omega (arith, c .before .before .before .before .before .groups-at .ensures .few)
@@ -66,16 +66,16 @@ returns-4 c =
     let e = r .before .before .before .before .before in
     let g = e .before .before .before .before in
     let b = g .before .before .before .before in
-    law.line-whole _ _ _ _ _ _ (b .before .before .before .number-at .ensures) (b .before .if1 .left) _ (b .number-at2 .ensures) (g .before .before .if2 .left) _ _ (g .groups-at .ensures) _ _ (e .if3 .left) (r .«record» .ensures)
+    law.line-whole _ _ _ _ _ _ (b .before .before .before .number-from .ensures) (b .before .if1 .left) _ (b .number-from2 .ensures) (g .before .before .if2 .left) _ _ (g .groups-at .ensures) _ _ (e .if3 .left) (r .«record» .ensures)
 
 pub record-line-spec : {M : Type 1} → statement M
 record-line-spec =
     tie.close
     (tie.spec
-    number-at-requires
+    number-from-requires
     malformed-requires
     returns
-    number-at-requires-2
+    number-from-requires-2
     malformed-requires-2
     returns-2
     groups-at-requires

@@ -1,0 +1,275 @@
+-- A line's fields as the arguments of an edit, a listing or a node. Assumes nothing.
+use mathlib.Core.Path.{_≡_, refl, sym, ap, _∙_}
+use mathlib.Core.Bool.{Bool, true, false, not, _&&_}
+use mathlib.Core.List.{List, [], _∷_}
+use Prim.Native.Nat.{ℕ, _<_, _≤_}
+use native.Mathlib.Omega.{arith}
+use lib.Dec.{leb, ltb, eqb}
+use lib.ListN.{length, getD}
+use borrow.Author.Tests.{le-leb, lt-leb, lt-ltb, le-ltb, leb-true, ltb-true, ltb-false, eq-eqb, ne-eqb, not-true, not-false}
+use Rattle.words.specs.Choice.{if_then_else_}
+use Rattle.words.proofs.Tests.{and-both}
+use Rattle.fields.specs.Split.{Bytes, fieldsFrom}
+use Rattle.fields.specs.Number.{isNumber, valueOf, numbers, numberAt}
+use Rattle.fields.specs.Reads.{noneLeft, between, ReadsField, ReadsNumberAt, ReadsNumbers}
+use Rattle.fields.specs.declared.Field.{Field}
+use Rattle.fields.specs.declared.NumberAt.{NumberAt}
+use Rattle.fields.proofs.Laws.{all-read, none-left, numbers-none}
+use Rattle.responders.specs.declared.RespondersConf.{RespondersConf}
+use Rattle.responders.specs.declared.Edited.{Edited}
+use Rattle.responders.specs.declared.Edited.the-variants as edited
+use Rattle.responders.specs.declared.Shown.{Shown}
+use Rattle.responders.specs.declared.Shown.the-variants as shown
+use Rattle.responders.specs.Edit.{Edit, SetLeader, SetResponders, SetFull, IntoFiltered, ResetFull, grounds, answer, refused}
+use Rattle.responders.specs.Edits.{Edits, Gives, due, view, holdsRows, inRange}
+use Rattle.responders.specs.Show.{Listing, listing}
+use Rattle.bodega.specs.Replica.{fresh}
+use Rattle.node.specs.declared.Node.{Node}
+use Rattle.node.specs.declared.Answered.{Answered}
+use Rattle.node.specs.declared.Fresh.{Fresh}
+use Rattle.node.specs.declared.Fresh.the-variants as begun
+use Rattle.node.specs.View as node
+use Rattle.node.specs.View.{size, ready}
+use Rattle.node.specs.Begins as begins
+use Rattle.hosts.specs.Line.{isRange}
+use Rattle.hosts.specs.Acts.{EditsLine}
+use Rattle.draft_lines.specs.declared.RangeFields.{RangeFields}
+use Rattle.draft_lines.specs.Drafts.{ReadsRange, ShowsLine, Refuses, BeginsBy, BeginsLine}
+
+-- what is not both
+module _ {t : Bool} {A : Type 0} where
+  pub not-both : t ≡ false → t ≡ true → A
+  not-both f g = let z : false ≡ true = sym f ∙ g in let o : _≡_ {A = ℕ} 0 1 = cc in absurd (omega arith)
+
+-- ---- a replica number that no byte has
+
+module _ (population : ℕ) (c : RespondersConf) (rows : List ℕ) (id : ℕ) (h : 255 < id) where
+  far : (i : ℕ) → 255 ≤ i → holdsRows (length rows) (c .count) && inRange population ≡ true → leb population i ≡ true
+  far i l e = le-leb population i (omega (arith, leb-true population 64 (and-both (leb 1 population) (leb population 64) (and-both (holdsRows (length rows) (c .count)) (inRange population) e .1) .1)))
+
+  -- any edit whose first ground is 3 for such a number
+  same-due : (e f : Edit) → (leb population 255 ≡ true → answer population (view c rows) e ≡ refused 3) → (leb population id ≡ true → answer population (view c rows) f ≡ refused 3)
+      → due population c rows e ≡ due population c rows f
+  unfolding due
+  same-due e f p q = go (holdsRows (length rows) (c .count) && inRange population) refl
+    where
+      go : (t : Bool) → holdsRows (length rows) (c .count) && inRange population ≡ t
+          → (if t then answer population (view c rows) e else refused 2) ≡ (if t then answer population (view c rows) f else refused 2)
+      go true g = p (far 255 (omega arith) g) ∙ sym (q (far id (omega arith) g))
+      go false g = refl
+
+  leader-3 : (i : ℕ) → leb population i ≡ true → answer population (view c rows) (SetLeader i) ≡ refused 3
+  unfolding answer grounds
+  leader-3 i g = rw g
+
+  drop-3 : (i : ℕ) → leb population i ≡ true → answer population (view c rows) (IntoFiltered i) ≡ refused 3
+  unfolding answer grounds
+  drop-3 i g = rw g
+
+  pub far-leader : (r : Edited) (rows′ : List ℕ) → Edits (SetLeader 255) population c rows r rows′ → Edits (SetLeader id) population c rows r rows′
+  far-leader r rows′ e = rw (same-due (SetLeader 255) (SetLeader id) (leader-3 255) (leader-3 id)) at e
+
+  pub far-drop : (r : Edited) (rows′ : List ℕ) → Edits (IntoFiltered 255) population c rows r rows′ → Edits (IntoFiltered id) population c rows r rows′
+  far-drop r rows′ e = rw (same-due (IntoFiltered 255) (IntoFiltered id) (drop-3 255) (drop-3 id)) at e
+
+-- ---- edits
+
+pub bad-edit : (good : Bool) (e : Edit) (population : ℕ) (c : RespondersConf) (rows : List ℕ) → good ≡ false → EditsLine good e population c rows (edited.Refused 1) rows
+bad-edit good e population c rows g = record { bad = λ f. (refl, refl); well = λ f. not-both g f }
+
+pub good-edit : (good : Bool) (e : Edit) (population : ℕ) (c : RespondersConf) (rows rows′ : List ℕ) (r : Edited) → good ≡ true → Edits e population c rows r rows′
+    → EditsLine good e population c rows r rows′
+good-edit good e population c rows rows′ r g h = record { bad = λ f. not-both f g; well = λ f. h }
+
+module _ (s : Bytes) (at k : ℕ) (out out′ : List ℕ) (b : Bool) (h : ReadsNumbers s at k out b out′) where
+  pub other-fields : (e : Edit) (population : ℕ) (c : RespondersConf) (rows : List ℕ) → not b ≡ true
+      → EditsLine (numbers k (fieldsFrom s at)) e population c rows (edited.Refused 1) rows
+  other-fields e population c rows f = bad-edit _ e population c rows (sym (h .good) ∙ not-true b f)
+
+  pub one-number : (e : ℕ → Edit) (population : ℕ) (c : RespondersConf) (rows rows′ : List ℕ) (r : Edited) → not b ≡ false → 0 < k
+      → Edits (e (getD out′ 0 0)) population c rows r rows′ → EditsLine (numbers k (fieldsFrom s at)) (e (numberAt (fieldsFrom s at) 0)) population c rows r rows′
+  one-number e population c rows rows′ r f l g =
+      good-edit _ _ population c rows rows′ r (sym (h .good) ∙ not-false b f) (rw (h .values (not-false b f) 0 l) at g)
+
+-- ---- no fields
+
+module _ (s : Bytes) (at : ℕ) (t : Bool) (e : t ≡ noneLeft (fieldsFrom s at)) where
+  some-field : not t ≡ true → numbers 0 (fieldsFrom s at) ≡ false
+  some-field f = sym (numbers-none (fieldsFrom s at)) ∙ sym e ∙ not-true t f
+
+  no-field : not t ≡ false → numbers 0 (fieldsFrom s at) ≡ true
+  no-field f = sym (numbers-none (fieldsFrom s at)) ∙ sym e ∙ not-false t f
+
+  pub some-field-edit : (d : Edit) (population : ℕ) (c : RespondersConf) (rows : List ℕ) → not t ≡ true
+      → EditsLine (numbers 0 (fieldsFrom s at)) d population c rows (edited.Refused 1) rows
+  some-field-edit d population c rows f = bad-edit _ d population c rows (some-field f)
+
+  pub no-field-edit : (d : Edit) (population : ℕ) (c : RespondersConf) (rows rows′ : List ℕ) (r : Edited) → not t ≡ false → Edits d population c rows r rows′
+      → EditsLine (numbers 0 (fieldsFrom s at)) d population c rows r rows′
+  no-field-edit d population c rows rows′ r f h = good-edit _ d population c rows rows′ r (no-field f) h
+
+  module _ (population : ℕ) (c : RespondersConf) (rows area : List ℕ) where
+    pub some-field-show : not t ≡ true → ShowsLine (numbers 0 (fieldsFrom s at)) population c rows area (shown.Refused 1) area
+    some-field-show f = record { bad = λ g. (refl, refl); unmade = λ g. not-both (some-field f) g; well = λ g. not-both (some-field f) g }
+
+    pub unmade-show : not t ≡ false → population ≡ 0 → ShowsLine (numbers 0 (fieldsFrom s at)) population c rows area (shown.Refused 2) area
+    unmade-show f z = record { bad = λ g. not-both g (no-field f); unmade = λ g w. (refl, refl); well = λ g w. absurd (w z) }
+
+    pub shows : (r : Shown) (area′ : List ℕ) → not t ≡ false → (population ≡ 0 → ⊥) → _≡_ {A = Listing} (record { answer = r; area = area′ }) (listing c rows area)
+        → ShowsLine (numbers 0 (fieldsFrom s at)) population c rows area r area′
+    shows r area′ f z h = record { bad = λ g. not-both g (no-field f); unmade = λ g w. absurd (z w); well = λ g w. h }
+
+-- ---- the node line
+
+is-false : (t : Bool) → (t ≡ true → ⊥) → t ≡ false
+is-false true h = absurd (h refl)
+is-false false h = refl
+
+module _ (id population quorum : ℕ) where
+  pub record Small : Type 0 where
+    pub own : id < population
+    pub few : population ≤ 64
+    pub quorate : quorum ≤ population
+
+  small : node.inRange id population quorum ≡ true → Small
+  small e =
+      let a = and-both (ltb 0 quorum) _ e in
+      let b = and-both (leb quorum population) _ (a .1) in
+      let d = and-both (leb population 64) _ (b .1) in
+      record { own = ltb-true id population (d .1); few = leb-true population 64 (d .0); quorate = leb-true quorum population (b .0) }
+
+  module _ (n : Node) (mem : List ℕ) (a : Answered) (e : a ≡ record { number = 2; count = 0; node = n }) where
+    not-begun : node.inRange id population quorum ≡ false → BeginsBy (node.inRange id population quorum) id population quorum n mem a mem
+    not-begun f = rw f (record { answer = e; sameMem = refl })
+
+    pub far-id : 255 < id → BeginsBy (node.inRange id population quorum) id population quorum n mem a mem
+    far-id h = not-begun (is-false _ (λ t. omega (arith, small t)))
+
+    pub far-population : 255 < population → BeginsBy (node.inRange id population quorum) id population quorum n mem a mem
+    far-population h = not-begun (is-false _ (λ t. omega (arith, small t)))
+
+    pub far-quorum : 255 < quorum → BeginsBy (node.inRange id population quorum) id population quorum n mem a mem
+    far-quorum h = not-begun (is-false _ (λ t. omega (arith, small t)))
+
+  module _ (n : Node) (mem mem′ : List ℕ) (long : 10305 ≤ length mem) (f : Fresh) (b : begins.Begins id population quorum mem f mem′) where
+    by-range : begins.Gives (node.inRange id population quorum) id population quorum mem f mem′
+    by-range = rw (le-leb 10305 (length mem) long) at b
+
+    pub made : (m : Node) (a : Answered) → f ≡ begun.Made m → length mem′ ≡ length mem → a ≡ record { number = 0; count = 0; node = m }
+        → BeginsBy (node.inRange id population quorum) id population quorum n mem a mem′
+    made m a e l g = go (node.inRange id population quorum) (rw e at by-range)
+      where
+        go : (t : Bool) → begins.Gives t id population quorum mem (begun.Made m) mem′ → BeginsBy t id population quorum n mem a mem′
+        go true h = rw g (record { number = refl; count = refl; replica = h .replica; readied = h .readied; size = l })
+        go false h = absurd h
+
+    pub unmade : (k : ℕ) (a : Answered) → f ≡ begun.Refused k → a ≡ record { number = 2; count = 0; node = n }
+        → BeginsBy (node.inRange id population quorum) id population quorum n mem a mem′
+    unmade k a e g = go (node.inRange id population quorum) (rw e at by-range)
+      where
+        go : (t : Bool) → begins.Gives t id population quorum mem (begun.Refused k) mem′ → BeginsBy t id population quorum n mem a mem′
+        go true h = absurd h
+        go false h = record { answer = g; sameMem = h .1 }
+
+module _ (s : Bytes) (at : ℕ) (out out′ : List ℕ) (b : Bool) (h : ReadsNumbers s at 3 out b out′) (n : Node) (mem : List ℕ) where
+  pub bad-node : (id population quorum : ℕ) (a : Answered) → not b ≡ true → a ≡ record { number = 1; count = 0; node = n }
+      → BeginsLine (numbers 3 (fieldsFrom s at)) id population quorum n mem a mem
+  bad-node id population quorum a f e =
+      let g = sym (h .good) ∙ not-true b f in
+      record { bad = λ x. record { answer = e; sameMem = refl }; second = λ x. not-both g x; first = λ x. not-both g x }
+
+  module _ (f : not b ≡ false) (t : Bool) (r : t ≡ ready n mem) where
+    good : numbers 3 (fieldsFrom s at) ≡ true
+    good = sym (h .good) ∙ not-false b f
+
+    pub second-node : (id population quorum : ℕ) (a : Answered) → t ≡ true → a ≡ record { number = 2; count = 0; node = n }
+        → BeginsLine (numbers 3 (fieldsFrom s at)) id population quorum n mem a mem
+    second-node id population quorum a q e =
+        record { bad = λ x. not-both x good; second = λ x y. record { answer = e; sameMem = refl }; first = λ x y. not-both y (sym r ∙ q) }
+
+    pub first-node : (a : Answered) (mem′ : List ℕ) → t ≡ false
+        → BeginsBy (node.inRange (getD out′ 0 0) (getD out′ 1 0) (getD out′ 2 0)) (getD out′ 0 0) (getD out′ 1 0) (getD out′ 2 0) n mem a mem′
+        → BeginsLine (numbers 3 (fieldsFrom s at)) (numberAt (fieldsFrom s at) 0) (numberAt (fieldsFrom s at) 1) (numberAt (fieldsFrom s at) 2) n mem a mem′
+    first-node a mem′ q g =
+        let v = h .values (not-false b f) in
+        record { bad = λ x. not-both x good; second = λ x y. not-both (sym r ∙ q) y; first = λ x y. rw (v 0 (omega arith), v 1 (omega arith), v 2 (omega arith)) at g }
+
+-- ---- a range
+
+many : (l : List Bytes) → noneLeft l ≡ false → length l ≡ 0 → ⊥
+many [] n e = not-both n refl
+many (f ∷ l) n e = absurd (omega arith)
+
+not-range : (s : Bytes) (at : ℕ) (r : RangeFields) → r .good ≡ false → isRange (fieldsFrom s at) ≡ false → ReadsRange s at r
+not-range s at r e g = record { good = e ∙ sym g; well = λ w. not-both e w }
+
+other-length : (s : Bytes) (at : ℕ) (r : RangeFields) → r .good ≡ false → (length (fieldsFrom s at) ≡ 3 → ⊥) → ReadsRange s at r
+other-length s at r e n = not-range s at r e (rw (ne-eqb (length (fieldsFrom s at)) 3 n))
+
+module _ (s : Bytes) (at : ℕ) (t : Bool) (n : t ≡ noneLeft (fieldsFrom s at)) where
+  pub no-start : (r : RangeFields) → t ≡ true → r .good ≡ false → ReadsRange s at r
+  no-start r f e = other-length s at r e (λ l. absurd (omega (arith, ap length (all-read (fieldsFrom s at) (sym n ∙ f)))))
+
+  module _ (f : t ≡ false) (x : Field) (h : ReadsField s at x) (u : Bool) (o : u ≡ noneLeft (fieldsFrom s (x .next))) where
+    in-start : at ≤ length s
+    in-start = ltb-false (length s) at (none-left s at ∙ sym n ∙ f)
+
+    first : fieldsFrom s at ≡ between s (x .start) (x .end) ∷ fieldsFrom s (x .next)
+    first = h .first in-start .here
+
+    pub no-end : (r : RangeFields) → u ≡ true → r .good ≡ false → ReadsRange s at r
+    no-end r g e = other-length s at r e (λ l. absurd (omega (arith, ap length first, ap length (all-read (fieldsFrom s (x .next)) (sym o ∙ g)))))
+
+    module _ (g : u ≡ false) (y : Field) (i : ReadsField s (x .next) y) (z : NumberAt) (j : ReadsNumberAt s (y .next) z) where
+      in-end : x .next ≤ length s
+      in-end = ltb-false (length s) (x .next) (none-left s (x .next) ∙ sym o ∙ g)
+
+      two : fieldsFrom s at ≡ between s (x .start) (x .end) ∷ between s (y .start) (y .end) ∷ fieldsFrom s (y .next)
+      two = first ∙ ap (λ (l : List Bytes). between s (x .start) (x .end) ∷ l) (i .first in-end .here)
+
+      third : getD (fieldsFrom s at) 2 [] ≡ getD (fieldsFrom s (y .next)) 0 []
+      third = ap (λ (l : List Bytes). getD l 2 []) two
+
+      pub no-mask : (r : RangeFields) → not (z .good) ≡ true → r .good ≡ false → ReadsRange s at r
+      no-mask r k e = not-range s at r e (rw (ap isNumber third ∙ sym (j .good) ∙ not-true (z .good) k) (go (eqb (length (fieldsFrom s at)) 3)))
+        where
+          go : (a : Bool) → a && false ≡ false
+          go true = refl
+          go false = refl
+
+      module _ (k : not (z .good) ≡ false) (v : Bool) (w : v ≡ noneLeft (fieldsFrom s (z .next))) where
+        three : fieldsFrom s at ≡ between s (x .start) (x .end) ∷ between s (y .start) (y .end) ∷ getD (fieldsFrom s (y .next)) 0 [] ∷ fieldsFrom s (z .next)
+        three = two ∙ ap (λ (l : List Bytes). between s (x .start) (x .end) ∷ between s (y .start) (y .end) ∷ l) (j .first (not-false (z .good) k) .here)
+
+        pub fourth : (r : RangeFields) → not v ≡ true → r .good ≡ false → ReadsRange s at r
+        fourth r p e = other-length s at r e (λ l. many (fieldsFrom s (z .next)) (sym w ∙ not-true v p) (omega (arith, ap length three)))
+
+        pub is-range : not v ≡ false
+            → ReadsRange s at (record { good = true; start = x .start; «start_end» = x .end; end = y .start; «end_end» = y .end; mask = z .value })
+        is-range p =
+            let q = not-false (z .good) k in
+            let all = all-read (fieldsFrom s (z .next)) (sym w ∙ not-false v p) in
+            record {
+              good = sym (rw (eq-eqb (length (fieldsFrom s at)) 3 (omega (arith, ap length three, ap length all)), ap isNumber third ∙ sym (j .good) ∙ q));
+              well = λ e.
+                  record {
+                    startLow = omega (arith, h .first in-start);
+                    startHigh = h .first in-start .high;
+                    start = sym (ap (λ (l : List Bytes). getD l 0 []) three);
+                    endLow = omega (arith, i .first in-end);
+                    endHigh = i .first in-end .high;
+                    end = sym (ap (λ (l : List Bytes). getD l 1 []) three);
+                    mask = j .first q .value ∙ sym (ap valueOf third);
+                  };
+            }
+
+module _ (s : Bytes) (at : ℕ) (f : RangeFields) (h : ReadsRange s at f) (population : ℕ) (c : RespondersConf) (rows : List ℕ) where
+  pub bad-range : (e : Edit) → not (f .good) ≡ true → EditsLine (isRange (fieldsFrom s at)) e population c rows (edited.Refused 1) rows
+  bad-range e g = bad-edit _ e population c rows (sym (h .good) ∙ not-true (f .good) g)
+
+  pub good-range : (rows′ : List ℕ) (r : Edited) → not (f .good) ≡ false
+      → Edits (SetResponders (between s (f .start) (f .«start_end»)) (between s (f .end) (f .«end_end»)) (f .mask)) population c rows r rows′
+      → EditsLine (isRange (fieldsFrom s at)) (SetResponders (getD (fieldsFrom s at) 0 []) (getD (fieldsFrom s at) 1 []) (numberAt (fieldsFrom s at) 2)) population c rows r rows′
+  good-range rows′ r g d =
+      let w = h .well (not-false (f .good) g) in
+      good-edit _ _ population c rows rows′ r (sym (h .good) ∙ not-false (f .good) g) (rw (w .start, w .end, w .mask) at d)

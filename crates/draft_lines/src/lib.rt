@@ -1,0 +1,249 @@
+// The lines of the node and of the draft. Where no node is made, a draft's line is refused 2 like one for a population that is none.
+use ids::Replica;
+use node::Answered;
+use node::Fresh;
+use node::Node;
+use responders::Edited;
+use responders::RespondersConf;
+use responders::Shown;
+ghost use mathlib.Core.Path.{_≡_};
+ghost use mathlib.Core.Bool.{false};
+ghost use mathlib.Core.List.{[]};
+ghost use Prim.Native.Nat.{_≤_};
+ghost use lib.ListN.{length, getD};
+ghost use Rattle.fields.specs.Split.{fieldsFrom};
+ghost use Rattle.fields.specs.Number.{numbers, numberAt};
+ghost use Rattle.responders.specs.Edit.{SetLeader, SetResponders, SetFull, IntoFiltered, ResetFull};
+ghost use Rattle.responders.specs.Edits.{Edits};
+ghost use Rattle.node.specs.View.{inRange};
+ghost use Rattle.hosts.specs.Line.{isRange};
+ghost use Rattle.hosts.specs.Acts.{EditsLine};
+ghost use Rattle.draft_lines.specs.Drafts.{ReadsRange, ShowsLine, BeginsBy, BeginsLine};
+
+// ---- the draft. A replica number that no byte has is refused as 255 is.
+
+fn lead_with(draft: RespondersConf, rows: &[u64], population: u8, leader: u64) -> Edited
+    ensures { λ r. ⌜ Edits (SetLeader leader) population draft (now (rows .entry)) r (now (rows .entry)) ⌝ }
+{
+    if 255 < leader {
+        return draft.set_leader(rows, population, Replica(255));
+    }
+    draft.set_leader(rows, population, Replica(leader as u8))
+}
+
+pub fn lead_line(
+    draft: RespondersConf,
+    rows: &[u64],
+    population: u8,
+    line: &[u8],
+    at: usize,
+) -> Edited
+    ensures { λ r. ⌜ EditsLine (numbers 1 (fieldsFrom (now (line .entry)) at)) (SetLeader (numberAt (fieldsFrom (now (line .entry)) at) 0)) population draft (now (rows .entry)) r (now (rows .entry)) ⌝ }
+{
+    let mut a = [0u64; 1];
+    if !reader::numbers(line, at, 1, &mut a) {
+        return Edited::Refused(1);
+    }
+    lead_with(draft, rows, population, a[0])
+}
+
+fn drop_with(draft: RespondersConf, rows: &mut [u64], population: u8, id: u64) -> Edited
+    ensures { λ r. ⌜ Edits (IntoFiltered id) population draft (now (rows .entry)) r (now (rows .exit)) ⌝ }
+{
+    if 255 < id {
+        return draft.into_filtered(rows, population, Replica(255));
+    }
+    draft.into_filtered(rows, population, Replica(id as u8))
+}
+
+pub fn drop_line(
+    draft: RespondersConf,
+    rows: &mut [u64],
+    population: u8,
+    line: &[u8],
+    at: usize,
+) -> Edited
+    ensures { λ r. ⌜ EditsLine (numbers 1 (fieldsFrom (now (line .entry)) at)) (IntoFiltered (numberAt (fieldsFrom (now (line .entry)) at) 0)) population draft (now (rows .entry)) r (now (rows .exit)) ⌝ }
+{
+    let mut a = [0u64; 1];
+    if !reader::numbers(line, at, 1, &mut a) {
+        return Edited::Refused(1);
+    }
+    drop_with(draft, rows, population, a[0])
+}
+
+pub fn whole_line(
+    draft: RespondersConf,
+    rows: &mut [u64],
+    population: u8,
+    line: &[u8],
+    at: usize,
+) -> Edited
+    ensures { λ r. ⌜ EditsLine (numbers 1 (fieldsFrom (now (line .entry)) at)) (SetFull (numberAt (fieldsFrom (now (line .entry)) at) 0)) population draft (now (rows .entry)) r (now (rows .exit)) ⌝ }
+{
+    let mut a = [0u64; 1];
+    if !reader::numbers(line, at, 1, &mut a) {
+        return Edited::Refused(1);
+    }
+    draft.set_full(rows, population, a[0])
+}
+
+pub fn reset_line(
+    draft: RespondersConf,
+    rows: &[u64],
+    population: u8,
+    line: &[u8],
+    at: usize,
+) -> Edited
+    ensures { λ r. ⌜ EditsLine (numbers 0 (fieldsFrom (now (line .entry)) at)) (ResetFull) population draft (now (rows .entry)) r (now (rows .entry)) ⌝ }
+{
+    if !fields::ended(line, at) {
+        return Edited::Refused(1);
+    }
+    draft.reset_full(rows, population)
+}
+
+// The fields of a range line: where its bounds start and end.
+struct RangeFields {
+    good: bool,
+    start: usize,
+    start_end: usize,
+    end: usize,
+    end_end: usize,
+    mask: u64,
+}
+
+fn no_range() -> RangeFields
+    ensures { λ r. ⌜ r .good ≡ false ⌝ }
+{
+    RangeFields {
+        good: false,
+        start: 0,
+        start_end: 0,
+        end: 0,
+        end_end: 0,
+        mask: 0,
+    }
+}
+
+fn range_fields(line: &[u8], at: usize) -> RangeFields
+    ensures { λ r. ⌜ ReadsRange (now (line .entry)) at r ⌝ }
+{
+    if fields::ended(line, at) {
+        return no_range();
+    }
+    let start = reader::field_from(line, at);
+    if fields::ended(line, start.next) {
+        return no_range();
+    }
+    let end = reader::field_from(line, start.next);
+    let mask = reader::number_from(line, end.next);
+    if !mask.good {
+        return no_range();
+    }
+    if !fields::ended(line, mask.next) {
+        return no_range();
+    }
+    RangeFields {
+        good: true,
+        start: start.start,
+        start_end: start.end,
+        end: end.start,
+        end_end: end.end,
+        mask: mask.value,
+    }
+}
+
+pub fn range_line(
+    draft: RespondersConf,
+    rows: &mut [u64],
+    population: u8,
+    line: &[u8],
+    at: usize,
+) -> Edited
+    ensures { λ r. ⌜ EditsLine (isRange (fieldsFrom (now (line .entry)) at)) (SetResponders (getD (fieldsFrom (now (line .entry)) at) 0 []) (getD (fieldsFrom (now (line .entry)) at) 1 []) (numberAt (fieldsFrom (now (line .entry)) at) 2)) population draft (now (rows .entry)) r (now (rows .exit)) ⌝ }
+{
+    let f = range_fields(line, at);
+    if !f.good {
+        return Edited::Refused(1);
+    }
+    let start = f.start;
+    let start_end = f.start_end;
+    let end = f.end;
+    let end_end = f.end_end;
+    draft.set_responders(
+        rows,
+        population,
+        &line[start..start_end],
+        &line[end..end_end],
+        f.mask,
+    )
+}
+
+pub fn show_line(
+    draft: RespondersConf,
+    rows: &[u64],
+    area: &mut [u64],
+    population: u8,
+    line: &[u8],
+    at: usize,
+) -> Shown
+    ensures { λ r. ⌜ ShowsLine (numbers 0 (fieldsFrom (now (line .entry)) at)) population draft (now (rows .entry)) (now (area .entry)) r (now (area .exit)) ⌝ }
+{
+    if !fields::ended(line, at) {
+        return Shown::Refused(1);
+    }
+    if population == 0 {
+        return Shown::Refused(2);
+    }
+    draft.show(rows, area)
+}
+
+// ---- the node
+
+fn refused(node: Node, number: u64) -> Answered
+    ensures { λ r. ⌜ r ≡ record { number = number; count = 0; node = node } ⌝ }
+{
+    Answered {
+        number,
+        count: 0,
+        node,
+    }
+}
+
+// The node in place of one that no call made.
+fn begin(node: Node, mem: &mut [u64], id: u64, population: u64, quorum: u64) -> Answered
+    ensures { λ r. ⌜ (10305 ≤ length (now (mem .entry)) → BeginsBy (inRange id population quorum) id population quorum node (now (mem .entry)) r (now (mem .exit))) ⌝ }
+{
+    if 255 < id {
+        return refused(node, 2);
+    }
+    if 255 < population {
+        return refused(node, 2);
+    }
+    if 255 < quorum {
+        return refused(node, 2);
+    }
+    let Fresh::Made(made) = Node::fresh(mem, Replica(id as u8), population as u8, quorum as u8)
+    else {
+        return refused(node, 2);
+    };
+    Answered {
+        number: 0,
+        count: 0,
+        node: made,
+    }
+}
+
+pub fn node_line(node: Node, mem: &mut [u64], line: &[u8], at: usize) -> Answered
+    ensures { λ r. ⌜ (10305 ≤ length (now (mem .entry)) → BeginsLine (numbers 3 (fieldsFrom (now (line .entry)) at)) (numberAt (fieldsFrom (now (line .entry)) at) 0) (numberAt (fieldsFrom (now (line .entry)) at) 1) (numberAt (fieldsFrom (now (line .entry)) at) 2) node (now (mem .entry)) r (now (mem .exit))) ⌝ }
+{
+    let mut a = [0u64; 3];
+    if !reader::numbers(line, at, 3, &mut a) {
+        return refused(node, 1);
+    }
+    if node::is_ready(node, mem) {
+        return refused(node, 2);
+    }
+    begin(node, mem, a[0], a[1], a[2])
+}
