@@ -1,7 +1,7 @@
 // Reads keys from standard input, one to a line, and writes the number that each reads as, or `-` where it does not read.
 // The input is read in pieces of 64 KB and never kept whole. A line of more than 1,024 bytes is answered `-`; a last line without a newline
 // counts if it has a byte. The program ends when the input does, when a read fails, or when a write fails.
-use inty_lines::Carry;
+use pieces::Carry;
 ghost use Prim.Native.Nat.{_*_, _≤_};
 ghost use lib.ListN.{length};
 
@@ -27,7 +27,7 @@ fn turn(buf: &mut [u8], line: Carry, out: &mut [u8]) -> State
     let fed = inty_lines::feed(&buf[0..end], line.long, out);
     let used = fed.used;
     let more = io::write_all(1, &out[0..used]);
-    let left = inty_lines::keep(buf, fed.at, end, fed.long);
+    let left = pieces::keep(buf, fed.at, end, fed.long);
     State { line: left, more }
 }
 

@@ -13,7 +13,8 @@ use Rattle.decimal.specs.Digits.{decimal}
 use Rattle.decimal.proofs.Laws.{short}
 use Rattle.keys.specs.Read.{isK, isDigit, strip, sign, number, digits, overflow, readKey}
 use Rattle.keys.proofs.Laws.{digit-to}
-use Rattle.inty_lines.specs.Lines.{Begun, textOf, answerOf, lineRead, answer}
+use Rattle.pieces.specs.Pieces.{Begun}
+use Rattle.inty_lines.specs.Lines.{textOf, answerOf, lineRead, answer}
 
 -- digits after those that made a
 number-below : (a : ℕ) (s : List ℕ) (v : ℕ) → number a s ≡ some v → v < (a + 1) * 10 ^ length s

@@ -4,22 +4,17 @@ use decimal::Written;
 use keys::KeyRead;
 ghost use mathlib.Core.Path.{_≡_};
 ghost use mathlib.Core.List.{[]};
-ghost use Prim.Native.Nat.{_+_, _-_, _*_, _≤_};
-ghost use lib.ListN.{length, take, drop};
+ghost use Prim.Native.Nat.{_+_, _*_, _≤_};
+ghost use lib.ListN.{length, drop};
 ghost use Rattle.words.specs.Writes.{writes};
 ghost use Rattle.keys.specs.Shown.{shown};
-ghost use Rattle.inty_lines.specs.Lines.{textOf, answerOf, lineRead, answer, lastLine, before, runs, done, kept};
+ghost use Rattle.pieces.specs.Runs.{runs, lastLine, done};
+ghost use Rattle.inty_lines.specs.Lines.{textOf, answerOf, lineRead, answer, says};
 
 // The place in a piece where the line that has begun starts, how much of the output is used, and whether bytes of that line were dropped.
 pub struct Fed {
     pub at: usize,
     pub used: usize,
-    pub long: bool,
-}
-
-// The line that has begun: how many of its bytes are at the start of the buffer, and whether bytes of it were dropped.
-pub struct Carry {
-    pub have: usize,
     pub long: bool,
 }
 
@@ -67,32 +62,17 @@ pub fn answer_line(line: &[u8], long: bool, out: &mut [u8], at: usize) -> usize
     put_answer(out, at, r)
 }
 
-// Where the line that starts at `at` ends: at its newline, or at the end of the piece.
-fn line_end(piece: &[u8], at: usize) -> usize
-    requires { ⌜ at ≤ length (now piece) ⌝ }
-    ensures { λ r. ⌜ r ≡ at + before (drop at (now (piece .entry))) ⌝ }
-{
-    let mut i = at;
-    while i < piece.len() {
-        if piece[i] == b'\n' {
-            return i;
-        }
-        i += 1;
-    }
-    i
-}
-
 // Writes the answers to the lines that end in a piece to the start of out. No answer has more than twice the bytes of its line.
 pub fn feed(piece: &[u8], long: bool, out: &mut [u8]) -> Fed
     requires { ⌜ 2 * length (now piece) ≤ length (now out) ⌝ }
     ensures within { λ r. ⌜ (r .at ≤ length (now (piece .entry))) × (r .used ≤ length (now (out .entry))) ⌝ }
-    ensures answered { λ r. ⌜ record { bytes = now (out .exit); used = r .used; begun = record { long = r .long; line = drop (r .at) (now (piece .entry)) } } ≡ done (now (out .entry)) 0 (runs (record { long = long; line = [] }) (now (piece .entry))) ⌝ }
+    ensures answered { λ r. ⌜ record { bytes = now (out .exit); used = r .used; state = tt; begun = record { long = r .long; line = drop (r .at) (now (piece .entry)) } } ≡ done (now (out .entry)) 0 (runs says tt (record { long = long; line = [] }) (now (piece .entry))) ⌝ }
 {
     let mut at = 0;
     let mut used = 0;
     let mut dropped = long;
     loop {
-        let end = line_end(piece, at);
+        let end = pieces::line_end(piece, at);
         if end == piece.len() {
             return Fed {
                 at,
@@ -106,40 +86,11 @@ pub fn feed(piece: &[u8], long: bool, out: &mut [u8]) -> Fed
     }
 }
 
-// Moves the bytes from `at` up to `end` to the start.
-fn shift(buf: &mut [u8], at: usize, end: usize)
-    requires { ⌜ (at ≤ end) × (end ≤ length (now buf)) ⌝ }
-    ensures { λ _. ⌜ now (buf .exit) ≡ writes (now (buf .entry)) 0 (take (end - at) (drop at (now (buf .entry)))) ⌝ }
-{
-    let n = end - at;
-    let mut i = 0;
-    while i < n {
-        buf[i] = buf[at + i];
-        i += 1;
-    }
-}
-
-// Keeps the line that has begun, which is from `at` up to `end`: its bytes go to the start, unless there are too many.
-pub fn keep(buf: &mut [u8], at: usize, end: usize, long: bool) -> Carry
-    requires { ⌜ (at ≤ end) × (end ≤ length (now buf)) ⌝ }
-    ensures { λ r. ⌜ (r .have ≤ 1024) × (record { long = r .long; line = take (r .have) (now (buf .exit)) } ≡ kept (record { long = long; line = take (end - at) (drop at (now (buf .entry))) })) ⌝ }
-{
-    let have = end - at;
-    if have > 1024 {
-        return Carry {
-            have: 0,
-            long: true,
-        };
-    }
-    shift(buf, at, end);
-    Carry { have, long }
-}
-
 // Writes the answer to a last line without a newline to the start of out, if it has a byte, and returns where it ends.
 pub fn last_line(line: &[u8], long: bool, out: &mut [u8]) -> usize
     requires { ⌜ 2 * (length (now line) + 1) ≤ length (now out) ⌝ }
     ensures within { λ e. ⌜ e ≤ length (now (out .entry)) ⌝ }
-    ensures answered { λ e. ⌜ (e ≡ length (lastLine (record { long = long; line = now (line .entry) }))) × (now (out .exit) ≡ writes (now (out .entry)) 0 (lastLine (record { long = long; line = now (line .entry) }))) ⌝ }
+    ensures answered { λ e. ⌜ (e ≡ length (lastLine says tt (record { long = long; line = now (line .entry) }))) × (now (out .exit) ≡ writes (now (out .entry)) 0 (lastLine says tt (record { long = long; line = now (line .entry) }))) ⌝ }
 {
     if long {
         return answer_line(line, long, out, 0);

@@ -1,7 +1,7 @@
-use Rattle.inty_lines.proofs.Laws as law
+use Rattle.pieces.proofs.Laws as law
 use borrow.Author.Needs.{needs}
-use Rattle.inty_lines.proofs.keep.Statement.{statement}
-use Rattle.inty_lines.proofs.keep.Tie as tie
+use Rattle.pieces.proofs.keep.Statement.{statement}
+use Rattle.pieces.proofs.keep.Tie as tie
 
 sub-have : tie.Need-sub-have
 sub-have c = search needs

@@ -1,11 +1,11 @@
-use Rattle.inty_lines.proofs.Laws as law
+use Rattle.pieces.proofs.Laws as law
 use mathlib.Core.Path.{_≡_}
 use Prim.Native.Nat.{_-_, _≤_}
 use lib.ListN.{length, take, drop, length-set}
 use Rattle.words.specs.Writes.{writes}
 use borrow.Author.Needs.{needs}
-use Rattle.inty_lines.proofs.shift.Statement.{statement}
-use Rattle.inty_lines.proofs.shift.Tie as tie
+use Rattle.pieces.proofs.shift.Statement.{statement}
+use Rattle.pieces.proofs.shift.Tie as tie
 
 abbrev Inv-loop : tie.InvT-loop
 Inv-loop buf₀ at end n i₀ buf i = (i ≤ n) × (length buf ≡ length buf₀) × (buf ≡ writes buf₀ 0 (take i (drop at buf₀)))

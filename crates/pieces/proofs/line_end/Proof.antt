@@ -1,11 +1,11 @@
-use Rattle.inty_lines.proofs.Laws as law
+use Rattle.pieces.proofs.Laws as law
 use mathlib.Core.Path.{_≡_}
 use Prim.Native.Nat.{_+_, _-_, _≤_}
 use lib.ListN.{length, drop}
-use Rattle.inty_lines.specs.Lines.{before}
+use Rattle.pieces.specs.Pieces.{before}
 use borrow.Author.Needs.{needs}
-use Rattle.inty_lines.proofs.line_end.Statement.{statement}
-use Rattle.inty_lines.proofs.line_end.Tie as tie
+use Rattle.pieces.proofs.line_end.Statement.{statement}
+use Rattle.pieces.proofs.line_end.Tie as tie
 
 abbrev Inv-loop : tie.InvT-loop
 Inv-loop piece at i₀ i = (i ≤ length piece) × (i + before (drop i piece) ≡ at + before (drop at piece))
