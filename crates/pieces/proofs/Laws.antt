@@ -8,7 +8,7 @@ use native.Mathlib.Nat.{add-assoc, zero-add}
 use native.Mathlib.Numerals.{add-one}
 use native.Mathlib.Omega.{arith}
 use lib.ListN.{length, getD, set, drop, take, drop-of-length-le, length-drop, length-append}
-use lib.Seq.{drop-cons, drop-drop, getD-drop, length-take-le}
+use lib.Seq.{drop-cons, drop-drop, getD-drop, length-take-le, take-add}
 use lib.Dec.{eqb}
 use mir.Syntax.{w64}
 use mir.Val.{Fits}
@@ -120,6 +120,21 @@ module _ {S : Type 0} (answer : S → Begun → Said S) where
           let k : suc (before l) < suc (length l) = simp p at h in
           simp p (ih (omega arith) ∙ simp append-assoc)
 
+  -- a line with its newline, and no byte more
+  pub runs-one : (s : S) (b : Begun) (l : List ℕ) → before l < length l
+      → runs answer s b (take (suc (before l)) l) ≡ record { out = answer s (record { long = b .long; line = b .line ++ take (before l) l }) .text; state = answer s (record { long = b .long; line = b .line ++ take (before l) l }) .next; begun = fresh }
+  unfolding runs
+  runs-one s b [] h = absurd (omega arith)
+  runs-one s b (c ∷ l) h = go (eqb c 10) refl (runs-one s (longer b c) l)
+    where
+      go : (t : Bool) → eqb c 10 ≡ t
+          → (before l < length l → runs answer s (longer b c) (take (suc (before l)) l) ≡ record { out = answer s (record { long = b .long; line = (b .line ++ (c ∷ [])) ++ take (before l) l }) .text; state = answer s (record { long = b .long; line = (b .line ++ (c ∷ [])) ++ take (before l) l }) .next; begun = fresh })
+          → runs answer s b (take (suc (before (c ∷ l))) (c ∷ l)) ≡ record { out = answer s (record { long = b .long; line = b .line ++ take (before (c ∷ l)) (c ∷ l) }) .text; state = answer s (record { long = b .long; line = b .line ++ take (before (c ∷ l)) (c ∷ l) }) .next; begun = fresh }
+      go true p ih = simp (p, append-nil)
+      go false p ih =
+          let k : suc (before l) < suc (length l) = simp p at h in
+          simp p (ih (omega arith) ∙ simp append-assoc)
+
   -- no newline, no line
   pub runs-none : (s : S) (b : Begun) (l : List ℕ) → before l ≡ length l → runs answer s b l ≡ record { out = []; state = s; begun = record { long = b .long; line = b .line ++ l } }
   unfolding runs
@@ -149,3 +164,31 @@ module _ {S : Type 0} (answer : S → Begun → Said S) where
           twice : (x y : List ℕ) (r : Run S) → prepend x (prepend y r) ≡ prepend (x ++ y) r
           twice x y r = simp append-assoc
       go false p i j = simp p j
+
+  -- of a piece all is done up to at, and then the line that ends at e
+  pub done-line : (piece : List ℕ) (at₀ at e : ℕ) (s₀ s : S) (b₀ : Begun) (long : Bool) (out₀ out : List ℕ) (used : ℕ) → at₀ ≤ at → at ≤ length piece → e ≡ at + before (drop at piece) → e < length piece
+      → record { bytes = out; used = used; state = s; begun = record { long = long; line = [] } } ≡ done out₀ 0 (runs answer s₀ b₀ (take (at - at₀) (drop at₀ piece)))
+      → record {
+        bytes = writes out used (answer s (record { long = long; line = take (e - at) (drop at piece) }) .text);
+        used = used + length (answer s (record { long = long; line = take (e - at) (drop at piece) }) .text);
+        state = answer s (record { long = long; line = take (e - at) (drop at piece) }) .next;
+        begun = fresh;
+      }
+      ≡ done out₀ 0 (runs answer s₀ b₀ (take (e + 1 - at₀) (drop at₀ piece)))
+  done-line piece at₀ at e s₀ s b₀ long out₀ out used f g h k i =
+      let x : List ℕ = take (at - at₀) (drop at₀ piece) in
+      let l : List ℕ = drop at piece in
+      let r : Run S = runs answer s₀ b₀ x in
+      let line : Said S = answer s (record { long = long; line = take (e - at) l }) in
+      let one : Run S = record { out = line .text; state = line .next; begun = fresh } in
+      let to : at₀ + (at - at₀) ≡ at = omega arith in
+      let split : take (e + 1 - at₀) (drop at₀ piece) ≡ x ++ take (suc (before l)) l =
+      (let c : e + 1 - at₀ ≡ at - at₀ + suc (before l) = omega arith in
+      rw c (take-add (at - at₀) (suc (before l)) (drop at₀ piece) ∙ ap (λ (y : List ℕ). x ++ take (suc (before l)) y) (drop-drop (at - at₀) at₀ piece ∙ ap (λ (j : ℕ). drop j piece) to))) in
+      let same : e - at ≡ before l = omega arith in
+      let it : runs answer s (record { long = long; line = [] }) (take (suc (before l)) l) ≡ one = rw same (runs-one s (record { long = long; line = [] }) l (omega (arith, length-drop at piece))) in
+      let st : s ≡ r .state = ap (λ (d : Done S). d .state) i in
+      let bg : record { long = long; line = [] } ≡ r .begun = ap (λ (d : Done S). d .begun) i in
+      let whole : runs answer s₀ b₀ (take (e + 1 - at₀) (drop at₀ piece)) ≡ prepend (r .out) one =
+      ap (runs answer s₀ b₀) split ∙ (cut s₀ b₀ x (take (suc (before l)) l) ∙ ap (prepend (r .out)) (rw (← st, ← bg) it)) in
+      ap (λ (d : Done S). done (d .bytes) (d .used) one) i ∙ (done-append out₀ 0 (r .out) one ∙ ap (done out₀ 0) (sym whole))
