@@ -9,6 +9,7 @@ ghost use mathlib.Core.Path.{_≡_};
 ghost use Prim.Native.Nat.{_≤_};
 ghost use lib.ListN.{length};
 ghost use Rattle.lines.specs.Fed.{Lent};
+ghost use Rattle.replay.specs.Drained.{Drains};
 
 // What goes from piece to piece.
 struct State {
@@ -44,7 +45,7 @@ fn drain(
     out: &mut [u8],
 ) -> Drained
     requires { ⌜ (from .at ≤ length (now piece)) × Lent (from .state .host) (now mem) (now rows) (now area) (now groups) × (65536 ≤ length (now out)) ⌝ }
-    ensures { λ r. ⌜ (r .place .at ≤ length (now (piece .entry))) × Lent (r .place .state .host) (now (mem .exit)) (now (rows .exit)) (now (area .exit)) (now (groups .exit)) ⌝ }
+    ensures { λ r. ⌜ Drains (now (piece .entry)) from (now (mem .entry)) (now (rows .entry)) r (now (mem .exit)) (now (rows .exit)) (now (area .exit)) (now (groups .exit)) ⌝ }
 {
     let mut place = from;
     loop {
