@@ -7,9 +7,9 @@ use lines::Place;
 use pieces::Carry;
 ghost use mathlib.Core.Path.{_≡_};
 ghost use Prim.Native.Nat.{_≤_};
-ghost use lib.ListN.{length};
+ghost use lib.ListN.{length, take};
 ghost use Rattle.lines.specs.Fed.{Lent};
-ghost use Rattle.replay.specs.Drained.{Drains};
+ghost use Rattle.replay.specs.Drained.{Drains, Turns};
 
 // What goes from piece to piece.
 struct State {
@@ -65,7 +65,7 @@ fn drain(
 // Reads a piece behind the bytes that were kept, and returns where it ends.
 fn fill(buf: &mut [u8], have: usize) -> usize
     requires { ⌜ have ≤ length (now buf) ⌝ }
-    ensures { λ r. ⌜ (have ≤ r) × (r ≤ length (now (buf .entry))) ⌝ }
+    ensures { λ r. ⌜ (have ≤ r) × (r ≤ length (now (buf .entry))) × (take have (now (buf .exit)) ≡ take have (now (buf .entry))) ⌝ }
 {
     let got = libc::read(0, &mut buf[have..]);
     have + io::count(got, &buf[have..])
@@ -83,7 +83,7 @@ fn turn(
     out: &mut [u8],
 ) -> State
     requires { ⌜ (line .have ≤ 1024) × (1025 ≤ length (now buf)) × Lent (state .host) (now mem) (now rows) (now area) (now groups) × (65536 ≤ length (now out)) ⌝ }
-    ensures { λ r. ⌜ (r .line .have ≤ 1024) × Lent (r .state .host) (now (mem .exit)) (now (rows .exit)) (now (area .exit)) (now (groups .exit)) ⌝ }
+    ensures { λ r. ⌜ Turns (now (buf .entry)) state line (now (mem .entry)) (now (rows .entry)) r (now (buf .exit)) (now (mem .exit)) (now (rows .exit)) (now (area .exit)) (now (groups .exit)) ⌝ }
 {
     let have = line.have;
     let end = fill(buf, have);

@@ -1,5 +1,7 @@
 use native.Mathlib.Omega.{arith}
-use mathlib.Core.Path.{_∙_}
+use mathlib.Core.Path.{sym, _∙_}
+use mathlib.Core.Bool.{true≢false}
+use Rattle.replay.proofs.Laws as law
 use borrow.Author.Needs.{needs}
 use Rattle.replay.proofs.turn.Statement.{statement}
 use Rattle.replay.proofs.turn.Tie as tie
@@ -41,7 +43,7 @@ same-length-6 : tie.Need-same-length-6
 same-length-6 c = search needs
 
 returns : tie.Need-returns
-returns c = (c .before .before .before .before .before .before .before .before .before .before .before .before .before .before .before .before .before .before .before .before .before .before .before .before .before .before .before .before .before .before .before .before .pre .0, c .before .before .before .before .before .before .before .before .before .before .before .before .before .last-line .ensures .lent)
+returns c = record { few = c .before .before .before .before .before .before .before .before .before .before .before .before .before .before .before .before .before .before .before .before .before .before .before .before .before .before .before .before .before .before .before .before .pre .0; on = λ e. absurd (true≢false (sym e)); lent = c .before .before .before .before .before .before .before .before .before .before .before .before .before .last-line .ensures .lent }
 
 sub-drain : tie.Need-sub-drain
 sub-drain c = search needs
@@ -77,7 +79,7 @@ same-length-12 : tie.Need-same-length-12
 same-length-12 c = search needs
 
 returns-2 : tie.Need-returns-2
-returns-2 c = search needs
+returns-2 c = record { few = c .before .before .before .keep .ensures .0; on = law.stepped _ _ (c .before .before .before .keep .last .0) _ _ (c .before .before .before .keep .result) _ _ _ (c .before .before .before .before .before .before .before .before .before .before .before .before .before .before .before .before .before .before .before .before .before .before .before .before .before .before .before .fill .ensures .0) (c .before .before .before .before .before .before .before .before .before .before .before .before .before .before .before .before .before .before .before .before .before .before .before .before .before .before .before .fill .ensures .1) (c .before .before .before .before .before .before .before .before .before .before .before .before .before .before .before .before .before .before .before .before .before .before .before .before .before .before .before .fill .kept .0) (c .before .before .before .before .before .before .before .before .before .before .before .before .before .before .before .before .before .before .before .before .before .before .before .before .before .before .before .fill .ensures .2) _ _ _ _ _ (c .before .before .before .before .before .before .before .before .before .before .before .before .before .before .before .before .drain .ensures) (c .before .before .before .keep .ensures .1); lent = c .before .before .before .before .before .before .before .before .before .before .before .before .before .before .before .before .drain .ensures .lent }
 
 pub turn-spec : {M : Type 1} → statement M
 turn-spec =
