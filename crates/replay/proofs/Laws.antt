@@ -15,7 +15,7 @@ use Rattle.lines.specs.declared.Counted.{Counted}
 use Rattle.lines.specs.Lines.{State, says}
 use Rattle.lines.specs.Fed.{stateOf}
 use Rattle.replay.specs.declared.Drained.{Drained}
-use Rattle.replay.specs.Drained.{Drains, begunIn, Stepped}
+use Rattle.replay.specs.Turns.{Drains, begunIn, Stepped}
 
 -- bytes before a part that was lent
 pub before-part : (s : List ℕ) (a n : ℕ) (m : List ℕ) → a ≤ length s → take a (splice s a n m) ≡ take a s

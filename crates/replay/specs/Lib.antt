@@ -1,1 +1,1 @@
-pub mod Drained
+pub mod Turns

@@ -9,7 +9,7 @@ ghost use mathlib.Core.Path.{_≡_};
 ghost use Prim.Native.Nat.{_≤_};
 ghost use lib.ListN.{length, take};
 ghost use Rattle.lines.specs.Fed.{Lent};
-ghost use Rattle.replay.specs.Drained.{Drains, Turns};
+ghost use Rattle.replay.specs.Turns.{Drains, Turns};
 
 // What goes from piece to piece.
 struct State {

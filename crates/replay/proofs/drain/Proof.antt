@@ -7,7 +7,7 @@ use lib.ListN.{length}
 use borrow.Author.Needs.{needs}
 use Rattle.lines.specs.Fed.{Lent, runsFrom}
 use Rattle.lines.proofs.Calls.{feed-goes-on, feed-ends}
-use Rattle.replay.specs.Drained.{silent}
+use Rattle.replay.specs.Turns.{silent}
 use Rattle.replay.proofs.drain.Statement.{statement}
 use Rattle.replay.proofs.drain.Tie as tie
 
