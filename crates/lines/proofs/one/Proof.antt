@@ -19,7 +19,7 @@ returns : tie.Need-returns
 returns c = search (needs, law.says-long)
 
 event-requires : tie.Need-event-requires
-event-requires c κs = ?
+event-requires c κs = search needs
 
 same-length-3 : tie.Need-same-length-3
 same-length-3 c = search needs
