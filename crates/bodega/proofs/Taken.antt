@@ -6,7 +6,7 @@ use mathlib.Core.Option.{Option, none, some}
 use mathlib.Core.Path.{_≡_, refl, sym, _∙_}
 use native.Mathlib.Omega.{arith}
 use Rattle.responders.specs.Ground.{Ground, Ascends, Applies, refusal}
-use Rattle.responders.proofs.Grounds.{zero-one, lowest, NoneApply, none-apply, none-before}
+use Rattle.responders.proofs.Grounds.{zero-one, lowest, NoneApply, none-apply, none-before, Positive, not-0}
 use Rattle.bodega.specs.Replica.{Replica, Call, Heartbeat, Guard, Prepared, Record, Reply, Notice, CommitNotice, Bars, Read, Release, Done}
 use Rattle.bodega.specs.Grounds.{grounds}
 use Rattle.bodega.specs.Step.{effect, allGrounds, turnedAway, step, stepBy, isTaken}
@@ -39,10 +39,6 @@ unfolding turnedAway
 lowest-first r c places n e = lowest (allGrounds r c places) n (ascends r c places) e
 
 -- no ground has the number 0
-abbrev pub Positive : List Ground → Type 0
-Positive [] = Unit {0}
-Positive (g ∷ gs) = (0 < g .number) × Positive gs
-
 pub positive : (r : Replica) (c : Call) → Positive (grounds r c)
 unfolding grounds
 positive r (Heartbeat peer ballot conf commit exec snap) = (omega arith, (omega arith, (omega arith, (omega arith, (omega arith, tt)))))
@@ -59,17 +55,6 @@ positive r (Release slot) = (omega arith, (omega arith, tt))
 both-positive : (gs hs : List Ground) → Positive gs → Positive hs → Positive (gs ++ hs)
 both-positive [] hs p q = q
 both-positive (g ∷ gs) hs p q = (p .0, both-positive gs hs (p .1) q)
-
-not-0 : (gs : List Ground) (n : ℕ) → Positive gs → refusal gs ≡ some n → 0 < n
-not-0 [] n p e = let z : _≡_ {A = ℕ} 0 1 = cc in absurd (zero-one z)
-not-0 (g ∷ gs) n p e = go (g .applies) refl (not-0 gs n (p .1))
-  where
-    go : (b : Bool) → g .applies ≡ b → (refusal gs ≡ some n → 0 < n) → 0 < n
-    go true f ih =
-        let s : some (g .number) ≡ some n = sym (simp f) ∙ e in
-        let is : g .number ≡ n = cc in
-        omega (arith, p .0)
-    go false f ih = ih (sym (simp f) ∙ e)
 
 pub refused-not-0 : (r : Replica) (c : Call) (places n : ℕ) → turnedAway r c places ≡ some n → 0 < n
 unfolding turnedAway

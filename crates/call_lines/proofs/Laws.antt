@@ -1,6 +1,6 @@
 -- A line's fields as a call's arguments. Assumes nothing.
 use mathlib.Core.Path.{_≡_, refl, sym, ap, subst, _∙_, fun-ext}
-use mathlib.Core.Bool.{Bool, true, false, not, _&&_, _||_}
+use mathlib.Core.Bool.{Bool, true, false, not, _&&_, and-true, and-false}
 use mathlib.Core.List.{List, [], _∷_, _++_}
 use mathlib.Core.Option.{Option, none, some}
 use Prim.Native.Nat.{ℕ, _<_, _≤_}
@@ -29,6 +29,7 @@ use Rattle.fields.proofs.Laws.{all-read, none-left}
 use Rattle.heartbeat.specs.Heartbeat.{fitting}
 use Rattle.hosts.specs.Line.{isHeard, isRead}
 use Rattle.hosts.specs.Acts.{AnswersLine}
+use Rattle.hosts.proofs.Laws.{not-both, some-left}
 use Rattle.call_lines.specs.declared.ReadFields.{ReadFields}
 use Rattle.call_lines.specs.ReadsRead.{ReadsRead}
 
@@ -79,14 +80,14 @@ pub malformed : (good : Bool) (c : Call) (n : Node) (m area : List ℕ) (r : Ans
 malformed good c n m area r g e =
     record {
       bad = λ b. rw e (record { number = refl; count = refl; sameNode = refl; sameMem = refl; sameArea = refl });
-      well = λ b. let z : false ≡ true = sym g ∙ b in let o : _≡_ {A = ℕ} 0 1 = cc in absurd (omega arith);
+      well = λ b. not-both g b;
     }
 
 pub well-formed : (good : Bool) (c : Call) (n : Node) (m area m′ area′ : List ℕ) (r : Answered) → good ≡ true → Answers ready view c n m area (givenOf r) m′ area′
     → AnswersLine good c n m area r m′ area′
 well-formed good c n m area m′ area′ r g h =
     record {
-      bad = λ b. let z : false ≡ true = sym b ∙ g in let o : _≡_ {A = ℕ} 0 1 = cc in absurd (omega arith);
+      bad = λ b. not-both b g;
       well = λ b. h;
     }
 
@@ -116,10 +117,6 @@ module _ (s : Bytes) (at k : ℕ) (out out′ : List ℕ) (b : Bool) (h : ReadsN
       four c l a = well-formed _ _ n m area m′ area′ r are-numbers (rw (value 0 (omega arith), value 1 (omega arith), value 2 (omega arith), value 3 l) at a)
 
 -- ---- a heartbeat
-
-and-true : (b : Bool) → b && true ≡ b
-and-true true = refl
-and-true false = refl
 
 fits-roster : (attached : Bool) (count : ℕ) (rows : List ℕ) → holdsRows (length rows) count ≡ true → fitting attached count rows ≡ true
 fits-roster true count rows h = h
@@ -161,33 +158,16 @@ module _ (s : Bytes) (at : ℕ) (out out′ : List ℕ) (b : Bool) (h : ReadsNum
 
 module _ (fs : List Bytes) where
   not-1 : isNumber (getD fs 0 []) ≡ false → isRead fs ≡ false
-  not-1 e = rw e (go (eqb (length fs) 4) (isNumber (getD fs 1 [])) (isNumber (getD fs 2 [])))
-    where
-      go : (a c d : Bool) → a && false && c && d ≡ false
-      go true c d = refl
-      go false c d = refl
+  not-1 e = rw (e, and-false (eqb (length fs) 4))
 
   not-2 : isNumber (getD fs 1 []) ≡ false → isRead fs ≡ false
-  not-2 e = rw e (go (eqb (length fs) 4 && isNumber (getD fs 0 [])) (isNumber (getD fs 2 [])))
-    where
-      go : (a d : Bool) → a && false && d ≡ false
-      go true d = refl
-      go false d = refl
+  not-2 e = rw (e, and-false (eqb (length fs) 4 && isNumber (getD fs 0 [])))
 
   not-3 : isNumber (getD fs 2 []) ≡ false → isRead fs ≡ false
-  not-3 e = rw e (go (eqb (length fs) 4 && isNumber (getD fs 0 []) && isNumber (getD fs 1 [])))
-    where
-      go : (a : Bool) → a && false ≡ false
-      go true = refl
-      go false = refl
-
--- by how many fields are left after three
-many : (l : List Bytes) → noneLeft l ≡ false → length l ≡ 0 → ⊥
-many [] n e = let o : _≡_ {A = ℕ} 0 1 = cc in absurd (omega arith)
-many (f ∷ l) n e = absurd (omega arith)
+  not-3 e = rw (e, and-false (eqb (length fs) 4 && isNumber (getD fs 0 []) && isNumber (getD fs 1 [])))
 
 not-read : (s : Bytes) (at : ℕ) (r : ReadFields) → r .good ≡ false → isRead (fieldsFrom s at) ≡ false → ReadsRead s at r
-not-read s at r e g = record { good = e ∙ sym g; well = λ w. let z : false ≡ true = sym e ∙ w in let o : _≡_ {A = ℕ} 0 1 = cc in absurd (omega arith) }
+not-read s at r e g = record { good = e ∙ sym g; well = λ w. not-both e w }
 
 module _ (s : Bytes) (at : ℕ) (x : NumberAt) (h : ReadsNumberAt s at x) where
   pub bad-client : (r : ReadFields) → not (x .good) ≡ true → r .good ≡ false → ReadsRead s at r
@@ -231,7 +211,7 @@ module _ (s : Bytes) (at : ℕ) (x : NumberAt) (h : ReadsNumberAt s at x) where
           fourth = o .first within .here
 
           pub fifth : (r : ReadFields) → not u ≡ true → r .good ≡ false → ReadsRead s at r
-          fifth r p e = not-four r e (λ l. many (fieldsFrom s (w .next)) (sym v ∙ not-true u p) (omega (arith, ap length fourth)))
+          fifth r p e = not-four r e (λ l. some-left (fieldsFrom s (w .next)) (sym v ∙ not-true u p) (omega (arith, ap length fourth)))
 
           pub is-read : not u ≡ false
               → ReadsRead s at (record { good = true; client = x .value; request = y .value; leases = z .value; start = w .start; end = w .end })

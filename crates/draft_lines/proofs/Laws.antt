@@ -1,6 +1,6 @@
 -- A line's fields as the arguments of an edit, a listing or a node. Assumes nothing.
 use mathlib.Core.Path.{_≡_, refl, sym, ap, _∙_}
-use mathlib.Core.Bool.{Bool, true, false, not, _&&_}
+use mathlib.Core.Bool.{Bool, true, false, not, _&&_, and-false}
 use mathlib.Core.List.{List, [], _∷_}
 use Prim.Native.Nat.{ℕ, _<_, _≤_}
 use native.Mathlib.Omega.{arith}
@@ -33,13 +33,9 @@ use Rattle.node.specs.View.{size, ready}
 use Rattle.node.specs.Begins as begins
 use Rattle.hosts.specs.Line.{isRange}
 use Rattle.hosts.specs.Acts.{EditsLine}
+use Rattle.hosts.proofs.Laws.{not-both, some-left}
 use Rattle.draft_lines.specs.declared.RangeFields.{RangeFields}
 use Rattle.draft_lines.specs.Drafts.{ReadsRange, ShowsLine, Refuses, BeginsBy, BeginsLine}
-
--- what is not both
-module _ {t : Bool} {A : Type 0} where
-  pub not-both : t ≡ false → t ≡ true → A
-  not-both f g = let z : false ≡ true = sym f ∙ g in let o : _≡_ {A = ℕ} 0 1 = cc in absurd (omega arith)
 
 -- ---- a replica number that no byte has
 
@@ -196,10 +192,6 @@ module _ (s : Bytes) (at : ℕ) (out out′ : List ℕ) (b : Bool) (h : ReadsNum
 
 -- ---- a range
 
-many : (l : List Bytes) → noneLeft l ≡ false → length l ≡ 0 → ⊥
-many [] n e = not-both n refl
-many (f ∷ l) n e = absurd (omega arith)
-
 not-range : (s : Bytes) (at : ℕ) (r : RangeFields) → r .good ≡ false → isRange (fieldsFrom s at) ≡ false → ReadsRange s at r
 not-range s at r e g = record { good = e ∙ sym g; well = λ w. not-both e w }
 
@@ -231,18 +223,14 @@ module _ (s : Bytes) (at : ℕ) (t : Bool) (n : t ≡ noneLeft (fieldsFrom s at)
       third = ap (λ (l : List Bytes). getD l 2 []) two
 
       pub no-mask : (r : RangeFields) → not (z .good) ≡ true → r .good ≡ false → ReadsRange s at r
-      no-mask r k e = not-range s at r e (rw (ap isNumber third ∙ sym (j .good) ∙ not-true (z .good) k) (go (eqb (length (fieldsFrom s at)) 3)))
-        where
-          go : (a : Bool) → a && false ≡ false
-          go true = refl
-          go false = refl
+      no-mask r k e = not-range s at r e (rw (ap isNumber third ∙ sym (j .good) ∙ not-true (z .good) k) (and-false (eqb (length (fieldsFrom s at)) 3)))
 
       module _ (k : not (z .good) ≡ false) (v : Bool) (w : v ≡ noneLeft (fieldsFrom s (z .next))) where
         three : fieldsFrom s at ≡ between s (x .start) (x .end) ∷ between s (y .start) (y .end) ∷ getD (fieldsFrom s (y .next)) 0 [] ∷ fieldsFrom s (z .next)
         three = two ∙ ap (λ (l : List Bytes). between s (x .start) (x .end) ∷ between s (y .start) (y .end) ∷ l) (j .first (not-false (z .good) k) .here)
 
         pub fourth : (r : RangeFields) → not v ≡ true → r .good ≡ false → ReadsRange s at r
-        fourth r p e = other-length s at r e (λ l. many (fieldsFrom s (z .next)) (sym w ∙ not-true v p) (omega (arith, ap length three)))
+        fourth r p e = other-length s at r e (λ l. some-left (fieldsFrom s (z .next)) (sym w ∙ not-true v p) (omega (arith, ap length three)))
 
         pub is-range : not v ≡ false
             → ReadsRange s at (record { good = true; start = x .start; «start_end» = x .end; end = y .start; «end_end» = y .end; mask = z .value })

@@ -1,6 +1,6 @@
 -- What a line's call, edit or listing comes to for the host. Assumes nothing.
 use mathlib.Core.Path.{_≡_, refl, sym, ap, subst, _∙_}
-use mathlib.Core.Bool.{Bool, true, false, not, _&&_}
+use mathlib.Core.Bool.{Bool, true, false, not, _&&_, and-false}
 use mathlib.Core.List.{List, [], _∷_, _++_}
 use mathlib.Core.Option.{Option, none, some}
 use Prim.Native.Nat.{ℕ, _/_, _<_, _≤_}
@@ -18,9 +18,9 @@ use Rattle.responders.specs.declared.Edited.the-variants as edits
 use Rattle.responders.specs.declared.Shown.{Shown}
 use Rattle.responders.specs.declared.Shown.the-variants as shows
 use Rattle.responders.specs.Ground.{Ground, _when_or_, refusal}
-use Rattle.responders.proofs.Grounds.{NoneApply, none-apply}
+use Rattle.responders.proofs.Grounds.{NoneApply, none-apply, not-0, edit-positive}
 use Rattle.responders.specs.Conf.{Conf}
-use Rattle.responders.specs.Edit.{Edit, SetLeader, SetResponders, SetFull, IntoFiltered, ResetFull, grounds, answer, edit}
+use Rattle.responders.specs.Edit.{Edit, grounds, answer, edit}
 use Rattle.responders.specs.Edit as answers
 use Rattle.responders.specs.Edits.{holdsRows, inRange, Gives, due}
 use Rattle.responders.specs.Edits as edits-specs
@@ -54,9 +54,6 @@ use Rattle.answers.proofs.Items.{holds}
 use Rattle.words.specs.Writes.{writes, length-writes}
 use Rattle.events.specs.Ways as ways
 use Rattle.events.specs.Tells.{fit, due as due-line, Tells}
-
-not-both : {t : Bool} {A : Type 0} → t ≡ false → t ≡ true → A
-not-both f g = let z : false ≡ true = sym f ∙ g in let o : _≡_ {A = ℕ} 0 1 = cc in absurd (omega arith)
 
 -- ---- a refusal changes nothing
 
@@ -144,43 +141,20 @@ heard-line h mem rows area mem′ area′ a r good peer ballot with commit exec 
 
 -- ---- edits
 
-abbrev Numbered : List Ground → Type 0
-Numbered [] = Unit {0}
-Numbered (g ∷ gs) = (0 < g .number) × Numbered gs
+abbrev Above0 : answers.Answer → Type 0
+Above0 (answers.refused n) = 0 < n
+Above0 (answers.taken c) = Unit {0}
 
-numbered : (p : ℕ) (c : Conf) (e : Edit) → Numbered (grounds p c e)
-unfolding grounds
-numbered p c (SetLeader r) = (omega arith, tt)
-numbered p c (SetResponders start end mask) = (omega arith, (omega arith, (omega arith, (omega arith, (omega arith, tt)))))
-numbered p c (SetFull mask) = (omega arith, (omega arith, tt))
-numbered p c (IntoFiltered r) = (omega arith, tt)
-numbered p c ResetFull = tt
-
-above-0 : (gs : List Ground) (n : ℕ) → Numbered gs → refusal gs ≡ some n → 0 < n
-above-0 [] n p e = let z : _≡_ {A = ℕ} 0 1 = cc in absurd (omega arith)
-above-0 (g ∷ gs) n p e = go (g .applies) refl (above-0 gs n (p .1))
-  where
-    go : (b : Bool) → g .applies ≡ b → (refusal gs ≡ some n → 0 < n) → 0 < n
-    go true f ih =
-        let q : some (g .number) ≡ some n = sym (simp f) ∙ e in
-        let is : g .number ≡ n = cc in
-        omega (arith, is, p .0)
-    go false f ih = ih (sym (simp f) ∙ e)
-
-abbrev Positive : answers.Answer → Type 0
-Positive (answers.refused n) = 0 < n
-Positive (answers.taken c) = Unit {0}
-
-answer-positive : (population : ℕ) (c : Conf) (e : Edit) → Positive (answer population c e)
+answer-positive : (population : ℕ) (c : Conf) (e : Edit) → Above0 (answer population c e)
 unfolding answer
 answer-positive population c e = go (refusal (grounds population c e)) refl
   where
-    go : (o : Option ℕ) → refusal (grounds population c e) ≡ o → Positive (ifNone o then answers.taken (edit c e) else answers.refused)
+    go : (o : Option ℕ) → refusal (grounds population c e) ≡ o → Above0 (ifNone o then answers.taken (edit c e) else answers.refused)
     go none f = tt
-    go (some n) f = above-0 (grounds population c e) n (numbered population c e) f
+    go (some n) f = not-0 (grounds population c e) n (edit-positive population c e) f
 
 module _ (h : code.Host) (mem rows area rows′ : List ℕ) (d : Edited) (r : Acted) (e : r ≡ ways.edited h d) (s : sound (h .draft) mem rows ≡ true) (l : length rows′ ≡ length rows) where
-  gives : (x : answers.Answer) (d : Edited) → Positive x → Gives x d rows rows′ → (q : Acted) → q ≡ ways.edited h d
+  gives : (x : answers.Answer) (d : Edited) → Above0 x → Gives x d rows rows′ → (q : Acted) → q ≡ ways.edited h d
       → Acts (told.edited (hostOf h mem rows) x) h mem rows area q mem rows′ area
   unfolding sound encode
   gives (answers.refused n) (edits.Refused k) p g q f =
@@ -452,11 +426,7 @@ module _ (h : code.Host) (mem rows area groups : List ℕ) (out line : Bytes) wh
 
   small-fit : length out < 65536 → fit (h .draft) mem rows area groups out ≡ false
   unfolding fit
-  small-fit l = rw (lt-leb 65536 (length out) l) (go (sound (h .draft) mem rows && eqb (places area) items && leb 1542 (length groups)))
-    where
-      go : (a : Bool) → a && false ≡ false
-      go true = refl
-      go false = refl
+  small-fit l = rw (lt-leb 65536 (length out) l, and-false (sound (h .draft) mem rows && eqb (places area) items && leb 1542 (length groups)))
 
   refused-acts : (a : Acted) → fit (h .draft) mem rows area groups out ≡ false → a ≡ ways.refused h 2 → Acts (due-line h mem rows area groups out line) h mem rows area a mem rows area
   refused-acts a f e =

@@ -23,7 +23,8 @@ use Rattle.responders.specs.declared.Edited.the-variants.{Taken, Refused}
 use Rattle.responders.specs.declared.Responders.{Responders}
 use Rattle.responders.specs.declared.Responders.the-variants.{Mask as Found, NoRoster, Refused as Short}
 use Rattle.responders.specs.Conf.{Conf, setResponders, intoFiltered}
-use Rattle.responders.specs.Ground.{Ground, refusal}
+use Rattle.responders.specs.Ground.{refusal}
+use Rattle.responders.proofs.Grounds.{not-0, edit-positive}
 use Rattle.responders.specs.Edit.{Edit, SetLeader, SetResponders, SetFull, IntoFiltered, ResetFull, between, edit, grounds, Answer, refused, taken, answer}
 use Rattle.responders.specs.Edits.{view, holdsRows, inRange, due, Gives, Edits, lookup}
 use Rattle.exports.specs.declared.Key.{Key}
@@ -52,30 +53,6 @@ counted-taken d c n e = sym (ap (λ (x : Edited). countOf x n) e)
 pub counted-refused : (d : Edited) (k n : ℕ) → d ≡ Refused k → _≡_ {A = Count} (record { number = k; count = n }) (countOf d n)
 counted-refused d k n e = sym (ap (λ (x : Edited). countOf x n) e)
 
-abbrev Positive : List Ground → Type 0
-Positive [] = Unit {0}
-Positive (g ∷ gs) = (0 < g .number) × Positive gs
-
--- no refusal is 0
-positive : (p : ℕ) (c : Conf) (e : Edit) → Positive (grounds p c e)
-unfolding grounds
-positive p c (SetLeader r) = (omega arith, tt)
-positive p c (SetResponders start end mask) = (omega arith, (omega arith, (omega arith, (omega arith, (omega arith, tt)))))
-positive p c (SetFull mask) = (omega arith, (omega arith, tt))
-positive p c (IntoFiltered r) = (omega arith, tt)
-positive p c ResetFull = tt
-
-above-0 : (gs : List Ground) (n : ℕ) → Positive gs → refusal gs ≡ some n → 0 < n
-above-0 [] n p e = let z : _≡_ {A = ℕ} 0 1 = cc in absurd (omega arith)
-above-0 (g ∷ gs) n p e = go (g .applies) refl (above-0 gs n (p .1))
-  where
-    go : (b : Bool) → g .applies ≡ b → (refusal gs ≡ some n → 0 < n) → 0 < n
-    go true f ih =
-        let q : some (g .number) ≡ some n = sym (simp f) ∙ e in
-        let is : g .number ≡ n = cc in
-        omega (arith, is, p .0)
-    go false f ih = ih (sym (simp f) ∙ e)
-
 abbrev Bare : Conf → Type 0
 Bare c = (c .leader ≡ none) × (c .default ≡ 0)
 
@@ -87,7 +64,7 @@ Fine (taken c) = Bare c
 module _ (p n : ℕ) (s : List ℕ) (e : Edit) (b : Bare (edit (view (plain n 0) s) e)) where
   answer-fine : (o : Option ℕ) → refusal (grounds p (view (plain n 0) s) e) ≡ o → Fine (ifNone o then taken (edit (view (plain n 0) s) e) else refused)
   answer-fine none f = b
-  answer-fine (some k) f = above-0 (grounds p (view (plain n 0) s) e) k (positive p (view (plain n 0) s) e) f
+  answer-fine (some k) f = not-0 (grounds p (view (plain n 0) s) e) k (edit-positive p (view (plain n 0) s) e) f
 
   due-fine : Fine (due p (plain n 0) s e)
   unfolding due answer

@@ -1,11 +1,14 @@
 -- Whether buffers and draft are sound, test by test; the host before the first line. Assumes nothing.
-use mathlib.Core.Path.{_≡_, refl, sym}
-use mathlib.Core.Bool.{Bool, true, false, _&&_}
-use mathlib.Core.List.{List}
+use mathlib.Core.Path.{_≡_, refl, sym, _∙_}
+use mathlib.Core.Bool.{Bool, true, false, and-false, true≢false}
+use mathlib.Core.List.{List, [], _∷_}
 use Prim.Native.Nat.{ℕ, _≤_, _<_}
+use native.Mathlib.Omega.{arith}
 use lib.Dec.{leb}
 use lib.ListN.{length}
 use borrow.Author.Tests.{le-leb, lt-leb}
+use Rattle.fields.specs.Split.{Bytes}
+use Rattle.fields.specs.Reads.{noneLeft}
 use Rattle.responders.specs.declared.RespondersConf.{RespondersConf}
 use Rattle.responders.specs.Conf.{empty}
 use Rattle.responders.specs.Edits.{view as rosterOf}
@@ -31,13 +34,18 @@ module _ (d : RespondersConf) (mem rows : List ℕ) where
 
 -- ---- before the first line
 
-and-false : (b : Bool) → b && false ≡ false
-and-false true = refl
-and-false false = refl
-
 pub unready : (n : Node) (mem : List ℕ) → n .quorum ≡ 0 → ready n mem ≡ false
 unfolding ready
 unready n mem e = rw e (and-false (leb size (length mem)))
 
 pub fresh-host : (h : Host) (mem rows : List ℕ) → ready (h .node) mem ≡ false → rosterOf (h .draft) rows ≡ empty → hostOf h mem rows ≡ freshHost
 fresh-host h mem rows e f = rw (e, f)
+
+-- ---- for the lines: a test is not both; fields that are left are not none
+
+pub not-both : {t : Bool} {A : Type 0} → t ≡ false → t ≡ true → A
+not-both f g = absurd (true≢false (sym g ∙ f))
+
+pub some-left : (l : List Bytes) → noneLeft l ≡ false → length l ≡ 0 → ⊥
+some-left [] n e = not-both n refl
+some-left (f ∷ l) n e = absurd (omega arith)

@@ -16,12 +16,12 @@ use Rattle.ids.specs.declared.Replica.{Replica}
 use Rattle.items.specs.Item.{Item, places, encode}
 use Rattle.words.specs.Writes.{writes}
 use Rattle.responders.specs.Ground.{Ground, _when_or_, refusal}
-use Rattle.responders.proofs.Grounds.{NoneApply}
+use Rattle.responders.proofs.Grounds.{NoneApply, Positive}
 use Rattle.bodega.specs.Replica as machine
 use Rattle.bodega.specs.Grounds.{grounds}
 use Rattle.bodega.specs.Step.{step, effect, turnedAway}
 use Rattle.bodega.specs.Answers.{due, Answers}
-use Rattle.bodega.proofs.Taken.{Positive, positive}
+use Rattle.bodega.proofs.Taken.{positive}
 use Rattle.words.proofs.Tests.{and-both}
 use Rattle.node.specs.declared.Node.{Node}
 use Rattle.node.specs.View.{size, view, inRange, barsInRange, sound, ready, lowest, leadsIt}

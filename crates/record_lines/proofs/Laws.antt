@@ -1,6 +1,6 @@
 -- A VALUE, a group, the rows of the groups and the record line, with premises as the code has them. Assumes nothing.
 use mathlib.Core.Path.{_≡_, refl, sym, ap, _∙_}
-use mathlib.Core.Bool.{Bool, true, false, _&&_, _||_, not, true≢false}
+use mathlib.Core.Bool.{Bool, true, false, _&&_, _||_, not, true≢false, and-false}
 use mathlib.Core.List.{List, [], _∷_, _++_, append-assoc, append-nil}
 use mathlib.Core.Logic.{inl}
 use Prim.Native.Nat.{ℕ, _+_, _-_, _*_, _/_, _^_, _≤_, _<_}
@@ -90,10 +90,6 @@ module _ (s : Bytes) (at : ℕ) (n : NumberAt) (a : ReadsNumberAt s at n) where
         no-value s at v (rw (l, b, i)) k
 
 -- ---- a group
-
-and-false : (b : Bool) → b && false ≡ false
-and-false true = refl
-and-false false = refl
 
 pub field-ordered : (s : Bytes) (at : ℕ) (f : Field) → ReadsField s at f → f .start ≤ f .end
 field-ordered s at f r = elim (decLt (length s) at) [

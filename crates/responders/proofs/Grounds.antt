@@ -6,7 +6,9 @@ use mathlib.Core.List.{List, [], _∷_, _++_}
 use mathlib.Core.Option.{none, some}
 use Prim.Native.Nat.{ℕ, _≤_, _<_}
 use native.Mathlib.Omega.{arith}
+use Rattle.responders.specs.Conf.{Conf}
 use Rattle.responders.specs.Ground.{Ground, refusal, Above, Ascends, Applies}
+use Rattle.responders.specs.Edit.{Edit, SetLeader, SetResponders, SetFull, IntoFiltered, ResetFull, grounds}
 
 pub zero-one : _≡_ {A = ℕ} 0 1 → ⊥
 zero-one e = omega arith
@@ -47,3 +49,29 @@ none-apply (g ∷ gs) e = go (g .applies) refl (none-apply gs)
 pub none-before : (gs hs : List Ground) → NoneApply (gs ++ hs) → NoneApply gs
 none-before [] hs n = tt
 none-before (g ∷ gs) hs n = (n .0, none-before gs hs (n .1))
+
+-- ---- no ground has the number 0
+
+abbrev pub Positive : List Ground → Type 0
+Positive [] = Unit {0}
+Positive (g ∷ gs) = (0 < g .number) × Positive gs
+
+pub not-0 : (gs : List Ground) (n : ℕ) → Positive gs → refusal gs ≡ some n → 0 < n
+not-0 [] n p e = let z : _≡_ {A = ℕ} 0 1 = cc in absurd (zero-one z)
+not-0 (g ∷ gs) n p e = go (g .applies) refl (not-0 gs n (p .1))
+  where
+    go : (b : Bool) → g .applies ≡ b → (refusal gs ≡ some n → 0 < n) → 0 < n
+    go true f ih =
+        let s : some (g .number) ≡ some n = sym (simp f) ∙ e in
+        let is : g .number ≡ n = cc in
+        omega (arith, p .0)
+    go false f ih = ih (sym (simp f) ∙ e)
+
+-- of a roster's edits
+pub edit-positive : (population : ℕ) (c : Conf) (e : Edit) → Positive (grounds population c e)
+unfolding grounds
+edit-positive population c (SetLeader r) = (omega arith, tt)
+edit-positive population c (SetResponders start end mask) = (omega arith, (omega arith, (omega arith, (omega arith, (omega arith, tt)))))
+edit-positive population c (SetFull mask) = (omega arith, (omega arith, tt))
+edit-positive population c (IntoFiltered r) = (omega arith, tt)
+edit-positive population c ResetFull = tt
