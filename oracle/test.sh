@@ -1,7 +1,12 @@
 #!/bin/sh
-# Runs the oracle's tests where cargo and the original Rust files are there,
-# and says so where they are not.
+# Holds the copy of the recorded answers that the gate replays to the original,
+# and runs the oracle's tests where cargo and the original Rust files are there;
+# where they are not it says so.
 cd "$(dirname "$0")" || exit 1
+if ! cmp recorded/scripts.rec ../crates/vectors/stdin; then
+    echo "oracle: crates/vectors/stdin is not recorded/scripts.rec"
+    exit 1
+fi
 src=${BODEGA_SRC:-../shared/docs/src}
 case $src in
 /*) ;;

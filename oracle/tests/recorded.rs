@@ -55,6 +55,23 @@ fn every_line_kind_refusal_and_item_kind_is_reached() {
     assert!(sent.iter().all(|&s| s), "{sent:?}");
 }
 
+// test.sh holds the copy that crates/vectors reads to the file
+#[test]
+fn the_gate_expects_the_numbers_of_the_file() {
+    let scripts = file();
+    let lines: usize = scripts
+        .iter()
+        .map(|script| Script::of(&script.input).lines.len())
+        .sum();
+    let folder = Path::new(env!("CARGO_MANIFEST_DIR")).join("../crates/vectors");
+    assert_eq!(
+        std::fs::read_to_string(folder.join("stdout")).unwrap(),
+        format!("{} scripts, {lines} lines, 0 differ\n", scripts.len())
+    );
+    // the program's buffer
+    assert!(recorded::write(&scripts).len() < 262_144);
+}
+
 #[test]
 fn file_format_is_read_back() {
     let scripts = file();
