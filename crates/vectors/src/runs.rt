@@ -107,7 +107,7 @@ fn hear(
 {
     let line = p.line;
     let state = p.state;
-    let met = p.met;
+    let before = p.met;
     let end = put(buf, line.have, bytes);
     let from = Place {
         at: 0,
@@ -118,7 +118,7 @@ fn hear(
         &buf[0..end],
         answers,
         from,
-        met,
+        before,
         mem,
         rows,
         area,
@@ -128,11 +128,11 @@ fn hear(
     let place = drained.place;
     let left = pieces::keep(buf, place.at, end, place.long);
     let next = place.state;
-    let now_met = drained.met;
+    let met = drained.met;
     Progress {
         state: next,
         line: left,
-        met: now_met,
+        met,
     }
 }
 
