@@ -6,11 +6,11 @@ use mathlib.Core.Option.{Option, none, some}
 use Prim.Native.Nat.{ℕ, suc, _+_, _-_, _≤_, _<_}
 use native.Mathlib.Nat.{add-zero, zero-add, sub-zero}
 use native.Mathlib.Omega.{arith}
-use borrow.Author.Tests.{le-ltb}
+use borrow.Author.Tests.{le-ltb, lt-ltb}
 use lib.Dec.{ltb}
-use lib.ListN.{length, getD}
+use lib.ListN.{length, getD, drop, take-append-drop}
 use Rattle.words.specs.Choice.{if_then_else_, ifNone_then_else_}
-use Rattle.words.specs.Tab.{tab, tab-snoc}
+use Rattle.words.specs.Tab.{tab, tab-snoc, take-tab, drop-tab}
 use Rattle.keys.specs.Same.{sameBytes}
 use Rattle.packed.proofs.Laws.{same-true}
 use Rattle.bodega.specs.Replica as machine
@@ -125,6 +125,11 @@ unfolding refreshHighestSlot
 refresh-snoc slot [] q hs = refl
 refresh-snoc slot (p ∷ qs) q hs = refresh-snoc slot qs q (noted slot p hs)
 
+refresh-append : (slot : ℕ) (qs ps : List machine.Request) (hs : List machine.Highest) → refreshHighestSlot slot (qs ++ ps) hs ≡ refreshHighestSlot slot ps (refreshHighestSlot slot qs hs)
+unfolding refreshHighestSlot
+refresh-append slot [] ps hs = refl
+refresh-append slot (q ∷ qs) ps hs = refresh-append slot qs ps (noted slot q hs)
+
 long-snoc : (slot : ℕ) (qs : List machine.Request) (q : machine.Request) (hs : List machine.Highest)
     → length (refreshHighestSlot slot (qs ++ (q ∷ [])) hs) ≡ length (refreshHighestSlot slot qs hs) + newKeys q qs hs
 long-snoc slot qs q hs = rw refresh-snoc (go (isPut (q .command)))
@@ -188,12 +193,35 @@ module _ (b w : List ℕ) where
       rw (tab-snoc (requestAt b) 0 i, zero-add i, h) (long-snoc slot (tab (requestAt b) 0 i) (requestAt b i) (writtenOf w)) in
       omega arith
 
-  pub after-end : (n m i : ℕ) → ((slot : ℕ) → n ≡ length (after slot b w i)) → m ≡ length (requestsOf b) → i ≤ m → m ≤ i
-      → (slot : ℕ) → n ≡ length (refreshHighestSlot slot (requestsOf b) (writtenOf w))
+  whole : (m slot : ℕ) → m ≡ length (requestsOf b) → after slot b w m ≡ refreshHighestSlot slot (requestsOf b) (writtenOf w)
   unfolding after
-  after-end n m i e h x y slot =
+  whole m slot h = rw (requests-are b m h)
+
+  pub after-end : (n m i : ℕ) → ((slot : ℕ) → n ≡ length (after slot b w i)) → m ≡ length (requestsOf b) → i ≤ m → m ≤ i → n ≤ 256
+      → (slot : ℕ) → false ≡ ltb 256 (length (refreshHighestSlot slot (requestsOf b) (writtenOf w)))
+  after-end n m i e h x y k slot =
       let q : i ≡ m = omega arith in
-      e slot ∙ rw (requests-are b m h, q)
+      let f = rw (q, whole m slot h) at (e slot) in
+      sym (le-ltb 256 (length (refreshHighestSlot slot (requestsOf b) (writtenOf w))) (omega arith))
+
+  drops : (m i : ℕ) → i ≤ m → drop i (tab (requestAt b) 0 m) ≡ tab (requestAt b) i (m - i)
+  drops m i h = drop-tab (requestAt b) 0 m i h ∙ ap (λ (j : ℕ). tab (requestAt b) j (m - i)) (zero-add i)
+
+  -- no key is lost by the requests after the i-th
+  after-grows : (m i slot : ℕ) → i ≤ m → length (after slot b w i) ≤ length (after slot b w m)
+  unfolding after
+  after-grows m i slot h =
+      let l = long-after slot (tab (requestAt b) i (m - i)) (refreshHighestSlot slot (tab (requestAt b) 0 i) (writtenOf w)) in
+      let s : tab (requestAt b) 0 m ≡ tab (requestAt b) 0 i ++ tab (requestAt b) i (m - i) =
+      sym (rw (← (take-tab (requestAt b) 0 m i h), ← (drops m i h)) (take-append-drop i (tab (requestAt b) 0 m))) in
+      rw (s, refresh-append) (l .0)
+
+  pub after-past : (n m r i : ℕ) → ((slot : ℕ) → n ≡ length (after slot b w i)) → r ≡ newKeys (requestAt b i) (tab (requestAt b) 0 i) (writtenOf w) → m ≡ length (requestsOf b) → i < m → 256 < n + r
+      → (slot : ℕ) → true ≡ ltb 256 (length (refreshHighestSlot slot (requestsOf b) (writtenOf w)))
+  after-past n m r i e h k x y slot =
+      let f = after-next n r i e h slot in
+      let g = rw (whole m slot k) at (after-grows m (i + 1) slot (omega arith)) in
+      sym (lt-ltb 256 (length (refreshHighestSlot slot (requestsOf b) (writtenOf w))) (omega arith))
 
   pub fits : (m n : ℕ) → m ≡ length (requestsOf b) → n ≡ length (writtenOf w) → n + m ≤ 256 → (slot : ℕ) → false ≡ ltb 256 (length (refreshHighestSlot slot (requestsOf b) (writtenOf w)))
   fits m n x y h slot =

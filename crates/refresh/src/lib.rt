@@ -49,19 +49,22 @@ fn new_keys(written: &[u64], batch: &[u64], i: usize) -> usize
     }
 }
 
-// How many keys are written after the batch.
-fn keys_after(written: &[u64], batch: &[u64]) -> usize
+// Whether the keys come to be more than 256, request by request: no further than the first that brings them there.
+fn exceeds(written: &[u64], batch: &[u64]) -> bool
     requires { ⌜ (2049 ≤ length (now written)) × (89 ≤ length (now batch)) ⌝ }
-    ensures { λ r. ⌜ ((slot : ℕ) → r ≡ length (refreshHighestSlot slot (requestsOf (now (batch .entry))) (writtenOf (now (written .entry))))) ⌝ }
+    ensures { λ r. ⌜ ((slot : ℕ) → r ≡ ltb keys (length (refreshHighestSlot slot (requestsOf (now (batch .entry))) (writtenOf (now (written .entry)))))) ⌝ }
 {
     let m = batch::count(batch);
     let mut n = written::count(written);
     let mut i = 0;
     while i < m {
         n = n + new_keys(written, batch, i);
+        if 256 < n {
+            return true;
+        }
         i += 1;
     }
-    n
+    false
 }
 
 // Whether the batch would bring the written keys above 256, at whatever slot.
@@ -74,7 +77,7 @@ pub fn overflows(written: &[u64], batch: &[u64]) -> bool
     if n + m <= 256 {
         return false;
     }
-    256 < keys_after(written, batch)
+    exceeds(written, batch)
 }
 
 // The i-th request's part.

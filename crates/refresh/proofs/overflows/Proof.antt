@@ -1,5 +1,3 @@
-use mathlib.Core.Path.{ap}
-use lib.Dec.{ltb}
 use Rattle.refresh.proofs.Laws as law
 use borrow.Author.Needs.{needs}
 use Rattle.refresh.proofs.overflows.Statement.{statement}
@@ -17,13 +15,13 @@ add-if1 c = search needs
 returns : tie.Need-returns
 returns c = law.fits _ _ _ _ (c .before .before .count .ensures .0) (c .before .count2 .ensures .0) (c .if1 .taken)
 
-keys-after-requires : tie.Need-keys-after-requires
-keys-after-requires c κs = search needs
+exceeds-requires : tie.Need-exceeds-requires
+exceeds-requires c κs = search needs
 
 returns-2 : tie.Need-returns-2
-returns-2 c slot = ap (ltb 256) (c .keys-after .ensures slot)
+returns-2 c = search needs
 
 pub overflows-spec : {M : Type 1} → statement M
 overflows-spec =
     tie.close
-    (tie.spec count-requires count-requires-2 add-if1 returns keys-after-requires returns-2)
+    (tie.spec count-requires count-requires-2 add-if1 returns exceeds-requires returns-2)

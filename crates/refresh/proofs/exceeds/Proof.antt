@@ -3,12 +3,13 @@ use mathlib.Core.Path.{_≡_}
 use lib.ListN.{length}
 use Rattle.refresh.specs.Refresh.{after}
 use Rattle.refresh.proofs.Laws as law
+use borrow.Author.Needs.{needs}
 use native.Mathlib.Omega.{arith}
-use Rattle.refresh.proofs.keys_after.Statement.{statement}
-use Rattle.refresh.proofs.keys_after.Tie as tie
+use Rattle.refresh.proofs.exceeds.Statement.{statement}
+use Rattle.refresh.proofs.exceeds.Tie as tie
 
 abbrev Inv-loop : tie.InvT-loop
-Inv-loop written batch m n₀ i₀ n i = (i ≤ m) × (m ≤ 8) × (n ≤ 256 + i) × ((slot : ℕ) → n ≡ length (after slot batch written i))
+Inv-loop written batch m n₀ i₀ n i = (i ≤ m) × (m ≤ 8) × (n ≤ 256) × ((slot : ℕ) → n ≡ length (after slot batch written i))
 
 abbrev μ-loop : tie.MeasureT-loop
 μ-loop written batch m n₀ i₀ n i = m - i
@@ -28,6 +29,9 @@ new-keys-requires c κs = omega arith
 add-n : tie.Need-add-n Inv-loop μ-loop
 add-n c = omega arith
 
+returns : tie.Need-returns Inv-loop μ-loop
+returns c = search (needs, law.after-past)
+
 add-i : tie.Need-add-i Inv-loop μ-loop
 add-i c = omega arith
 
@@ -35,17 +39,13 @@ loop-less : tie.Need-loop-less Inv-loop μ-loop
 loop-less c = omega arith
 
 loop-again : tie.Need-loop-again Inv-loop μ-loop
-loop-again c =
-    let l = c .before .before .loop in
-    (omega arith, omega arith, omega arith, law.after-next _ _ _ _ (l .i) (l .inv .3) (c .new-keys .ensures .0))
+loop-again c = search (needs, law.after-next)
 
-returns : tie.Need-returns Inv-loop μ-loop
-returns c =
-    let l = c .before .loop in
-    law.after-end _ _ _ _ (l .i) (l .inv .3) (c .before .before .before .count .ensures .0) (omega arith) (omega arith)
+returns-2 : tie.Need-returns-2 Inv-loop μ-loop
+returns-2 c = search (needs, law.after-end)
 
-pub keys-after-spec : {M : Type 1} → statement M
-keys-after-spec =
+pub exceeds-spec : {M : Type 1} → statement M
+exceeds-spec =
     tie.close
     (tie.spec
     Inv-loop
@@ -55,7 +55,8 @@ keys-after-spec =
     loop-holds
     new-keys-requires
     add-n
+    returns
     add-i
     loop-less
     loop-again
-    returns)
+    returns-2)
