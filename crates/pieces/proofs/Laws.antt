@@ -4,7 +4,7 @@ use mathlib.Core.Bool.{Bool, true, false}
 use mathlib.Core.List.{List, [], _∷_, _++_, append-assoc, append-nil}
 use mathlib.Core.Logic.{inr}
 use Prim.Native.Nat.{ℕ, suc, _+_, _-_, _^_, _≤_, _<_}
-use native.Mathlib.Nat.{add-assoc, zero-add}
+use native.Mathlib.Nat.{add-assoc, add-zero, zero-add}
 use native.Mathlib.Numerals.{add-one}
 use native.Mathlib.Omega.{arith}
 use lib.ListN.{length, getD, set, drop, take, drop-of-length-le, length-drop, length-append}
@@ -33,6 +33,29 @@ module _ (s : List ℕ) (i k : ℕ) (e : i + before (drop i s) ≡ k) where
   pub before-end : length s ≤ i → i ≡ k
   before-end h =
       let z : before (drop i s) ≡ 0 = ap before (drop-of-length-le s h) in
+      omega arith
+
+-- ---- sixteen bytes: so many of them have no newline
+module _ (s : List ℕ) (at : ℕ) where
+  pub plain-start : (p : Bool) → p ≡ true → 0 + before (drop (at + 0) s) ≡ before (drop at s)
+  plain-start p h = rw (add-zero at, zero-add (before (drop at s)))
+
+  pub plain-next : (i : ℕ) (p r : Bool) → at + 16 ≤ length s → i < 16 → (p ≡ true → i + before (drop (at + i) s) ≡ before (drop at s)) → (r ≡ true → (p ≡ true) × (getD s (at + i) 0 ≡ 10 → ⊥))
+      → r ≡ true → i + 1 + before (drop (at + (i + 1)) s) ≡ before (drop at s)
+  plain-next i p r f g h k e =
+      let w = h (k e .0) in
+      let m = before-more s (at + i) (at + before (drop at s)) (omega arith) (omega arith) (k e .1) in
+      let q : at + (i + 1) ≡ at + i + 1 = omega arith in
+      rw q (omega arith)
+
+  pub plain-end : (i : ℕ) (p : Bool) → i ≤ 16 → 16 ≤ i → (p ≡ true → i + before (drop (at + i) s) ≡ before (drop at s)) → p ≡ true → 16 + before (drop (at + 16) s) ≡ before (drop at s)
+  plain-end i p f g h e =
+      let q : i ≡ 16 = omega arith in
+      rw q at (h e)
+
+  pub plain-past : (k : ℕ) (r : Bool) → at + before (drop at s) ≡ k → (r ≡ true → 16 + before (drop (at + 16) s) ≡ before (drop at s)) → r ≡ true → at + 16 + before (drop (at + 16) s) ≡ k
+  plain-past k r h f e =
+      let w = f e in
       omega arith
 
 -- ---- the shift: i bytes from at on are at the start

@@ -1,5 +1,6 @@
 // The lines of a stream that comes in pieces: where one ends, and what is kept of the one that has begun.
 ghost use mathlib.Core.Path.{_≡_};
+ghost use mathlib.Core.Bool.{true};
 ghost use Prim.Native.Nat.{_+_, _-_, _≤_};
 ghost use lib.ListN.{length, take, drop};
 ghost use Rattle.words.specs.Writes.{writes};
@@ -11,12 +12,52 @@ pub struct Carry {
     pub long: bool,
 }
 
+// Whether there was no newline, and the byte is none.
+fn still(plain: bool, b: u8) -> bool
+    ensures { λ r. ⌜ (r ≡ true → (plain ≡ true) × (b ≡ 10 → ⊥)) ⌝ }
+{
+    if b == b'\n' {
+        return false;
+    }
+    plain
+}
+
+// Whether none of the 16 bytes from `at` on is a newline. No byte ends the loop, so that they are compared at once.
+fn is_plain(piece: &[u8], at: usize) -> bool
+    requires { ⌜ at + 16 ≤ length (now piece) ⌝ }
+    ensures { λ r. ⌜ (r ≡ true → 16 + before (drop (at + 16) (now (piece .entry))) ≡ before (drop at (now (piece .entry)))) ⌝ }
+{
+    let mut plain = true;
+    let mut i = 0;
+    while i < 16 {
+        plain = still(plain, piece[at + i]);
+        i += 1;
+    }
+    plain
+}
+
+// Past the bytes from `at` on that have no newline, 16 at a time.
+fn past_plain(piece: &[u8], at: usize) -> usize
+    requires { ⌜ at ≤ length (now piece) ⌝ }
+    ensures { λ r. ⌜ (r ≤ length (now (piece .entry))) × (r + before (drop r (now (piece .entry))) ≡ at + before (drop at (now (piece .entry)))) ⌝ }
+{
+    let mut i = at;
+    while 16 <= piece.len() - i {
+        if is_plain(piece, i) {
+            i += 16;
+        } else {
+            return i;
+        }
+    }
+    i
+}
+
 // Where the line that starts at `at` ends: at its newline, or at the end of the piece.
 pub fn line_end(piece: &[u8], at: usize) -> usize
     requires { ⌜ at ≤ length (now piece) ⌝ }
     ensures { λ r. ⌜ r ≡ at + before (drop at (now (piece .entry))) ⌝ }
 {
-    let mut i = at;
+    let mut i = past_plain(piece, at);
     while i < piece.len() {
         if piece[i] == b'\n' {
             return i;

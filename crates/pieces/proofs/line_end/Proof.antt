@@ -13,6 +13,9 @@ Inv-loop piece at i₀ i = (i ≤ length piece) × (i + before (drop i piece) �
 abbrev μ-loop : tie.MeasureT-loop
 μ-loop piece at i₀ i = length piece - i
 
+past-plain-requires : tie.Need-past-plain-requires Inv-loop μ-loop
+past-plain-requires c κs = search needs
+
 loop-holds : tie.Need-loop-holds Inv-loop μ-loop
 loop-holds c = search needs
 
@@ -40,6 +43,7 @@ line-end-spec =
     (tie.spec
     Inv-loop
     μ-loop
+    past-plain-requires
     loop-holds
     shared-slice-read-if1
     returns
