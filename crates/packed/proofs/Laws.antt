@@ -167,6 +167,16 @@ leWord-past : (m : ℕ) (s : List ℕ) (at : ℕ) → length s ≤ at → leWord
 leWord-past zero s at h = refl
 leWord-past (suc m) s at h = omega (arith, List·getD-eq-default s 0 h, leWord-past m s (at + 1) (omega arith))
 
+-- at most eight bytes: they stand in the first word
+pub few-packed : (k : List ℕ) (n w : ℕ) → length k ≤ 8 → n ≡ length k → w ≡ leWord 8 k 0 → record { len = n; w0 = w; w1 = 0; w2 = 0; w3 = 0; w4 = 0; w5 = 0 } ≡ packOf k
+unfolding packOf
+few-packed k n w h e f =
+    put e f (leWord-past 8 k 8 h) (leWord-past 8 k 16 (omega arith)) (leWord-past 8 k 24 (omega arith)) (leWord-past 8 k 32 (omega arith)) (leWord-past 8 k 40 (omega arith))
+  where
+    put : {l v a b c d e : ℕ} → n ≡ l → w ≡ v → a ≡ 0 → b ≡ 0 → c ≡ 0 → d ≡ 0 → e ≡ 0
+        → _≡_ {A = Key} (record { len = n; w0 = w; w1 = 0; w2 = 0; w3 = 0; w4 = 0; w5 = 0 }) (record { len = l; w0 = v; w1 = a; w2 = b; w3 = c; w4 = d; w5 = e })
+    put p q x y z s t = rw (p, q, x, y, z, s, t)
+
 -- a word that is no more than n bytes
 leWord-leBytes : (m n v : ℕ) → n ≤ m → v < 2 ^ (8 * n) → leWord m (leBytes n v) 0 ≡ v
 leWord-leBytes m zero v h b = leWord-past m [] 0 (omega arith) ∙ omega arith

@@ -132,9 +132,29 @@ fn long(n: usize) -> u64
     n as u64
 }
 
+// The key of at most eight bytes, as most are.
+fn key_of_few(k: &[u8]) -> Key
+    requires { ⌜ length (now k) ≤ 8 ⌝ }
+    ensures { λ r. ⌜ r ≡ packOf (now (k .entry)) ⌝ }
+{
+    let word = word_of(k, 0);
+    Key {
+        len: long(k.len()),
+        w0: word,
+        w1: 0,
+        w2: 0,
+        w3: 0,
+        w4: 0,
+        w5: 0,
+    }
+}
+
 fn key_of(k: &[u8]) -> Key
     ensures { λ r. ⌜ r ≡ packOf (now (k .entry)) ⌝ }
 {
+    if k.len() <= 8 {
+        return key_of_few(k);
+    }
     Key {
         len: long(k.len()),
         w0: word_of(k, 0),

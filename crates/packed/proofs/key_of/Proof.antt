@@ -3,6 +3,12 @@ use borrow.Author.Needs.{needs}
 use Rattle.packed.proofs.key_of.Statement.{statement}
 use Rattle.packed.proofs.key_of.Tie as tie
 
+key-of-few-requires : tie.Need-key-of-few-requires
+key-of-few-requires c κs = search needs
+
+returns : tie.Need-returns
+returns c = search needs
+
 long-requires : tie.Need-long-requires
 long-requires c κs = search needs
 
@@ -24,14 +30,16 @@ word-of-requires-5 c κs = search needs
 word-of-requires-6 : tie.Need-word-of-requires-6
 word-of-requires-6 c κs = search needs
 
-returns : tie.Need-returns
+returns-2 : tie.Need-returns-2
 unfolding packOf
-returns c = cc
+returns-2 c = cc
 
 pub key-of-spec : {M : Type 1} → statement M
 key-of-spec =
     tie.close
     (tie.spec
+    key-of-few-requires
+    returns
     long-requires
     word-of-requires
     word-of-requires-2
@@ -39,4 +47,4 @@ key-of-spec =
     word-of-requires-4
     word-of-requires-5
     word-of-requires-6
-    returns)
+    returns-2)
