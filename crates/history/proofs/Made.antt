@@ -9,7 +9,7 @@ use native.Mathlib.Omega.{arith}
 use lib.Dec.{eqb}
 use lib.ListN.{length}
 use borrow.Author.Tests.{ne-eqb}
-use Rattle.words.proofs.Tests.{and-both}
+use Rattle.words.specs.Choice.{if_then_else_}
 use Rattle.items.specs.Item.{places}
 use Rattle.bodega.specs.Replica.{Replica, fresh, Call, Guard, Done}
 use Rattle.bodega.specs.Step.{Step, Refused, Taken, step, stepBy, after, isTaken, allGrounds, turnedAway, effect}
@@ -27,60 +27,42 @@ use Rattle.history.proofs.OrderFree.{Sized, sized-if, sized, guard-insi
 -- ---- one call
 
 module _ {Node : Type 0} (view : Node → List ℕ → Replica) where
-  -- what a step tells of its answer, whatever `ready` is
-  record Tells (ready : Node → List ℕ → Bool) (r : Replica) (s : Step) (node : Node) (mem : List ℕ) (g : Given Node) (mem′ : List ℕ) : Type 0 where
+  -- what a step tells of its answer
+  record Tells (r : Replica) (s : Step) (g : Given Node) (mem′ : List ℕ) : Type 0 where
     taken : isTaken s ≡ eqb (g .number) 0
     next : view (g .node) mem′ ≡ after r s
-    again : ready node mem ≡ true → ready (g .node) mem′ ≡ true
 
   tells : (ready : Node → List ℕ → Bool) (o : Option ℕ) (d : Done) (node : Node) (mem area : List ℕ) (g : Given Node) (mem′ area′ : List ℕ) → ((n : ℕ) → o ≡ some n → 0 < n)
-      → Follows ready view (stepBy o d) node mem area g mem′ area′ → Tells ready (view node mem) (stepBy o d) node mem g mem′
-  tells ready none d node mem area g mem′ area′ p f = record { taken = rw (f .number); next = f .next; again = λ h. f .readyAgain }
+      → Follows ready view (stepBy o d) node mem area g mem′ area′ → Tells (view node mem) (stepBy o d) g mem′
+  tells ready none d node mem area g mem′ area′ p f = record { taken = rw (f .number); next = f .next }
   tells ready (some n) d node mem area g mem′ area′ p f =
       record {
         taken = sym (ne-eqb (g .number) 0 (λ z. let q = p n refl in omega (arith, z, f .number)));
         next = rw (f .sameNode, f .sameMem);
-        again = λ h. rw (f .sameNode, f .sameMem) h;
       }
 
   module _ (ready : Node → List ℕ → Bool) where
-    answered : (whole : Node → List ℕ → Bool) (c : Call) (node : Node) (mem area : List ℕ) (g : Given Node) (mem′ area′ : List ℕ) → whole node mem ≡ true
-        → Answers whole view c node mem area g mem′ area′ → Tells whole (view node mem) (step (view node mem) c (places area)) node mem g mem′
-    unfolding due step
-    answered whole c node mem area g mem′ area′ h a =
-        tells whole (turnedAway (view node mem) c (places area)) (effect (view node mem) c) node mem area g mem′ area′ (refused-not-0 (view node mem) c (places area)) (rw h at a)
-
-    -- what a call comes to: the node is ready again, the table is fed, and a guard that is taken is of a replica below the population
+    -- what a call comes to: the table is fed, and a guard that is taken is of a replica below the population
     record Comes (c : Call) (node : Node) (mem : List ℕ) (g : Given Node) (mem′ : List ℕ) : Type 0 where
-      readied : ready (g .node) mem′ ≡ true
       table : tableOf (view (g .node) mem′) ≡ feed (tableOf (view node mem)) (made-of.fedOf ready view c g)
       inside : (peer number bar : ℕ) → c ≡ Guard peer number bar → eqb (g .number) 0 ≡ true → peer < tableOf (view node mem) .population
 
-    comes-by : (whole : Node → List ℕ → Bool) (c : Call) (node : Node) (mem area : List ℕ) (g : Given Node) (mem′ area′ : List ℕ) → whole node mem ≡ true
-        → (whole (g .node) mem′ ≡ true → ready (g .node) mem′ ≡ true) → Answers whole view c node mem area g mem′ area′ → Comes c node mem g mem′
-    comes-by whole c node mem area g mem′ area′ h w a =
-        let t = answered whole c node mem area g mem′ area′ h a in
-        record {
-          readied = w (t .again h);
-          table =
-              ap tableOf (t .next) ∙ step-view (view node mem) (record { call = c; places = places area })
-              ∙ ap (λ (b : Bool). feed (tableOf (view node mem)) (record { call = c; taken = b })) (t .taken);
-          inside = λ peer number bar e y. guard-inside (view node mem) peer number bar (places area) (rw (← e) (t .taken ∙ y));
-        }
-
-    comes : (c : Call) (node : Node) (mem area : List ℕ) (g : Given Node) (mem′ area′ : List ℕ) → ready node mem ≡ true → Answers ready view c node mem area g mem′ area′ → Comes c node mem g mem′
-    comes c node mem area g mem′ area′ h a = comes-by ready c node mem area g mem′ area′ h (λ w. w) a
-
-    comes-with : (whole : Bool) (c : Call) (node : Node) (mem area : List ℕ) (g : Given Node) (mem′ area′ : List ℕ) → ready node mem ≡ true
-        → Answers (λ n m. ready n m && whole) view c node mem area g mem′ area′ → Comes c node mem g mem′
-    unfolding due
-    comes-with true c node mem area g mem′ area′ h a = comes-by (λ n m. ready n m && true) c node mem area g mem′ area′ (rw h) (λ w. and-both (ready (g .node) mem′) true w .0) a
-    comes-with false c node mem area g mem′ area′ h a = refused (rw h at a)
+    -- also where the node is not whole: all is refused then
+    comes : (whole : Node → List ℕ → Bool) (c : Call) (node : Node) (mem area : List ℕ) (g : Given Node) (mem′ area′ : List ℕ) → Answers whole view c node mem area g mem′ area′ → Comes c node mem g mem′
+    unfolding due step
+    comes whole c node mem area g mem′ area′ a = go (whole node mem) a
       where
-        refused : Follows (λ n m. ready n m && false) view (Refused 2) node mem area g mem′ area′ → Comes c node mem g mem′
-        refused f =
+        go : (t : Bool) → Follows whole view (if t then step (view node mem) c (places area) else Refused 2) node mem area g mem′ area′ → Comes c node mem g mem′
+        go true f =
+            let t = tells whole (turnedAway (view node mem) c (places area)) (effect (view node mem) c) node mem area g mem′ area′ (refused-not-0 (view node mem) c (places area)) f in
             record {
-              readied = rw (f .sameNode, f .sameMem) h;
+              table =
+                  ap tableOf (t .next) ∙ step-view (view node mem) (record { call = c; places = places area })
+                  ∙ ap (λ (b : Bool). feed (tableOf (view node mem)) (record { call = c; taken = b })) (t .taken);
+              inside = λ peer number bar e y. guard-inside (view node mem) peer number bar (places area) (rw (← e) (t .taken ∙ y));
+            }
+        go false f =
+            record {
               table = rw (f .sameNode, f .sameMem, f .number);
               inside = λ peer number bar e y. let z : _≡_ {A = ℕ} 0 1 = cc in absurd (omega arith);
             }
@@ -133,22 +115,20 @@ module _ {Node : Type 0} (ready : Node → List ℕ → Bool) (view : Node → L
             (List·Memᴰ·cases-cons m);
       }
 
-  stands : {node last : Node} {mem end : List ℕ} {fs : List Fed} → ready node mem ≡ true → Full node mem → Made ready view node mem fs last end → Stands node mem fs last end
+  stands : {node last : Node} {mem end : List ℕ} {fs : List Fed} → Full node mem → Made ready view node mem fs last end → Stands node mem fs last end
   unfolding feedAll
-  stands h f made-of.none = record { table = refl; inside = λ peer number bar m. absurd (List·Memᴰ·not-nil m) }
-  stands {node} {last} {mem} {end} h f (made-of.call {mem′ = mem′} {fs = fs} c area area′ g a m) =
-      let x = comes view ready c node mem area g mem′ area′ h a in
-      one-more c node last mem g mem′ end fs f x (λ f′. stands (x .readied) f′ m)
-  stands {node} {last} {mem} {end} h f (made-of.callWith {mem′ = mem′} {fs = fs} whole c area area′ g a m) =
-      let x = comes-with view ready whole c node mem area g mem′ area′ h a in
-      one-more c node last mem g mem′ end fs f x (λ f′. stands (x .readied) f′ m)
+  stands f made-of.none = record { table = refl; inside = λ peer number bar m. absurd (List·Memᴰ·not-nil m) }
+  stands {node} {last} {mem} {end} f (made-of.call {mem′ = mem′} {fs = fs} c area area′ g a m) =
+      one-more c node last mem g mem′ end fs f (comes view ready ready c node mem area g mem′ area′ a) (λ f′. stands f′ m)
+  stands {node} {last} {mem} {end} f (made-of.callWith {mem′ = mem′} {fs = fs} whole c area area′ g a m) =
+      one-more c node last mem g mem′ end fs f (comes view ready (λ n m. ready n m && whole) c node mem area g mem′ area′ a) (λ f′. stands f′ m)
 
   module _ (id population quorum : ℕ) (fs : List Fed) (bar : ℕ) (l : Lived ready view id population quorum fs bar) where
     begin-is : tableOf (view (l .first) (l .begin)) ≡ freshTable id population quorum
     begin-is = ap tableOf (l .stands) ∙ fresh-view id population quorum
 
     lived : Stands (l .first) (l .begin) fs (l .last) (l .end)
-    lived = stands (l .readied) (rw (l .stands) (fresh-sized id population quorum)) (l .made)
+    lived = stands (rw (l .stands) (fresh-sized id population quorum)) (l .made)
 
     all-inside : InsideAll (freshTable id population quorum) fs
     all-inside = rw begin-is at (lived .inside)

@@ -29,7 +29,6 @@ module _ {Node : Type 0} (ready : Node → List ℕ → Bool) (view : Node → L
     pub last : Node
     pub begin : List ℕ
     pub end : List ℕ
-    pub readied : ready first begin ≡ true
     pub stands : view first begin ≡ fresh id population quorum
     pub made : Made first begin fs last end
     pub shows : bar ≡ view last end .peerAccept .max

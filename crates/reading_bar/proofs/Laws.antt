@@ -52,7 +52,6 @@ lived {id} {population} {quorum} {fs} {bar} l =
       last = l .last;
       begin = l .begin;
       end = l .end;
-      readied = s .readied;
       stands = s .replica;
       made = made (l .called);
       shows = bar-is (l .last) (l .end) bar (l .shows);
