@@ -3,17 +3,11 @@ use mathlib.Core.Path.{_≡_, sym, _∙_}
 use mathlib.Core.Bool.{Bool}
 use mathlib.Core.List.{List}
 use Prim.Native.Nat.{ℕ}
-use lib.ListN.{length}
-use Rattle.items.specs.Item.{Item}
 use Rattle.bodega.specs.Replica.{Replica, Call}
 use Rattle.bodega.specs.Step.{Step, Refused, Taken}
-use Rattle.bodega.specs.Answers.{Given, due, Takes, Follows, Answers}
+use Rattle.bodega.specs.Answers.{Given, due, Follows, Answers}
 
 module _ {Node : Type 0} (ready : Node → List ℕ → Bool) (view : Node → List ℕ → Replica) where
-  -- a call that is taken tells the number of its items
-  pub counts : (s : Replica) (l : List Item) (mem area : List ℕ) (g : Given Node) (mem′ area′ : List ℕ) → Takes ready view s l mem area g mem′ area′ → g .count ≡ length l
-  counts s l mem area g mem′ area′ t = t .count
-
   pub record Same (g h : Given Node) (mem₁ mem₂ area₁ area₂ : List ℕ) : Type 0 where
     pub number : g .number ≡ h .number
     pub count : g .count ≡ h .count
