@@ -24,14 +24,19 @@ use Rattle.keys.specs.Shown.{shown}
 use Rattle.ranges.specs.Range.{Range, maskAt, overwrite, remasked}
 use Rattle.keyrange.specs.declared.Stored.{Stored}
 use Rattle.keyrange.specs.declared.Stored.the-variants.{Rows, Full}
-use Rattle.keyrange.specs.Rows.{rangesOf, capped, Stores}
+use Rattle.keyrange.specs.declared.Row.{Row}
+use Rattle.keyrange.specs.Rows.{rangeOf, rangesOf, capped, Stores}
 use Rattle.responders.specs.declared.RespondersConf.{RespondersConf}
+use Rattle.responders.specs.declared.Edited.{Edited}
 use Rattle.responders.specs.declared.Edited.the-variants.{Taken, Refused}
+use Rattle.responders.specs.declared.Asked.{Asked}
+use Rattle.responders.specs.declared.Asked.the-variants.{Store, Refused as No}
 use Rattle.responders.specs.declared.Responders.the-variants.{Mask, NoRoster, Refused as Short}
-use Rattle.responders.specs.Conf.{getRespondersByKey, leaderWithout, setResponders, intoFiltered}
+use Rattle.responders.specs.Conf.{Conf, getRespondersByKey, leaderWithout, setResponders, intoFiltered}
 use Rattle.responders.specs.Ground.{refusal}
-use Rattle.responders.specs.Edit.{Edit, SetLeader, SetResponders, SetFull, IntoFiltered, ResetFull, edit, grounds, refused, taken, answer}
+use Rattle.responders.specs.Edit.{Edit, SetLeader, SetResponders, SetFull, IntoFiltered, ResetFull, edit, grounds, tooMany, refused, taken, answer}
 use Rattle.responders.specs.Edits.{view, holdsRows, inRange, due, Leaves, Gives, lookup}
+use Rattle.responders.specs.Asks.{stored, storing, Asks}
 
 -- ---- tests
 
@@ -143,11 +148,6 @@ module _ (l : List Range) (s after : List ℕ) (r : Stored) (w : Stores l s afte
 -- a roster whose ranges are the l that was stored
 module _ (p : ℕ) (c : RespondersConf) (s : List ℕ) (e : Edit) (t : Bool) (r : t ≡ holdsRows (length s) (c .count) && inRange p) (f : not t ≡ false)
     (l : List Range) (after : List ℕ) (st : Stored) (w : Stores l s after st) where
-  full : st ≡ Full → (ltb 64 (length l) ≡ true → refusal (grounds p (view c s) e) ≡ some 17) → Gives (due p c s e) (Refused 17) s after
-  full g h =
-      let k = stored-none l s after st w g in
-      rw (k .1) (refuses p c s e t r f 17 (h (k .0)))
-
   rows : (n : ℕ) (d : Leader) (m : ℕ) → st ≡ Rows n → (ltb 64 (length l) ≡ false → refusal (grounds p (view c s) e) ≡ none)
       → edit (view c s) e ≡ record { leader = leaderOf d; ranges = l; default = m } → Gives (due p c s e) (Taken (record { leader = d; count = n; default = m })) s after
   unfolding view
@@ -156,82 +156,113 @@ module _ (p : ℕ) (c : RespondersConf) (s : List ℕ) (e : Edit) (t : Bool) (r 
       takes p c s e t r f _ after (h (q .0))
       (record { roster = ap (λ (x : List Range). record { leader = leaderOf d; ranges = x; default = m }) (q .1) ∙ sym k; few = q .2; beyond = w .beyond })
 
-abbrev range : ℕ → ℕ → ℕ → Range
-range a b mask = record { from = a; to = b; mask = mask }
+-- ---- a range: what is asked for, and what is stored
 
-module _ (p mask : ℕ) (c : RespondersConf) (s : List ℕ) (t t4 : Bool) (r : t ≡ holdsRows (length s) (c .count) && inRange p) (f : not t ≡ false)
-    (e4 : t4 ≡ fits mask p) where
-  pub full-4 : not t4 ≡ true → Gives (due p c s (SetFull mask)) (Refused 4) s s
-  unfolding grounds
-  full-4 g = refuses p c s (SetFull mask) t r f 4 (simp (sym e4 ∙ not-true t4 g))
+module _ (c : RespondersConf) (s : List ℕ) (w : Row) (after : List ℕ) (st : Stored) (x : Stores (overwrite (rangesOf s (c .count)) (rangeOf w)) s after st) where
+  pub store-17 : st ≡ Full → Gives (storing (stored (view c s) w)) (Refused 17) s after
+  unfolding setResponders view
+  store-17 e =
+      let k = stored-none _ s after st x e in
+      rw (k .0) (refl, k .1)
 
-  pub range-4 : (start end : List ℕ) → not t4 ≡ true → Gives (due p c s (SetResponders start end mask)) (Refused 4) s s
+  pub store-taken : (n : ℕ) → st ≡ Rows n → Gives (storing (stored (view c s) w)) (Taken (record { leader = c .leader; count = n; default = c .default })) s after
+  unfolding setResponders view
+  store-taken n e =
+      let k = stored-some _ s after st x n e in
+      rw (k .0)
+      (record { roster = ap (λ (l : List Range). record { leader = leaderOf (c .leader); ranges = l; default = c .default }) (k .1); few = k .2; beyond = x .beyond })
+
+-- an answer that no roster changes, or the row stored
+module _ (p : ℕ) (c : RespondersConf) (s : List ℕ) (e : Edit) (t : Bool) (r : t ≡ holdsRows (length s) (c .count) && inRange p) (f : not t ≡ false) where
+  pub asked-refused : (n : ℕ) → ((d : Conf) → answer p d e ≡ refused n) → Gives (due p c s e) (Refused n) s s
+  asked-refused n h = rw (due-answer p c s e t r f ∙ h (view c s)) (refl, refl)
+
+  pub asked-stored : (w : Row) (d : Edited) (after : List ℕ) → ((x : Conf) → answer p x e ≡ storing (stored x w)) → Gives (storing (stored (view c s) w)) d s after
+      → Gives (due p c s e) d s after
+  asked-stored w d after h g = rw (due-answer p c s e t r f ∙ h (view c s)) g
+
+module _ (p : ℕ) (c : RespondersConf) (s start end : List ℕ) (mask : ℕ) (t : Bool) (r : t ≡ holdsRows (length s) (c .count) && inRange p) (f : not t ≡ false) (k : Asked) (a : Asks p start end mask k) where
+  pub range-refused : (n : ℕ) → k ≡ No n → Gives (due p c s (SetResponders start end mask)) (Refused n) s s
+  range-refused n e = asked-refused p c s (SetResponders start end mask) t r f n (rw e at a)
+
+  pub range-stored : (w : Row) → k ≡ Store w → (d : Edited) (after : List ℕ) → Gives (storing (stored (view c s) w)) d s after → Gives (due p c s (SetResponders start end mask)) d s after
+  range-stored w e d after g = asked-stored p c s (SetResponders start end mask) t r f w d after (rw e at a) g
+
+-- the grounds up to 17 do not apply
+only-17 : (p : ℕ) (c : Conf) (e : Edit) → refusal (grounds p c e) ≡ (if tooMany (edit c e) then some 17 else none) → answer p c e ≡ storing (edit c e)
+unfolding answer
+only-17 p c e h = ap (λ (o : Option ℕ). ifNone o then taken (edit c e) else refused) h ∙ go (tooMany (edit c e))
+  where
+    go : (b : Bool) → (ifNone (if b then some 17 else none) then taken (edit c e) else refused) ≡ (if b then refused 17 else taken (edit c e))
+    go true = refl
+    go false = refl
+
+turned-away : (p : ℕ) (c : Conf) (e : Edit) (n : ℕ) → refusal (grounds p c e) ≡ some n → answer p c e ≡ refused n
+unfolding answer
+turned-away p c e n h = ap (λ (o : Option ℕ). ifNone o then taken (edit c e) else refused) h
+
+module _ (p mask : ℕ) (t4 : Bool) (e4 : t4 ≡ fits mask p) where
+  pub full-4 : (c : RespondersConf) (s : List ℕ) (t : Bool) → t ≡ holdsRows (length s) (c .count) && inRange p → not t ≡ false → not t4 ≡ true
+      → Gives (due p c s (SetFull mask)) (Refused 4) s s
   unfolding grounds
-  range-4 start end g = refuses p c s (SetResponders start end mask) t r f 4 (simp (sym e4 ∙ not-true t4 g))
+  full-4 c s t r f g = refuses p c s (SetFull mask) t r f 4 (simp (sym e4 ∙ not-true t4 g))
+
+  pub range-4 : (start end : List ℕ) → not t4 ≡ true → Asks p start end mask (No 4)
+  unfolding grounds
+  range-4 start end g c = turned-away p c (SetResponders start end mask) 4 (simp (sym e4 ∙ not-true t4 g))
 
   module _ (f4 : not t4 ≡ false) where
     ok4 : fits mask p ≡ true
     ok4 = sym e4 ∙ not-false t4 f4
 
-    module _ (after : List ℕ) (st : Stored) (w : Stores (overwrite (rangesOf s (c .count)) (range 0 340282366920938463463374607431768211455 mask)) s after st) where
-      pub full-17 : st ≡ Full → Gives (due p c s (SetFull mask)) (Refused 17) s after
-      unfolding grounds edit setResponders view
-      full-17 g = full p c s (SetFull mask) t r f _ after st w g (λ k. simp (ok4, k))
-
-      pub full-set : (n : ℕ) → st ≡ Rows n → Gives (due p c s (SetFull mask)) (Taken (record { leader = c .leader; count = n; default = c .default })) s after
-      unfolding grounds edit setResponders view
-      full-set n g = rows p c s (SetFull mask) t r f _ after st w n (c .leader) (c .default) g (λ k. simp (ok4, k)) refl
+    pub full-stored : (c : RespondersConf) (s : List ℕ) (t : Bool) → t ≡ holdsRows (length s) (c .count) && inRange p → not t ≡ false → (d : Edited) (after : List ℕ)
+        → Gives (storing (stored (view c s) (record { start = record { hi = 0; lo = 0 }; end = record { hi = 18446744073709551615; lo = 18446744073709551615 }; mask = mask }))) d s after
+        → Gives (due p c s (SetFull mask)) d s after
+    unfolding grounds edit
+    full-stored c s t r f d after g =
+        asked-stored p c s (SetFull mask) t r f (record { start = record { hi = 0; lo = 0 }; end = record { hi = 18446744073709551615; lo = 18446744073709551615 }; mask = mask }) d after
+        (λ x. only-17 p x (SetFull mask) (simp ok4)) g
 
     module _ (start end : List ℕ) where
-      pub range-5 : 48 < length start → Gives (due p c s (SetResponders start end mask)) (Refused 5) s s
+      pub range-5 : 48 < length start → Asks p start end mask (No 5)
       unfolding grounds
-      range-5 g = refuses p c s (SetResponders start end mask) t r f 5 (simp (ok4, lt-ltb 48 (length start) g))
+      range-5 g c = turned-away p c (SetResponders start end mask) 5 (simp (ok4, lt-ltb 48 (length start) g))
 
       module _ (g : length start ≤ 48) where
-        pub range-5-end : 48 < length end → Gives (due p c s (SetResponders start end mask)) (Refused 5) s s
+        pub range-5-end : 48 < length end → Asks p start end mask (No 5)
         unfolding grounds
-        range-5-end h = refuses p c s (SetResponders start end mask) t r f 5 (simp (ok4, le-ltb 48 (length start) g, lt-ltb 48 (length end) h))
+        range-5-end h c = turned-away p c (SetResponders start end mask) 5 (simp (ok4, le-ltb 48 (length start) g, lt-ltb 48 (length end) h))
 
         module _ (h : length end ≤ 48) (ka : KeyRead) (ea : shown ka ≡ readKey start) where
-          pub range-6 : ka ≡ Unread → Gives (due p c s (SetResponders start end mask)) (Refused 6) s s
+          pub range-6 : ka ≡ Unread → Asks p start end mask (No 6)
           unfolding grounds
-          range-6 k =
+          range-6 k c =
               let q : readKey start ≡ none = sym ea ∙ ap shown k in
-              refuses p c s (SetResponders start end mask) t r f 6 (simp (ok4, le-ltb 48 (length start) g, le-ltb 48 (length end) h, q))
+              turned-away p c (SetResponders start end mask) 6 (simp (ok4, le-ltb 48 (length start) g, le-ltb 48 (length end) h, q))
 
           module _ (a : Inty) (fa : ka ≡ Number a) (kb : KeyRead) (eb : shown kb ≡ readKey end) where
             start-is : readKey start ≡ some (valueOf a)
             start-is = sym ea ∙ ap shown fa
 
-            pub range-6-end : kb ≡ Unread → Gives (due p c s (SetResponders start end mask)) (Refused 6) s s
+            pub range-6-end : kb ≡ Unread → Asks p start end mask (No 6)
             unfolding grounds
-            range-6-end k =
+            range-6-end k c =
                 let q : readKey end ≡ none = sym eb ∙ ap shown k in
-                refuses p c s (SetResponders start end mask) t r f 6 (simp (ok4, le-ltb 48 (length start) g, le-ltb 48 (length end) h, start-is, q))
+                turned-away p c (SetResponders start end mask) 6 (simp (ok4, le-ltb 48 (length start) g, le-ltb 48 (length end) h, start-is, q))
 
             module _ (b : Inty) (fb : kb ≡ Number b) (t7 : Bool) (e7 : t7 ≡ ltb (valueOf b) (valueOf a)) where
               end-is : readKey end ≡ some (valueOf b)
               end-is = sym eb ∙ ap shown fb
 
-              pub range-7 : t7 ≡ true → Gives (due p c s (SetResponders start end mask)) (Refused 7) s s
+              pub range-7 : t7 ≡ true → Asks p start end mask (No 7)
               unfolding grounds
-              range-7 k =
-                  refuses p c s (SetResponders start end mask) t r f 7
-                  (simp (ok4, le-ltb 48 (length start) g, le-ltb 48 (length end) h, start-is, end-is, sym e7 ∙ k))
+              range-7 k c = turned-away p c (SetResponders start end mask) 7 (simp (ok4, le-ltb 48 (length start) g, le-ltb 48 (length end) h, start-is, end-is, sym e7 ∙ k))
 
-              module _ (f7 : t7 ≡ false) (after : List ℕ) (st : Stored) (w : Stores (overwrite (rangesOf s (c .count)) (range (valueOf a) (valueOf b) mask)) s after st) where
-                pub range-17 : st ≡ Full → Gives (due p c s (SetResponders start end mask)) (Refused 17) s after
-                unfolding grounds edit setResponders view
-                range-17 k =
-                    full p c s (SetResponders start end mask) t r f _ after st w k
-                    (λ x. simp (ok4, le-ltb 48 (length start) g, le-ltb 48 (length end) h, start-is, end-is, sym e7 ∙ f7, x))
-
-                pub range-set : (n : ℕ) → st ≡ Rows n → Gives (due p c s (SetResponders start end mask)) (Taken (record { leader = c .leader; count = n; default = c .default })) s after
-                unfolding grounds edit setResponders view
-                range-set n k =
-                    rows p c s (SetResponders start end mask) t r f _ after st w n (c .leader) (c .default) k
-                    (λ x. simp (ok4, le-ltb 48 (length start) g, le-ltb 48 (length end) h, start-is, end-is, sym e7 ∙ f7, x))
-                    (simp (start-is, end-is))
+              pub range-asked : t7 ≡ false → Asks p start end mask (Store (record { start = a; end = b; mask = mask }))
+              unfolding grounds edit
+              range-asked k c =
+                  let q : edit c (SetResponders start end mask) ≡ stored c (record { start = a; end = b; mask = mask }) = simp (start-is, end-is) in
+                  only-17 p c (SetResponders start end mask) (simp (ok4, le-ltb 48 (length start) g, le-ltb 48 (length end) h, start-is, end-is, sym e7 ∙ k)) ∙ ap storing q
 
 -- ---- the filter
 

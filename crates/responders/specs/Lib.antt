@@ -2,5 +2,6 @@ pub mod Conf
 pub mod Ground
 pub mod Edit
 pub mod Edits
+pub mod Asks
 pub mod Run
 pub mod Show

@@ -18,7 +18,8 @@ ghost use Rattle.responders.specs.Edit.{SetLeader, SetResponders, SetFul
 ghost use Rattle.items.specs.Item.{itemOf, encode, places};
 ghost use Rattle.keyrange.specs.Rows.{rangeAt, rangesOf};
 ghost use Rattle.responders.specs.Show.{spanOf, spansOf, Listing, listing};
-ghost use Rattle.responders.specs.Edits.{view, holdsRows, inRange, Edits, lookup};
+ghost use Rattle.responders.specs.Edits.{view, holdsRows, inRange, Gives, Edits, lookup};
+ghost use Rattle.responders.specs.Asks.{stored, storing, Asks};
 
 pub struct RespondersConf {
     pub leader: Leader,
@@ -43,6 +44,12 @@ pub enum Shown {
     Refused(u64),
 }
 
+// The row that a range asks for, or why it is turned away.
+enum Asked {
+    Store(Row),
+    Refused(u64),
+}
+
 fn is_whole(len: usize, count: usize) -> bool
     ensures { λ r. ⌜ r ≡ holdsRows len count ⌝ }
 {
@@ -62,6 +69,51 @@ fn is_ready(len: usize, count: usize, population: u8) -> bool
         return false;
     }
     population <= 64
+}
+
+// 4, 5, 6, 7: whether a range can be stored in some roster.
+fn ask(population: u8, start: &[u8], end: &[u8], mask: u64) -> Asked
+    ensures { λ r. ⌜ Asks population (now (start .entry)) (now (end .entry)) mask r ⌝ }
+{
+    if !bitmap::fits(mask, population) {
+        return Asked::Refused(4);
+    }
+    if 48 < start.len() {
+        return Asked::Refused(5);
+    }
+    if 48 < end.len() {
+        return Asked::Refused(5);
+    }
+    let KeyRead::Number(a) = keys::key_to_inty(start) else {
+        return Asked::Refused(6);
+    };
+    let KeyRead::Number(b) = keys::key_to_inty(end) else {
+        return Asked::Refused(6);
+    };
+    if inty::lt(b, a) {
+        return Asked::Refused(7);
+    }
+    Asked::Store(Row {
+        start: a,
+        end: b,
+        mask,
+    })
+}
+
+// 17: the row over those of a roster, where they stay 64 or fewer.
+fn store(conf: RespondersConf, rows: &mut [u64], w: Row) -> Edited
+    requires { ⌜ (conf .count ≤ 64) × (320 ≤ length (now rows)) ⌝ }
+    ensures { λ r. ⌜ Gives (storing (stored (view conf (now (rows .entry))) w)) r (now (rows .entry)) (now (rows .exit)) ⌝ }
+{
+    let Stored::Rows(n) = keyrange::set(rows, conf.count, w) else {
+        return Edited::Refused(17);
+    };
+    let leader = conf.leader;
+    Edited::Taken(RespondersConf {
+        leader,
+        count: n,
+        default: conf.default,
+    })
 }
 
 // No leader where id is it.
@@ -148,38 +200,10 @@ impl RespondersConf {
         if !is_ready(rows.len(), self.count, population) {
             return Edited::Refused(2);
         }
-        if !bitmap::fits(mask, population) {
-            return Edited::Refused(4);
+        match ask(population, start, end, mask) {
+            Asked::Store(w) => store(self, rows, w),
+            Asked::Refused(number) => Edited::Refused(number),
         }
-        if 48 < start.len() {
-            return Edited::Refused(5);
-        }
-        if 48 < end.len() {
-            return Edited::Refused(5);
-        }
-        let KeyRead::Number(a) = keys::key_to_inty(start) else {
-            return Edited::Refused(6);
-        };
-        let KeyRead::Number(b) = keys::key_to_inty(end) else {
-            return Edited::Refused(6);
-        };
-        if inty::lt(b, a) {
-            return Edited::Refused(7);
-        }
-        let w = Row {
-            start: a,
-            end: b,
-            mask,
-        };
-        let Stored::Rows(n) = keyrange::set(rows, self.count, w) else {
-            return Edited::Refused(17);
-        };
-        let leader = self.leader;
-        Edited::Taken(RespondersConf {
-            leader,
-            count: n,
-            default: self.default,
-        })
     }
 
     // For all keys.
@@ -202,15 +226,7 @@ impl RespondersConf {
             end: b,
             mask,
         };
-        let Stored::Rows(n) = keyrange::set(rows, self.count, w) else {
-            return Edited::Refused(17);
-        };
-        let leader = self.leader;
-        Edited::Taken(RespondersConf {
-            leader,
-            count: n,
-            default: self.default,
-        })
+        store(self, rows, w)
     }
 
     pub fn into_filtered(self, rows: &mut [u64], population: u8, id: Replica) -> Edited

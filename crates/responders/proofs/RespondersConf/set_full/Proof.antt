@@ -15,26 +15,14 @@ fits-requires c κs = search needs
 returns-2 : tie.Need-returns-2
 returns-2 c = search (needs, law.full-4)
 
-set-requires : tie.Need-set-requires
-set-requires c κs = search (needs, law.ready-few, law.ready-long)
-
-enum-known-n : tie.Need-enum-known-n
-enum-known-n c = search needs
-
-enum-told : tie.Need-enum-told
-enum-told c = search needs
+store-requires : tie.Need-store-requires
+store-requires c κs = search (needs, law.ready-few, law.ready-long)
 
 same-length : tie.Need-same-length
 same-length c = search needs
 
 returns-3 : tie.Need-returns-3
-returns-3 c = search (needs, law.full-17)
-
-same-length-2 : tie.Need-same-length-2
-same-length-2 c = search needs
-
-returns-4 : tie.Need-returns-4
-returns-4 c = search (needs, law.full-set)
+returns-3 c = search (needs, law.full-stored)
 
 pub set-full-spec : {M : Type 1} → statement M
 set-full-spec =
@@ -44,10 +32,6 @@ set-full-spec =
     returns
     fits-requires
     returns-2
-    set-requires
-    enum-known-n
-    enum-told
+    store-requires
     same-length
-    returns-3
-    same-length-2
-    returns-4)
+    returns-3)
