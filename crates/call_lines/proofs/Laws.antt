@@ -27,7 +27,8 @@ use Rattle.fields.specs.declared.Field.{Field}
 use Rattle.fields.specs.declared.NumberAt.{NumberAt}
 use Rattle.fields.proofs.Laws.{all-read, none-left}
 use Rattle.heartbeat.specs.Heartbeat.{fitting}
-use Rattle.hosts.specs.Line.{isHeard, isRead}
+use Rattle.fields.specs.declared.CallKind.{CallKind}
+use Rattle.hosts.specs.Line.{isHeard, isRead, isCall, callOf}
 use Rattle.hosts.specs.Acts.{AnswersLine}
 use Rattle.hosts.proofs.Laws.{not-both, some-left}
 use Rattle.call_lines.specs.declared.ReadFields.{ReadFields}
@@ -115,6 +116,10 @@ module _ (s : Bytes) (at k : ℕ) (out out′ : List ℕ) (b : Bool) (h : ReadsN
       pub four : (c : ℕ → ℕ → ℕ → ℕ → Call) → 3 < k → Answers ready view (c (getD out′ 0 0) (getD out′ 1 0) (getD out′ 2 0) (getD out′ 3 0)) n m area (givenOf r) m′ area′
           → AnswersLine (numbers k (fieldsFrom s at)) (c (numberAt (fieldsFrom s at) 0) (numberAt (fieldsFrom s at) 1) (numberAt (fieldsFrom s at) 2) (numberAt (fieldsFrom s at) 3)) n m area r m′ area′
       four c l a = well-formed _ _ n m area m′ area′ r are-numbers (rw (value 0 (omega arith), value 1 (omega arith), value 2 (omega arith), value 3 l) at a)
+
+pub of-kind : (k x : CallKind) (fs : List Bytes) (n : Node) (m area m′ area′ : List ℕ) (r : Answered) → k ≡ x → AnswersLine (isCall x fs) (callOf x fs) n m area r m′ area′
+    → AnswersLine (isCall k fs) (callOf k fs) n m area r m′ area′
+of-kind k x fs n m area m′ area′ r e f = subst (λ (y : CallKind). AnswersLine (isCall y fs) (callOf y fs) n m area r m′ area′) (sym e) f
 
 -- ---- a heartbeat
 

@@ -1,4 +1,5 @@
 // The lines of the calls: a line's fields, from a position on, are the call's arguments. A line whose fields are not well-formed is refused 1.
+use fields::CallKind;
 use ids::Ballot;
 use ids::Replica;
 use ids::Slot;
@@ -18,7 +19,7 @@ ghost use Rattle.bodega.specs.Replica.{Heartbeat, Guard, Prepared, Reply, Notic
 ghost use Rattle.bodega.specs.Answers.{Answers};
 ghost use Rattle.node.specs.View.{view, ready, givenOf};
 ghost use Rattle.heartbeat.specs.Heartbeat.{carried};
-ghost use Rattle.hosts.specs.Line.{isHeard, isRead};
+ghost use Rattle.hosts.specs.Line.{isHeard, isRead, isCall, callOf};
 ghost use Rattle.hosts.specs.Acts.{AnswersLine};
 ghost use Rattle.call_lines.specs.ReadsRead.{ReadsRead};
 
@@ -73,7 +74,7 @@ fn guard_with(
     )
 }
 
-pub fn guard_line(node: Node, mem: &mut [u64], area: &[u64], line: &[u8], at: usize) -> Answered
+fn guard_line(node: Node, mem: &mut [u64], area: &[u64], line: &[u8], at: usize) -> Answered
     ensures { λ r. ⌜ AnswersLine (numbers 3 (fieldsFrom (now (line .entry)) at)) (Guard (numberAt (fieldsFrom (now (line .entry)) at) 0) (numberAt (fieldsFrom (now (line .entry)) at) 1) (numberAt (fieldsFrom (now (line .entry)) at) 2)) node (now (mem .entry)) (now (area .entry)) r (now (mem .exit)) (now (area .entry)) ⌝ }
 {
     let mut a = [0u64; 3];
@@ -83,7 +84,7 @@ pub fn guard_line(node: Node, mem: &mut [u64], area: &[u64], line: &[u8], at: us
     guard_with(node, mem, area, a[0], a[1], a[2])
 }
 
-pub fn prepared_line(node: Node, mem: &[u64], area: &[u64], line: &[u8], at: usize) -> Answered
+fn prepared_line(node: Node, mem: &[u64], area: &[u64], line: &[u8], at: usize) -> Answered
     ensures { λ r. ⌜ AnswersLine (numbers 1 (fieldsFrom (now (line .entry)) at)) (Prepared (numberAt (fieldsFrom (now (line .entry)) at) 0)) node (now (mem .entry)) (now (area .entry)) r (now (mem .entry)) (now (area .entry)) ⌝ }
 {
     let mut a = [0u64; 1];
@@ -116,7 +117,7 @@ fn reply_with(
     )
 }
 
-pub fn reply_line(node: Node, mem: &mut [u64], area: &mut [u64], line: &[u8], at: usize) -> Answered
+fn reply_line(node: Node, mem: &mut [u64], area: &mut [u64], line: &[u8], at: usize) -> Answered
     ensures { λ r. ⌜ AnswersLine (numbers 3 (fieldsFrom (now (line .entry)) at)) (Reply (numberAt (fieldsFrom (now (line .entry)) at) 0) (numberAt (fieldsFrom (now (line .entry)) at) 1) (numberAt (fieldsFrom (now (line .entry)) at) 2)) node (now (mem .entry)) (now (area .entry)) r (now (mem .exit)) (now (area .exit)) ⌝ }
 {
     let mut a = [0u64; 3];
@@ -149,13 +150,7 @@ fn notice_with(
     )
 }
 
-pub fn notice_line(
-    node: Node,
-    mem: &mut [u64],
-    area: &mut [u64],
-    line: &[u8],
-    at: usize,
-) -> Answered
+fn notice_line(node: Node, mem: &mut [u64], area: &mut [u64], line: &[u8], at: usize) -> Answered
     ensures { λ r. ⌜ AnswersLine (numbers 3 (fieldsFrom (now (line .entry)) at)) (Notice (numberAt (fieldsFrom (now (line .entry)) at) 0) (numberAt (fieldsFrom (now (line .entry)) at) 1) (numberAt (fieldsFrom (now (line .entry)) at) 2)) node (now (mem .entry)) (now (area .entry)) r (now (mem .exit)) (now (area .exit)) ⌝ }
 {
     let mut a = [0u64; 3];
@@ -188,13 +183,7 @@ fn commit_with(
     )
 }
 
-pub fn commit_line(
-    node: Node,
-    mem: &mut [u64],
-    area: &mut [u64],
-    line: &[u8],
-    at: usize,
-) -> Answered
+fn commit_line(node: Node, mem: &mut [u64], area: &mut [u64], line: &[u8], at: usize) -> Answered
     ensures { λ r. ⌜ AnswersLine (numbers 3 (fieldsFrom (now (line .entry)) at)) (CommitNotice (numberAt (fieldsFrom (now (line .entry)) at) 0) (numberAt (fieldsFrom (now (line .entry)) at) 1) (numberAt (fieldsFrom (now (line .entry)) at) 2)) node (now (mem .entry)) (now (area .entry)) r (now (mem .exit)) (now (area .exit)) ⌝ }
 {
     let mut a = [0u64; 3];
@@ -204,7 +193,7 @@ pub fn commit_line(
     commit_with(node, mem, area, a[0], a[1], a[2])
 }
 
-pub fn bars_line(node: Node, mem: &mut [u64], area: &[u64], line: &[u8], at: usize) -> Answered
+fn bars_line(node: Node, mem: &mut [u64], area: &[u64], line: &[u8], at: usize) -> Answered
     ensures { λ r. ⌜ AnswersLine (numbers 4 (fieldsFrom (now (line .entry)) at)) (Bars (numberAt (fieldsFrom (now (line .entry)) at) 0) (numberAt (fieldsFrom (now (line .entry)) at) 1) (numberAt (fieldsFrom (now (line .entry)) at) 2) (numberAt (fieldsFrom (now (line .entry)) at) 3)) node (now (mem .entry)) (now (area .entry)) r (now (mem .exit)) (now (area .entry)) ⌝ }
 {
     let mut a = [0u64; 4];
@@ -222,13 +211,7 @@ pub fn bars_line(node: Node, mem: &mut [u64], area: &[u64], line: &[u8], at: usi
     )
 }
 
-pub fn release_line(
-    node: Node,
-    mem: &mut [u64],
-    area: &mut [u64],
-    line: &[u8],
-    at: usize,
-) -> Answered
+fn release_line(node: Node, mem: &mut [u64], area: &mut [u64], line: &[u8], at: usize) -> Answered
     ensures { λ r. ⌜ AnswersLine (numbers 1 (fieldsFrom (now (line .entry)) at)) (Release (numberAt (fieldsFrom (now (line .entry)) at) 0)) node (now (mem .entry)) (now (area .entry)) r (now (mem .exit)) (now (area .exit)) ⌝ }
 {
     let mut a = [0u64; 1];
@@ -293,7 +276,7 @@ fn read_fields(line: &[u8], at: usize) -> ReadFields
     }
 }
 
-pub fn read_line(node: Node, mem: &mut [u64], area: &mut [u64], line: &[u8], at: usize) -> Answered
+fn read_line(node: Node, mem: &mut [u64], area: &mut [u64], line: &[u8], at: usize) -> Answered
     ensures { λ r. ⌜ AnswersLine (isRead (fieldsFrom (now (line .entry)) at)) (Read (numberAt (fieldsFrom (now (line .entry)) at) 2) (record { client = numberAt (fieldsFrom (now (line .entry)) at) 0; request = numberAt (fieldsFrom (now (line .entry)) at) 1; key = getD (fieldsFrom (now (line .entry)) at) 3 [] })) node (now (mem .entry)) (now (area .entry)) r (now (mem .exit)) (now (area .exit)) ⌝ }
 {
     let f = read_fields(line, at);
@@ -311,6 +294,29 @@ pub fn read_line(node: Node, mem: &mut [u64], area: &mut [u64], line: &[u8], at:
         f.leases,
         &line[start..end],
     )
+}
+
+// Any of the calls above.
+pub fn call_line(
+    kind: CallKind,
+    node: Node,
+    mem: &mut [u64],
+    area: &mut [u64],
+    line: &[u8],
+    at: usize,
+) -> Answered
+    ensures { λ r. ⌜ AnswersLine (isCall kind (fieldsFrom (now (line .entry)) at)) (callOf kind (fieldsFrom (now (line .entry)) at)) node (now (mem .entry)) (now (area .entry)) r (now (mem .exit)) (now (area .exit)) ⌝ }
+{
+    match kind {
+        CallKind::Guard => guard_line(node, mem, area, line, at),
+        CallKind::Prepared => prepared_line(node, mem, area, line, at),
+        CallKind::Reply => reply_line(node, mem, area, line, at),
+        CallKind::Notice => notice_line(node, mem, area, line, at),
+        CallKind::Commit => commit_line(node, mem, area, line, at),
+        CallKind::Bars => bars_line(node, mem, area, line, at),
+        CallKind::Read => read_line(node, mem, area, line, at),
+        CallKind::Release => release_line(node, mem, area, line, at),
+    }
 }
 
 // A draft that is attached is whole.

@@ -1,5 +1,5 @@
 -- A line's fields as the arguments of an edit, a listing or a node. Assumes nothing.
-use mathlib.Core.Path.{_≡_, refl, sym, ap, _∙_}
+use mathlib.Core.Path.{_≡_, refl, sym, ap, subst, _∙_}
 use mathlib.Core.Bool.{Bool, true, false, not, _&&_, and-false}
 use mathlib.Core.List.{List, [], _∷_}
 use Prim.Native.Nat.{ℕ, _<_, _≤_}
@@ -31,7 +31,8 @@ use Rattle.node.specs.declared.Fresh.the-variants as begun
 use Rattle.node.specs.View as node
 use Rattle.node.specs.View.{size, ready}
 use Rattle.node.specs.Begins as begins
-use Rattle.hosts.specs.Line.{isRange}
+use Rattle.fields.specs.declared.EditKind.{EditKind}
+use Rattle.hosts.specs.Line.{isRange, isEdit, editOf}
 use Rattle.hosts.specs.Acts.{EditsLine}
 use Rattle.hosts.proofs.Laws.{not-both, some-left}
 use Rattle.draft_lines.specs.declared.RangeFields.{RangeFields}
@@ -86,6 +87,10 @@ module _ (s : Bytes) (at k : ℕ) (out out′ : List ℕ) (b : Bool) (h : ReadsN
       → Edits (e (getD out′ 0 0)) population c rows r rows′ → EditsLine (numbers k (fieldsFrom s at)) (e (numberAt (fieldsFrom s at) 0)) population c rows r rows′
   one-number e population c rows rows′ r f l g =
       good-edit _ _ population c rows rows′ r (sym (h .good) ∙ not-false b f) (rw (h .values (not-false b f) 0 l) at g)
+
+pub of-kind : (k x : EditKind) (fs : List Bytes) (population : ℕ) (c : RespondersConf) (rows rows′ : List ℕ) (r : Edited) → k ≡ x → EditsLine (isEdit x fs) (editOf x fs) population c rows r rows′
+    → EditsLine (isEdit k fs) (editOf k fs) population c rows r rows′
+of-kind k x fs population c rows rows′ r e f = subst (λ (y : EditKind). EditsLine (isEdit y fs) (editOf y fs) population c rows r rows′) (sym e) f
 
 -- ---- no fields
 

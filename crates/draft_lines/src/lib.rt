@@ -1,4 +1,5 @@
 // The lines of the node and of the draft. Where no node is made, a draft's line is refused 2 like one for a population that is none.
+use fields::EditKind;
 use ids::Replica;
 use node::Answered;
 use node::Fresh;
@@ -16,7 +17,7 @@ ghost use Rattle.fields.specs.Number.{numbers, numberAt};
 ghost use Rattle.responders.specs.Edit.{SetLeader, SetResponders, SetFull, IntoFiltered, ResetFull};
 ghost use Rattle.responders.specs.Edits.{Edits};
 ghost use Rattle.node.specs.View.{inRange};
-ghost use Rattle.hosts.specs.Line.{isRange};
+ghost use Rattle.hosts.specs.Line.{isEdit, editOf, isRange};
 ghost use Rattle.hosts.specs.Acts.{EditsLine};
 ghost use Rattle.draft_lines.specs.Drafts.{ReadsRange, ShowsLine, BeginsBy, BeginsLine};
 
@@ -31,13 +32,7 @@ fn lead_with(draft: RespondersConf, rows: &[u64], population: u8, leader: u64) -
     draft.set_leader(rows, population, Replica(leader as u8))
 }
 
-pub fn lead_line(
-    draft: RespondersConf,
-    rows: &[u64],
-    population: u8,
-    line: &[u8],
-    at: usize,
-) -> Edited
+fn lead_line(draft: RespondersConf, rows: &[u64], population: u8, line: &[u8], at: usize) -> Edited
     ensures { λ r. ⌜ EditsLine (numbers 1 (fieldsFrom (now (line .entry)) at)) (SetLeader (numberAt (fieldsFrom (now (line .entry)) at) 0)) population draft (now (rows .entry)) r (now (rows .entry)) ⌝ }
 {
     let mut a = [0u64; 1];
@@ -56,7 +51,7 @@ fn drop_with(draft: RespondersConf, rows: &mut [u64], population: u8, id: u64) -
     draft.into_filtered(rows, population, Replica(id as u8))
 }
 
-pub fn drop_line(
+fn drop_line(
     draft: RespondersConf,
     rows: &mut [u64],
     population: u8,
@@ -72,7 +67,7 @@ pub fn drop_line(
     drop_with(draft, rows, population, a[0])
 }
 
-pub fn whole_line(
+fn whole_line(
     draft: RespondersConf,
     rows: &mut [u64],
     population: u8,
@@ -88,13 +83,7 @@ pub fn whole_line(
     draft.set_full(rows, population, a[0])
 }
 
-pub fn reset_line(
-    draft: RespondersConf,
-    rows: &[u64],
-    population: u8,
-    line: &[u8],
-    at: usize,
-) -> Edited
+fn reset_line(draft: RespondersConf, rows: &[u64], population: u8, line: &[u8], at: usize) -> Edited
     ensures { λ r. ⌜ EditsLine (numbers 0 (fieldsFrom (now (line .entry)) at)) (ResetFull) population draft (now (rows .entry)) r (now (rows .entry)) ⌝ }
 {
     if !fields::ended(line, at) {
@@ -154,7 +143,7 @@ fn range_fields(line: &[u8], at: usize) -> RangeFields
     }
 }
 
-pub fn range_line(
+fn range_line(
     draft: RespondersConf,
     rows: &mut [u64],
     population: u8,
@@ -178,6 +167,26 @@ pub fn range_line(
         &line[end..end_end],
         f.mask,
     )
+}
+
+// Any edit of the draft.
+pub fn edit_line(
+    kind: EditKind,
+    draft: RespondersConf,
+    rows: &mut [u64],
+    population: u8,
+    line: &[u8],
+    at: usize,
+) -> Edited
+    ensures { λ r. ⌜ EditsLine (isEdit kind (fieldsFrom (now (line .entry)) at)) (editOf kind (fieldsFrom (now (line .entry)) at)) population draft (now (rows .entry)) r (now (rows .exit)) ⌝ }
+{
+    match kind {
+        EditKind::Lead => lead_line(draft, rows, population, line, at),
+        EditKind::Range => range_line(draft, rows, population, line, at),
+        EditKind::Whole => whole_line(draft, rows, population, line, at),
+        EditKind::Drop => drop_line(draft, rows, population, line, at),
+        EditKind::Reset => reset_line(draft, rows, population, line, at),
+    }
 }
 
 pub fn show_line(

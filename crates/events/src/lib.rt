@@ -110,39 +110,11 @@ fn act(
     let draft = host.draft;
     match kind {
         Kind::Node => called(host, draft_lines::node_line(node, mem, line, at)),
-        Kind::Lead => {
+        Kind::Edit(edit) => {
             let population = population_of(node, mem);
             edited(
                 host,
-                draft_lines::lead_line(draft, rows, population, line, at),
-            )
-        }
-        Kind::Range => {
-            let population = population_of(node, mem);
-            edited(
-                host,
-                draft_lines::range_line(draft, rows, population, line, at),
-            )
-        }
-        Kind::Whole => {
-            let population = population_of(node, mem);
-            edited(
-                host,
-                draft_lines::whole_line(draft, rows, population, line, at),
-            )
-        }
-        Kind::Drop => {
-            let population = population_of(node, mem);
-            edited(
-                host,
-                draft_lines::drop_line(draft, rows, population, line, at),
-            )
-        }
-        Kind::Reset => {
-            let population = population_of(node, mem);
-            edited(
-                host,
-                draft_lines::reset_line(draft, rows, population, line, at),
+                draft_lines::edit_line(edit, draft, rows, population, line, at),
             )
         }
         Kind::Show => {
@@ -156,18 +128,11 @@ fn act(
             host,
             call_lines::heard_line(node, mem, area, draft, rows, line, at),
         ),
-        Kind::Guard => called(host, call_lines::guard_line(node, mem, area, line, at)),
-        Kind::Prepared => called(host, call_lines::prepared_line(node, mem, area, line, at)),
         Kind::Record => called(
             host,
             record_lines::record_line(node, mem, area, groups, line, at),
         ),
-        Kind::Reply => called(host, call_lines::reply_line(node, mem, area, line, at)),
-        Kind::Notice => called(host, call_lines::notice_line(node, mem, area, line, at)),
-        Kind::Commit => called(host, call_lines::commit_line(node, mem, area, line, at)),
-        Kind::Bars => called(host, call_lines::bars_line(node, mem, area, line, at)),
-        Kind::Read => called(host, call_lines::read_line(node, mem, area, line, at)),
-        Kind::Release => called(host, call_lines::release_line(node, mem, area, line, at)),
+        Kind::Call(call) => called(host, call_lines::call_line(call, node, mem, area, line, at)),
         Kind::Unknown => refused(host, 1),
     }
 }

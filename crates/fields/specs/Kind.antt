@@ -8,28 +8,30 @@ use Rattle.words.specs.Choice.{if_then_else_}
 use Rattle.keys.specs.Same.{sameBytes}
 use Rattle.bodega.specs.Text.{bytes}
 use Rattle.fields.specs.declared.Kind.{Kind}
-use Rattle.fields.specs.declared.Kind.the-variants.{Node, Lead, Range, Whole, Drop, Reset, Show, Heard, Guard, Prepared, Record, Reply, Notice, Commit, Bars, Read, Release, Unknown}
+use Rattle.fields.specs.declared.Kind.the-variants.{Node, Edit, Show, Heard, Record, Call, Unknown}
+use Rattle.fields.specs.declared.EditKind.the-variants.{Lead, Range, Whole, Drop, Reset}
+use Rattle.fields.specs.declared.CallKind.the-variants.{Guard, Prepared, Reply, Notice, Commit, Bars, Read, Release}
 use Rattle.fields.specs.Split.{Bytes}
 
 unfoldable pub kindOf : Bytes → Kind
 kindOf name =
     if sameBytes name (bytes "node") then Node else
-    if sameBytes name (bytes "lead") then Lead else
-    if sameBytes name (bytes "range") then Range else
-    if sameBytes name (bytes "whole") then Whole else
-    if sameBytes name (bytes "drop") then Drop else
-    if sameBytes name (bytes "reset") then Reset else
+    if sameBytes name (bytes "lead") then Edit Lead else
+    if sameBytes name (bytes "range") then Edit Range else
+    if sameBytes name (bytes "whole") then Edit Whole else
+    if sameBytes name (bytes "drop") then Edit Drop else
+    if sameBytes name (bytes "reset") then Edit Reset else
     if sameBytes name (bytes "show") then Show else
     if sameBytes name (bytes "heard") then Heard else
-    if sameBytes name (bytes "guard") then Guard else
-    if sameBytes name (bytes "prepared") then Prepared else
+    if sameBytes name (bytes "guard") then Call Guard else
+    if sameBytes name (bytes "prepared") then Call Prepared else
     if sameBytes name (bytes "record") then Record else
-    if sameBytes name (bytes "reply") then Reply else
-    if sameBytes name (bytes "notice") then Notice else
-    if sameBytes name (bytes "commit") then Commit else
-    if sameBytes name (bytes "bars") then Bars else
-    if sameBytes name (bytes "read") then Read else
-    if sameBytes name (bytes "release") then Release else
+    if sameBytes name (bytes "reply") then Call Reply else
+    if sameBytes name (bytes "notice") then Call Notice else
+    if sameBytes name (bytes "commit") then Call Commit else
+    if sameBytes name (bytes "bars") then Call Bars else
+    if sameBytes name (bytes "read") then Call Read else
+    if sameBytes name (bytes "release") then Call Release else
     Unknown
 
 -- ---- how the code tells them: by the length of the name and by its bytes as one word, the first one the highest
@@ -44,20 +46,20 @@ wordOf s = wordFrom 0 s
 abbrev pub kindBy : ℕ → ℕ → Kind
 kindBy n w =
     if eqb n 4 && eqb w 1852793957 then Node else
-    if eqb n 4 && eqb w 1818583396 then Lead else
-    if eqb n 5 && eqb w 491260897125 then Range else
-    if eqb n 5 && eqb w 512853240933 then Whole else
-    if eqb n 4 && eqb w 1685221232 then Drop else
-    if eqb n 5 && eqb w 491328333172 then Reset else
+    if eqb n 4 && eqb w 1818583396 then Edit Lead else
+    if eqb n 5 && eqb w 491260897125 then Edit Range else
+    if eqb n 5 && eqb w 512853240933 then Edit Whole else
+    if eqb n 4 && eqb w 1685221232 then Edit Drop else
+    if eqb n 5 && eqb w 491328333172 then Edit Reset else
     if eqb n 4 && eqb w 1936224119 then Show else
     if eqb n 5 && eqb w 448377483876 then Heard else
-    if eqb n 5 && eqb w 444350952036 then Guard else
-    if eqb n 8 && eqb w 8102650212938573156 then Prepared else
+    if eqb n 5 && eqb w 444350952036 then Call Guard else
+    if eqb n 8 && eqb w 8102650212938573156 then Call Prepared else
     if eqb n 6 && eqb w 125779785511524 then Record else
-    if eqb n 5 && eqb w 491328138361 then Reply else
-    if eqb n 6 && eqb w 121424973488997 then Notice else
-    if eqb n 6 && eqb w 109330228406644 then Commit else
-    if eqb n 4 && eqb w 1650553459 then Bars else
-    if eqb n 4 && eqb w 1919246692 then Read else
-    if eqb n 7 && eqb w 32199663576773477 then Release else
+    if eqb n 5 && eqb w 491328138361 then Call Reply else
+    if eqb n 6 && eqb w 121424973488997 then Call Notice else
+    if eqb n 6 && eqb w 109330228406644 then Call Commit else
+    if eqb n 4 && eqb w 1650553459 then Call Bars else
+    if eqb n 4 && eqb w 1919246692 then Call Read else
+    if eqb n 7 && eqb w 32199663576773477 then Call Release else
     Unknown

@@ -158,26 +158,35 @@ pub fn number_of(s: &[u8]) -> Number
     }
 }
 
-// The seventeen kinds of lines.
+// The seventeen kinds of lines: the edits of the draft and the calls that only the node and its answer area take part in are
+// groups of their own.
 pub enum Kind {
     Node,
+    Edit(EditKind),
+    Show,
+    Heard,
+    Record,
+    Call(CallKind),
+    Unknown,
+}
+
+pub enum EditKind {
     Lead,
     Range,
     Whole,
     Drop,
     Reset,
-    Show,
-    Heard,
+}
+
+pub enum CallKind {
     Guard,
     Prepared,
-    Record,
     Reply,
     Notice,
     Commit,
     Bars,
     Read,
     Release,
-    Unknown,
 }
 
 // A name's bytes as one word, the first one the highest.
@@ -199,11 +208,11 @@ fn of_four(w: u64) -> Kind
 {
     match w {
         0x6e6f6465 => Kind::Node,
-        0x6c656164 => Kind::Lead,
-        0x64726f70 => Kind::Drop,
+        0x6c656164 => Kind::Edit(EditKind::Lead),
+        0x64726f70 => Kind::Edit(EditKind::Drop),
         0x73686f77 => Kind::Show,
-        0x62617273 => Kind::Bars,
-        0x72656164 => Kind::Read,
+        0x62617273 => Kind::Call(CallKind::Bars),
+        0x72656164 => Kind::Call(CallKind::Read),
         _ => Kind::Unknown,
     }
 }
@@ -212,12 +221,12 @@ fn of_five(w: u64) -> Kind
     ensures { λ r. ⌜ r ≡ kindBy 5 w ⌝ }
 {
     match w {
-        0x72616e6765 => Kind::Range,
-        0x77686f6c65 => Kind::Whole,
-        0x7265736574 => Kind::Reset,
+        0x72616e6765 => Kind::Edit(EditKind::Range),
+        0x77686f6c65 => Kind::Edit(EditKind::Whole),
+        0x7265736574 => Kind::Edit(EditKind::Reset),
         0x6865617264 => Kind::Heard,
-        0x6775617264 => Kind::Guard,
-        0x7265706c79 => Kind::Reply,
+        0x6775617264 => Kind::Call(CallKind::Guard),
+        0x7265706c79 => Kind::Call(CallKind::Reply),
         _ => Kind::Unknown,
     }
 }
@@ -227,8 +236,8 @@ fn of_six(w: u64) -> Kind
 {
     match w {
         0x7265636f7264 => Kind::Record,
-        0x6e6f74696365 => Kind::Notice,
-        0x636f6d6d6974 => Kind::Commit,
+        0x6e6f74696365 => Kind::Call(CallKind::Notice),
+        0x636f6d6d6974 => Kind::Call(CallKind::Commit),
         _ => Kind::Unknown,
     }
 }
@@ -237,7 +246,7 @@ fn of_seven(w: u64) -> Kind
     ensures { λ r. ⌜ r ≡ kindBy 7 w ⌝ }
 {
     match w {
-        0x72656c65617365 => Kind::Release,
+        0x72656c65617365 => Kind::Call(CallKind::Release),
         _ => Kind::Unknown,
     }
 }
@@ -246,7 +255,7 @@ fn of_eight(w: u64) -> Kind
     ensures { λ r. ⌜ r ≡ kindBy 8 w ⌝ }
 {
     match w {
-        0x7072657061726564 => Kind::Prepared,
+        0x7072657061726564 => Kind::Call(CallKind::Prepared),
         _ => Kind::Unknown,
     }
 }

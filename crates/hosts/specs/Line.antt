@@ -9,7 +9,11 @@ use Rattle.words.specs.Choice.{if_then_else_}
 use Rattle.fields.specs.Split.{Bytes, fieldsOf}
 use Rattle.fields.specs.Kind.{kindOf}
 use Rattle.fields.specs.declared.Kind.{Kind}
-use Rattle.fields.specs.declared.Kind.the-variants.{Node, Lead, Range, Whole, Drop, Reset, Show, Heard, Guard, Prepared, Record, Reply, Notice, Commit, Bars, Read, Release, Unknown}
+use Rattle.fields.specs.declared.Kind.the-variants as kinds
+use Rattle.fields.specs.declared.EditKind.{EditKind}
+use Rattle.fields.specs.declared.EditKind.the-variants.{Lead, Range, Whole, Drop, Reset}
+use Rattle.fields.specs.declared.CallKind.{CallKind}
+use Rattle.fields.specs.declared.CallKind.the-variants.{Guard, Prepared, Reply, Notice, Commit, Bars, Read, Release}
 use Rattle.fields.specs.Number.{hasByte, isNumber, valueOf, numbers, numberAt}
 use Rattle.responders.specs.Edit.{Edit, SetLeader, SetResponders, SetFull, IntoFiltered, ResetFull}
 use Rattle.bodega.specs.Replica.{Command, Get, Put, Request, Call}
@@ -55,7 +59,7 @@ isRecord fs = leb 2 (length fs) && isNumber (getD fs 0 []) && isNumber (getD fs 
 abbrev pub recordLine : List Bytes → Option Line
 recordLine fs = only (isRecord fs) (CallLine (call.Record (numberAt fs 0) (numberAt fs 1) (batchOf (drop 2 fs))))
 
--- ---- the other kinds
+-- ---- the heartbeat
 
 -- WITH: "1 attaches the draft, 0 none, else refusal 1"
 abbrev pub isHeard : List Bytes → Bool
@@ -64,38 +68,59 @@ isHeard fs = numbers 6 fs && ltb (numberAt fs 2) 2
 abbrev pub heardLine : List Bytes → Option Line
 heardLine fs = only (isHeard fs) (HeardLine (numberAt fs 0) (numberAt fs 1) (eqb (numberAt fs 2) 1) (numberAt fs 3) (numberAt fs 4) (numberAt fs 5))
 
+-- ---- the edits of the draft: whether the fields of a line are well-formed, and the edit that they are
+
 abbrev pub isRange : List Bytes → Bool
 isRange fs = eqb (length fs) 3 && isNumber (getD fs 2 [])
 
-abbrev pub rangeLine : List Bytes → Option Line
-rangeLine fs = only (isRange fs) (EditLine (SetResponders (getD fs 0 []) (getD fs 1 []) (numberAt fs 2)))
+abbrev pub isEdit : EditKind → List Bytes → Bool
+isEdit Lead fs = numbers 1 fs
+isEdit Range fs = isRange fs
+isEdit Whole fs = numbers 1 fs
+isEdit Drop fs = numbers 1 fs
+isEdit Reset fs = numbers 0 fs
+
+abbrev pub editOf : EditKind → List Bytes → Edit
+editOf Lead fs = SetLeader (numberAt fs 0)
+editOf Range fs = SetResponders (getD fs 0 []) (getD fs 1 []) (numberAt fs 2)
+editOf Whole fs = SetFull (numberAt fs 0)
+editOf Drop fs = IntoFiltered (numberAt fs 0)
+editOf Reset fs = ResetFull
+
+-- ---- eight of the calls, in the same way
 
 abbrev pub isRead : List Bytes → Bool
 isRead fs = eqb (length fs) 4 && isNumber (getD fs 0 []) && isNumber (getD fs 1 []) && isNumber (getD fs 2 [])
 
-abbrev pub readLine : List Bytes → Option Line
-readLine fs = only (isRead fs) (CallLine (call.Read (numberAt fs 2) (record { client = numberAt fs 0; request = numberAt fs 1; key = getD fs 3 [] })))
+abbrev pub isCall : CallKind → List Bytes → Bool
+isCall Guard fs = numbers 3 fs
+isCall Prepared fs = numbers 1 fs
+isCall Reply fs = numbers 3 fs
+isCall Notice fs = numbers 3 fs
+isCall Commit fs = numbers 3 fs
+isCall Bars fs = numbers 4 fs
+isCall Read fs = isRead fs
+isCall Release fs = numbers 1 fs
+
+abbrev pub callOf : CallKind → List Bytes → Call
+callOf Guard fs = call.Guard (numberAt fs 0) (numberAt fs 1) (numberAt fs 2)
+callOf Prepared fs = call.Prepared (numberAt fs 0)
+callOf Reply fs = call.Reply (numberAt fs 0) (numberAt fs 1) (numberAt fs 2)
+callOf Notice fs = call.Notice (numberAt fs 0) (numberAt fs 1) (numberAt fs 2)
+callOf Commit fs = call.CommitNotice (numberAt fs 0) (numberAt fs 1) (numberAt fs 2)
+callOf Bars fs = call.Bars (numberAt fs 0) (numberAt fs 1) (numberAt fs 2) (numberAt fs 3)
+callOf Read fs = call.Read (numberAt fs 2) (record { client = numberAt fs 0; request = numberAt fs 1; key = getD fs 3 [] })
+callOf Release fs = call.Release (numberAt fs 0)
 
 -- by its name's kind, and the fields after it
 abbrev pub lineBy : Kind → List Bytes → Option Line
-lineBy Node fs = only (numbers 3 fs) (NodeLine (numberAt fs 0) (numberAt fs 1) (numberAt fs 2))
-lineBy Lead fs = only (numbers 1 fs) (EditLine (SetLeader (numberAt fs 0)))
-lineBy Range fs = rangeLine fs
-lineBy Whole fs = only (numbers 1 fs) (EditLine (SetFull (numberAt fs 0)))
-lineBy Drop fs = only (numbers 1 fs) (EditLine (IntoFiltered (numberAt fs 0)))
-lineBy Reset fs = only (numbers 0 fs) (EditLine ResetFull)
-lineBy Show fs = only (numbers 0 fs) ShowLine
-lineBy Heard fs = heardLine fs
-lineBy Guard fs = only (numbers 3 fs) (CallLine (call.Guard (numberAt fs 0) (numberAt fs 1) (numberAt fs 2)))
-lineBy Prepared fs = only (numbers 1 fs) (CallLine (call.Prepared (numberAt fs 0)))
-lineBy Record fs = recordLine fs
-lineBy Reply fs = only (numbers 3 fs) (CallLine (call.Reply (numberAt fs 0) (numberAt fs 1) (numberAt fs 2)))
-lineBy Notice fs = only (numbers 3 fs) (CallLine (call.Notice (numberAt fs 0) (numberAt fs 1) (numberAt fs 2)))
-lineBy Commit fs = only (numbers 3 fs) (CallLine (call.CommitNotice (numberAt fs 0) (numberAt fs 1) (numberAt fs 2)))
-lineBy Bars fs = only (numbers 4 fs) (CallLine (call.Bars (numberAt fs 0) (numberAt fs 1) (numberAt fs 2) (numberAt fs 3)))
-lineBy Read fs = readLine fs
-lineBy Release fs = only (numbers 1 fs) (CallLine (call.Release (numberAt fs 0)))
-lineBy Unknown fs = none
+lineBy kinds.Node fs = only (numbers 3 fs) (NodeLine (numberAt fs 0) (numberAt fs 1) (numberAt fs 2))
+lineBy (kinds.Edit k) fs = only (isEdit k fs) (EditLine (editOf k fs))
+lineBy kinds.Show fs = only (numbers 0 fs) ShowLine
+lineBy kinds.Heard fs = heardLine fs
+lineBy kinds.Record fs = recordLine fs
+lineBy (kinds.Call k) fs = only (isCall k fs) (CallLine (callOf k fs))
+lineBy kinds.Unknown fs = none
 
 abbrev pub ofFields : List Bytes → Option Line
 ofFields [] = none
