@@ -14,7 +14,7 @@ use node::Fresh;
 use node::Node;
 use responders::Edited;
 use responders::RespondersConf;
-use responders::Shown;
+use roster_show::Shown;
 ghost use Prim.Native.Nat.{_+_, _<_, _≤_};
 ghost use lib.ListN.{length};
 
@@ -258,7 +258,7 @@ fn show_line(host: Host, line: &[u8], rows: &[u64], area: &mut [u64]) -> Done {
     let lent = least(host.rows, rows.len());
     let n = room(line, area);
     let draft = host.draft;
-    let s = draft.show(&rows[0..lent], &mut area[0..n]);
+    let s = roster_show::show(draft, &rows[0..lent], &mut area[0..n]);
     shown(host, s)
 }
 

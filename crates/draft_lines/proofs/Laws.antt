@@ -18,11 +18,11 @@ use Rattle.fields.proofs.Laws.{all-read, none-left, numbers-none}
 use Rattle.responders.specs.declared.RespondersConf.{RespondersConf}
 use Rattle.responders.specs.declared.Edited.{Edited}
 use Rattle.responders.specs.declared.Edited.the-variants as edited
-use Rattle.responders.specs.declared.Shown.{Shown}
-use Rattle.responders.specs.declared.Shown.the-variants as shown
+use Rattle.roster_show.specs.declared.Shown.{Shown}
+use Rattle.roster_show.specs.declared.Shown.the-variants as shown
 use Rattle.responders.specs.Edit.{Edit, SetLeader, SetResponders, SetFull, IntoFiltered, ResetFull, grounds, answer, refused}
 use Rattle.responders.specs.Edits.{Edits, Gives, due, view, holdsRows, inRange}
-use Rattle.responders.specs.Show.{Listing, listing}
+use Rattle.roster_show.specs.Show.{Listing, listing}
 use Rattle.bodega.specs.Replica.{fresh}
 use Rattle.node.specs.declared.Node.{Node}
 use Rattle.node.specs.declared.Answered.{Answered}

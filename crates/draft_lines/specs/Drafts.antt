@@ -8,9 +8,9 @@ use Rattle.fields.specs.Split.{Bytes, fieldsFrom}
 use Rattle.fields.specs.Number.{numberAt}
 use Rattle.fields.specs.Reads.{between}
 use Rattle.responders.specs.declared.RespondersConf.{RespondersConf}
-use Rattle.responders.specs.declared.Shown.{Shown}
-use Rattle.responders.specs.declared.Shown.the-variants.{Refused}
-use Rattle.responders.specs.Show.{Listing, listing}
+use Rattle.roster_show.specs.declared.Shown.{Shown}
+use Rattle.roster_show.specs.declared.Shown.the-variants.{Refused}
+use Rattle.roster_show.specs.Show.{Listing, listing}
 use Rattle.bodega.specs.Replica.{fresh}
 use Rattle.node.specs.declared.Node.{Node}
 use Rattle.node.specs.declared.Answered.{Answered}

@@ -6,7 +6,7 @@ use node::Fresh;
 use node::Node;
 use responders::Edited;
 use responders::RespondersConf;
-use responders::Shown;
+use roster_show::Shown;
 ghost use mathlib.Core.Path.{_≡_};
 ghost use mathlib.Core.Bool.{false};
 ghost use mathlib.Core.List.{[]};
@@ -205,7 +205,7 @@ pub fn show_line(
     if population == 0 {
         return Shown::Refused(2);
     }
-    draft.show(rows, area)
+    roster_show::show(draft, rows, area)
 }
 
 // ---- the node

@@ -15,8 +15,8 @@ use Rattle.items.specs.Item.{Item, encode, places}
 use Rattle.responders.specs.declared.RespondersConf.{RespondersConf}
 use Rattle.responders.specs.declared.Edited.{Edited}
 use Rattle.responders.specs.declared.Edited.the-variants as edits
-use Rattle.responders.specs.declared.Shown.{Shown}
-use Rattle.responders.specs.declared.Shown.the-variants as shows
+use Rattle.roster_show.specs.declared.Shown.{Shown}
+use Rattle.roster_show.specs.declared.Shown.the-variants as shows
 use Rattle.responders.specs.Ground.{Ground, _when_or_, refusal}
 use Rattle.responders.proofs.Grounds.{NoneApply, none-apply, not-0, edit-positive}
 use Rattle.responders.specs.Conf.{Conf}
@@ -24,7 +24,7 @@ use Rattle.responders.specs.Edit.{Edit, grounds, answer, edit}
 use Rattle.responders.specs.Edit as answers
 use Rattle.responders.specs.Edits.{holdsRows, inRange, Gives, due}
 use Rattle.responders.specs.Edits as edits-specs
-use Rattle.responders.specs.Show.{Listing, listing, show, spansOf}
+use Rattle.roster_show.specs.Show.{Listing, listing, show, spansOf}
 use Rattle.keyrange.proofs.Laws.{length-ranges}
 use Rattle.bodega.specs.Replica.{Replica, Call, Heartbeat, fresh}
 use Rattle.bodega.specs.Step.{Step, Refused, Taken, step, stepBy, turnedAway, allGrounds, effect}

@@ -3,8 +3,8 @@ use Prim.Native.Nat.{ℕ}
 use Rattle.words.specs.Choice.{if_then_else_}
 use Rattle.responders.specs.declared.Edited.{Edited}
 use Rattle.responders.specs.declared.Edited.the-variants as edits
-use Rattle.responders.specs.declared.Shown.{Shown}
-use Rattle.responders.specs.declared.Shown.the-variants as shows
+use Rattle.roster_show.specs.declared.Shown.{Shown}
+use Rattle.roster_show.specs.declared.Shown.the-variants as shows
 use Rattle.node.specs.declared.Node.{Node}
 use Rattle.node.specs.declared.Answered.{Answered}
 use Rattle.hosts.specs.declared.Host.{Host}

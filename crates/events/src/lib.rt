@@ -5,7 +5,7 @@ use hosts::Host;
 use node::Answered;
 use node::Node;
 use responders::Edited;
-use responders::Shown;
+use roster_show::Shown;
 ghost use mathlib.Core.Path.{_≡_};
 ghost use mathlib.Core.Bool.{true};
 ghost use Prim.Native.Nat.{_≤_};

@@ -8,7 +8,7 @@ use Rattle.items.specs.Item.{Item}
 use Rattle.responders.specs.Conf.{Conf, empty}
 use Rattle.responders.specs.Edit.{Edit, answer, refused, taken}
 use Rattle.responders.specs.Edit as edits
-use Rattle.responders.specs.Show.{show}
+use Rattle.roster_show.specs.Show.{show}
 use Rattle.bodega.specs.Replica.{Replica, fresh, Call, Heartbeat}
 use Rattle.bodega.specs.Step.{Step, Refused, Taken, step}
 use Rattle.node.specs.View.{inRange}

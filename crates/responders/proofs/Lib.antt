@@ -1,4 +1,3 @@
 pub mod Laws
-pub mod Listing
 pub mod Grounds
 pub mod Rosters

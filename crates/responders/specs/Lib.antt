@@ -4,4 +4,3 @@ pub mod Edit
 pub mod Edits
 pub mod Asks
 pub mod Run
-pub mod Show

@@ -2,22 +2,17 @@
 use ids::Leader;
 use ids::Replica;
 use inty::Inty;
-use items::Item;
 use keyrange::Row;
 use keyrange::Stored;
 use keys::KeyRead;
 ghost use mathlib.Core.Path.{_≡_};
 ghost use mathlib.Core.Bool.{_&&_};
 ghost use mathlib.Core.List.{List};
-ghost use Prim.Native.Nat.{ℕ, _+_, _*_, _≤_};
+ghost use Prim.Native.Nat.{ℕ, _≤_};
 ghost use lib.ListN.{length};
-ghost use Rattle.words.specs.Writes.{writes};
 ghost use Rattle.ids.specs.Leader.{leaderOf};
 ghost use Rattle.responders.specs.Conf.{empty, leaderWithout};
 ghost use Rattle.responders.specs.Edit.{SetLeader, SetResponders, SetFull, IntoFiltered, ResetFull};
-ghost use Rattle.items.specs.Item.{itemOf, encode, places};
-ghost use Rattle.keyrange.specs.Rows.{rangeAt, rangesOf};
-ghost use Rattle.responders.specs.Show.{spanOf, spansOf, Listing, listing};
 ghost use Rattle.responders.specs.Edits.{view, holdsRows, inRange, Gives, Edits, lookup};
 ghost use Rattle.responders.specs.Asks.{stored, storing, Asks};
 
@@ -39,18 +34,14 @@ pub enum Responders {
     Refused(u64),
 }
 
-pub enum Shown {
-    Items(usize),
-    Refused(u64),
-}
-
 // The row that a range asks for, or why it is turned away.
 enum Asked {
     Store(Row),
     Refused(u64),
 }
 
-fn is_whole(len: usize, count: usize) -> bool
+// Whether the words hold 64 rows, and no more are counted.
+pub fn is_whole(len: usize, count: usize) -> bool
     ensures { λ r. ⌜ r ≡ holdsRows len count ⌝ }
 {
     if len < RespondersConf::WORDS {
@@ -127,31 +118,6 @@ fn leader_without(leader: Leader, id: Replica) -> Leader
         return Leader::None;
     }
     Leader::Some(l)
-}
-
-fn span(rows: &[u64], i: usize) -> Item
-    requires { ⌜ i * 5 + 5 ≤ length (now rows) ⌝ }
-    ensures { λ x. ⌜ itemOf x ≡ spanOf (rangeAt (now (rows .entry)) (i * 5)) ⌝ }
-{
-    let row = keyrange::get_row(rows, i);
-    let start = row.start;
-    let end = row.end;
-    Item::Span {
-        start,
-        end,
-        mask: row.mask,
-    }
-}
-
-fn put_spans(rows: &[u64], count: usize, area: &mut [u64])
-    requires { ⌜ (count * 5 ≤ length (now rows)) × (count ≤ places (now area)) ⌝ }
-    ensures { λ _. ⌜ now (area .exit) ≡ writes (now (area .entry)) 0 (encode (spansOf (rangesOf (now (rows .entry)) count))) ⌝ }
-{
-    let mut i = 0;
-    while i < count {
-        items::put_item(area, i, span(rows, i));
-        i += 1;
-    }
 }
 
 impl RespondersConf {
@@ -270,20 +236,5 @@ impl RespondersConf {
             return Responders::NoRoster;
         };
         Responders::Mask(keyrange::get(rows, self.count, self.default, n))
-    }
-
-    // The stored ranges ascending, then the default.
-    pub fn show(self, rows: &[u64], area: &mut [u64]) -> Shown
-        ensures { λ r. ⌜ _≡_ {A = Listing} (record { answer = r; area = now (area .exit) }) (listing self (now (rows .entry)) (now (area .entry))) ⌝ }
-    {
-        if !is_whole(rows.len(), self.count) {
-            return Shown::Refused(2);
-        }
-        if area.len() / 6 <= self.count {
-            return Shown::Refused(20);
-        }
-        put_spans(rows, self.count, area);
-        items::put_item(area, self.count, Item::Rest(self.default));
-        Shown::Items(self.count + 1)
     }
 }

@@ -1,4 +1,4 @@
-use Rattle.responders.proofs.Listing as law
+use Rattle.roster_show.proofs.Listing as law
 use native.Mathlib.Omega.{arith}
 use borrow.Author.Needs.{needs}
 use mathlib.Core.Path.{_≡_, refl}
@@ -7,9 +7,9 @@ use lib.ListN.{length}
 use Rattle.words.specs.Writes.{writes}
 use Rattle.items.specs.Item.{encode}
 use Rattle.keyrange.specs.Rows.{rangesOf}
-use Rattle.responders.specs.Show.{spansOf}
-use Rattle.responders.proofs.put_spans.Statement.{statement}
-use Rattle.responders.proofs.put_spans.Tie as tie
+use Rattle.roster_show.specs.Show.{spansOf}
+use Rattle.roster_show.proofs.put_spans.Statement.{statement}
+use Rattle.roster_show.proofs.put_spans.Tie as tie
 
 abbrev Inv-loop : tie.InvT-loop
 Inv-loop rows count area₀ i₀ area i = (i ≤ count) × (length area ≡ length area₀) × (area ≡ writes area₀ 0 (encode (spansOf (rangesOf rows i))))

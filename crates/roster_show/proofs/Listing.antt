@@ -13,10 +13,10 @@ use Rattle.items.proofs.Laws.{put-encoded}
 use Rattle.ranges.specs.Range.{Range}
 use Rattle.keyrange.specs.Rows.{rangeAt, rangesOf}
 use Rattle.keyrange.proofs.Laws.{more-is, length-ranges}
 use Rattle.responders.specs.declared.RespondersConf.{RespondersConf}
-use Rattle.responders.specs.declared.Shown.the-variants.{Items, Refused}
+use Rattle.roster_show.specs.declared.Shown.the-variants.{Items, Refused}
 use Rattle.responders.specs.Edits.{view, holdsRows}
-use Rattle.responders.specs.Show.{spanOf, spansOf, show, Listing, listing}
+use Rattle.roster_show.specs.Show.{spanOf, spansOf, show, Listing, listing}
 
 pub span-is : (r x : Range) → r ≡ x → spanOf r ≡ spanOf x
 span-is r x e = ap spanOf e

@@ -1,8 +1,8 @@
 use Rattle.responders.proofs.Laws.{whole-rows}
-use Rattle.responders.proofs.Listing as law
+use Rattle.roster_show.proofs.Listing as law
 use borrow.Author.Needs.{needs}
-use Rattle.responders.proofs.RespondersConf.show.Statement.{statement}
-use Rattle.responders.proofs.RespondersConf.show.Tie as tie
+use Rattle.roster_show.proofs.show.Statement.{statement}
+use Rattle.roster_show.proofs.show.Tie as tie
 
 is-whole-requires : tie.Need-is-whole-requires
 is-whole-requires c κs = search needs

@@ -1,7 +1,7 @@
-use Rattle.responders.proofs.Listing as law
+use Rattle.roster_show.proofs.Listing as law
 use borrow.Author.Needs.{needs}
-use Rattle.responders.proofs.span.Statement.{statement}
-use Rattle.responders.proofs.span.Tie as tie
+use Rattle.roster_show.proofs.span.Statement.{statement}
+use Rattle.roster_show.proofs.span.Tie as tie
 
 get-row-requires : tie.Need-get-row-requires
 get-row-requires c κs = search needs
