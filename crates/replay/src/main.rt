@@ -156,13 +156,27 @@ fn run(
     }
 }
 
+// Room for a piece of 64 KB behind the start of a line.
+fn piece_space() -> [u8; 66560]
+    ensures { λ r. ⌜ 66560 ≡ length r ⌝ }
+{
+    [0; 66560]
+}
+
+// Room for many answers and then any one more, so that writes are few.
+fn text_space() -> [u8; 196608]
+    ensures { λ r. ⌜ 196608 ≡ length r ⌝ }
+{
+    [0; 196608]
+}
+
 fn main() {
-    let mut buf = [0u8; 66560];
-    let mut mem = [0u64; 10305];
-    let mut rows = [0u64; 320];
-    let mut area = [0u64; 3276];
-    let mut groups = [0u64; 1542];
-    let mut out = [0u8; 196608];
+    let mut buf = piece_space();
+    let mut mem = line_buffers::node_words();
+    let mut rows = line_buffers::draft_rows();
+    let mut area = line_buffers::item_area();
+    let mut groups = line_buffers::group_words();
+    let mut out = text_space();
     run(
         &mut buf,
         &mut mem,

@@ -5,7 +5,7 @@ mod scripts;
 
 use scripts::Script;
 ghost use mathlib.Core.Path.{_≡_};
-ghost use Prim.Native.Nat.{_+_, _<_, _≤_};
+ghost use Prim.Native.Nat.{_≤_};
 ghost use lib.ListN.{length};
 
 struct Tally {
@@ -53,26 +53,15 @@ fn counted(t: Tally, lines: u64, same: bool) -> Tally {
 }
 
 // Replays a script as a whole and in two pieces.
-fn replay(
-    t: Tally,
-    name: &[u8],
-    input: &[u8],
-    answers: &[u8],
-    buf: &mut [u8],
-    mem: &mut [u64],
-    rows: &mut [u64],
-    area: &mut [u64],
-    groups: &mut [u64],
-    out: &mut [u8],
-) -> Tally
-    requires { ⌜ (1024 + length (now input) ≤ length (now buf)) × (10305 ≤ length (now mem)) × (320 ≤ length (now rows)) × (length (now area) ≡ 3276) × (1542 ≤ length (now groups)) × (65536 ≤ length (now out)) ⌝ }
+fn replay(t: Tally, name: &[u8], input: &[u8], answers: &[u8]) -> Tally
+    requires { ⌜ length (now input) ≤ 262144 ⌝ }
 {
     let none = &input[0..0];
     let middle = input.len() / 2;
     let first = &input[0..middle];
     let second = &input[middle..];
-    let whole = runs::run(input, none, answers, buf, mem, rows, area, groups, out);
-    let cut = runs::run(first, second, answers, buf, mem, rows, area, groups, out);
+    let whole = runs::run(input, none, answers);
+    let cut = runs::run(first, second, answers);
     let same = whole.same && cut.same;
     if !same {
         differs(name);
@@ -81,16 +70,8 @@ fn replay(
 }
 
 // Replays the scripts of a file.
-fn replay_all(
-    file: &[u8],
-    buf: &mut [u8],
-    mem: &mut [u64],
-    rows: &mut [u64],
-    area: &mut [u64],
-    groups: &mut [u64],
-    out: &mut [u8],
-)
-    requires { ⌜ (1024 + length (now file) ≤ length (now buf)) × (10305 ≤ length (now mem)) × (320 ≤ length (now rows)) × (length (now area) ≡ 3276) × (1542 ≤ length (now groups)) × (65536 ≤ length (now out)) ⌝ }
+fn replay_all(file: &[u8])
+    requires { ⌜ length (now file) ≤ 262144 ⌝ }
 {
     let mut t = Tally {
         scripts: 0,
@@ -114,49 +95,21 @@ fn replay_all(
             &file[name..name_end],
             &file[input..answers],
             &file[answers..end],
-            buf,
-            mem,
-            rows,
-            area,
-            groups,
-            out,
         );
         at = end;
     }
     report(t);
 }
 
-// Reads the file and replays its scripts.
-fn run(
-    file: &mut [u8],
-    buf: &mut [u8],
-    mem: &mut [u64],
-    rows: &mut [u64],
-    area: &mut [u64],
-    groups: &mut [u64],
-    out: &mut [u8],
-)
-    requires { ⌜ (1024 + length (now file) ≤ length (now buf)) × (10305 ≤ length (now mem)) × (320 ≤ length (now rows)) × (length (now area) ≡ 3276) × (1542 ≤ length (now groups)) × (65536 ≤ length (now out)) ⌝ }
+// Room for the file.
+fn space() -> [u8; 262144]
+    ensures { λ r. ⌜ 262144 ≡ length r ⌝ }
 {
-    let n = io::read_full(0, file);
-    replay_all(&file[0..n], buf, mem, rows, area, groups, out);
+    [0; 262144]
 }
 
 fn main() {
-    let mut file = [0u8; 262144];
-    let mut buf = [0u8; 263168];
-    let mut mem = [0u64; 10305];
-    let mut rows = [0u64; 320];
-    let mut area = [0u64; 3276];
-    let mut groups = [0u64; 1542];
-    let mut out = [0u8; 196608];
-    run(
-        &mut file,
-        &mut buf,
-        &mut mem,
-        &mut rows,
-        &mut area,
-        &mut groups,
-        &mut out,
-    );
+    let mut file = space();
+    let n = io::read_full(0, &mut file);
+    replay_all(&file[0..n]);
 }

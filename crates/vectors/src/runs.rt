@@ -167,20 +167,29 @@ fn finish(
     }
 }
 
-// Answers the lines of two pieces.
-pub(crate) fn run(
-    first: &[u8],
-    second: &[u8],
-    answers: &[u8],
-    buf: &mut [u8],
-    mem: &mut [u64],
-    rows: &mut [u64],
-    area: &mut [u64],
-    groups: &mut [u64],
-    out: &mut [u8],
-) -> Outcome
-    requires { ⌜ (1024 + length (now first) ≤ length (now buf)) × (1024 + length (now second) ≤ length (now buf)) × (10305 ≤ length (now mem)) × (320 ≤ length (now rows)) × (length (now area) ≡ 3276) × (1542 ≤ length (now groups)) × (65536 ≤ length (now out)) ⌝ }
+// Room for a piece behind the start of a line, and for any answer.
+fn piece_space() -> [u8; 263168]
+    ensures { λ r. ⌜ 263168 ≡ length r ⌝ }
 {
+    [0; 263168]
+}
+
+fn text_space() -> [u8; 196608]
+    ensures { λ r. ⌜ 196608 ≡ length r ⌝ }
+{
+    [0; 196608]
+}
+
+// Answers the lines of two pieces.
+pub(crate) fn run(first: &[u8], second: &[u8], answers: &[u8]) -> Outcome
+    requires { ⌜ (length (now first) ≤ 262144) × (length (now second) ≤ 262144) ⌝ }
+{
+    let mut buf = piece_space();
+    let mut mem = line_buffers::node_words();
+    let mut rows = line_buffers::draft_rows();
+    let mut area = line_buffers::item_area();
+    let mut groups = line_buffers::group_words();
+    let mut out = text_space();
     let state = Counted::fresh();
     let line = Carry {
         have: 0,
@@ -188,7 +197,36 @@ pub(crate) fn run(
     };
     let met = Met { at: 0, same: true };
     let p = Progress { state, line, met };
-    let q = hear(first, answers, p, buf, mem, rows, area, groups, out);
-    let r = hear(second, answers, q, buf, mem, rows, area, groups, out);
-    finish(answers, r, buf, mem, rows, area, groups, out)
+    let q = hear(
+        first,
+        answers,
+        p,
+        &mut buf,
+        &mut mem,
+        &mut rows,
+        &mut area,
+        &mut groups,
+        &mut out,
+    );
+    let r = hear(
+        second,
+        answers,
+        q,
+        &mut buf,
+        &mut mem,
+        &mut rows,
+        &mut area,
+        &mut groups,
+        &mut out,
+    );
+    finish(
+        answers,
+        r,
+        &buf,
+        &mut mem,
+        &mut rows,
+        &mut area,
+        &mut groups,
+        &mut out,
+    )
 }
