@@ -7,72 +7,76 @@ use Prim.Native.Nat.{ℕ, _<_, _≤_}
 use native.Mathlib.Omega.{arith}
 use lib.Dec.{leb, ltb, eqb}
 use lib.ListN.{length, getD}
-use borrow.Author.Tests.{le-leb, lt-ltb, le-ltb, ltb-false, ne-eqb, eq-eqb, not-true, not-false}
+use borrow.Author.Tests.{le-leb, lt-ltb, le-ltb, ltb-true, ltb-false, ne-eqb, eq-eqb, not-true, not-false}
 use Rattle.words.specs.Choice.{if_then_else_}
 use Rattle.items.specs.Item.{places}
 use Rattle.responders.specs.Edits.{holdsRows}
 use Rattle.responders.specs.Conf.{Conf}
 use Rattle.bodega.specs.Replica.{Call, Heartbeat, Guard, Reply, Notice, CommitNotice, Read}
 use Rattle.bodega.specs.Grounds.{grounds}
-use Rattle.bodega.specs.Step.{turnedAway}
-use Rattle.bodega.specs.Answers.{Answers}
+use Rattle.bodega.specs.Step.{Step, Refused, step, turnedAway}
+use Rattle.bodega.specs.Answers.{due, Follows, Answers}
 use Rattle.node.specs.declared.Node.{Node}
 use Rattle.node.specs.declared.Answered.{Answered}
 use Rattle.node.specs.View.{view, ready, givenOf}
-use Rattle.node.proofs.Calls.{is-ready, gives-2, refused}
+use Rattle.node.proofs.Calls.{is-ready}
 use Rattle.fields.specs.Split.{Bytes, fieldsFrom}
 use Rattle.fields.specs.Number.{isNumber, valueOf, numbers, numberAt}
-use Rattle.fields.specs.Reads.{noneLeft, between, ReadsField, ReadsNumberAt, ReadsNumbers}
+use Rattle.fields.specs.Reads.{noneLeft, between, ReadsField, ReadsNumberAt}
 use Rattle.fields.specs.declared.Field.{Field}
 use Rattle.fields.specs.declared.NumberAt.{NumberAt}
 use Rattle.fields.proofs.Laws.{all-read, none-left}
-use Rattle.heartbeat.specs.Heartbeat.{fitting}
+use Rattle.reader.specs.declared.NumberFields.{NumberFields}
+use Rattle.reader.specs.Takes.{valuesOf, ReadsAs}
+use Rattle.heartbeat.specs.Heartbeat.{carried, fitting}
 use Rattle.fields.specs.declared.CallKind.{CallKind}
 use Rattle.hosts.specs.Line.{isHeard, isRead, isCall, callOf}
-use Rattle.hosts.specs.Acts.{AnswersLine}
+use Rattle.hosts.specs.Acts.{AnswersLine, asByte}
 use Rattle.hosts.proofs.Laws.{not-both, some-left}
 use Rattle.call_lines.specs.declared.ReadFields.{ReadFields}
 use Rattle.call_lines.specs.ReadsRead.{ReadsRead}
 
 -- ---- a replica number that no byte has
 
-module _ (n : Node) (m : List ℕ) (places peer : ℕ) (h : 255 < peer) (e : ready n m ≡ true) where
-  past : leb (n .population) peer ≡ true
-  past = le-leb (n .population) peer (omega (arith, is-ready n m true (sym e) refl))
+module _ (n : Node) (m : List ℕ) (places : ℕ) where
+  past : (peer : ℕ) → 255 ≤ peer → ready n m ≡ true → leb (n .population) peer ≡ true
+  past peer h e = le-leb (n .population) peer (omega (arith, is-ready n m true (sym e) refl))
 
-  pub guard-3 : (number bar : ℕ) → turnedAway (view n m) (Guard peer number bar) places ≡ some 3
+  pub guard-3 : (peer number bar : ℕ) → 255 ≤ peer → ready n m ≡ true → turnedAway (view n m) (Guard peer number bar) places ≡ some 3
   unfolding turnedAway grounds view
-  guard-3 number bar = rw past
+  guard-3 peer number bar h e = rw (past peer h e)
 
-  pub reply-3 : (slot ballot : ℕ) → turnedAway (view n m) (Reply peer slot ballot) places ≡ some 3
+  pub reply-3 : (peer slot ballot : ℕ) → 255 ≤ peer → ready n m ≡ true → turnedAway (view n m) (Reply peer slot ballot) places ≡ some 3
   unfolding turnedAway grounds view
-  reply-3 slot ballot = rw past
+  reply-3 peer slot ballot h e = rw (past peer h e)
 
-  pub notice-3 : (slot ballot : ℕ) → turnedAway (view n m) (Notice peer slot ballot) places ≡ some 3
+  pub notice-3 : (peer slot ballot : ℕ) → 255 ≤ peer → ready n m ≡ true → turnedAway (view n m) (Notice peer slot ballot) places ≡ some 3
   unfolding turnedAway grounds view
-  notice-3 slot ballot = rw past
+  notice-3 peer slot ballot h e = rw (past peer h e)
 
-  pub commit-3 : (ballot bar : ℕ) → turnedAway (view n m) (CommitNotice peer ballot bar) places ≡ some 3
+  pub commit-3 : (peer ballot bar : ℕ) → 255 ≤ peer → ready n m ≡ true → turnedAway (view n m) (CommitNotice peer ballot bar) places ≡ some 3
   unfolding turnedAway grounds view
-  commit-3 ballot bar = rw past
+  commit-3 peer ballot bar h e = rw (past peer h e)
 
-  pub heartbeat-3 : (ballot : ℕ) (conf : Option Conf) (commit exec snap : ℕ) → turnedAway (view n m) (Heartbeat peer ballot conf commit exec snap) places ≡ some 3
+  pub heartbeat-3 : (ballot : ℕ) (conf : Option Conf) (commit exec snap peer : ℕ) → 255 ≤ peer → ready n m ≡ true → turnedAway (view n m) (Heartbeat peer ballot conf commit exec snap) places ≡ some 3
   unfolding turnedAway grounds view
-  heartbeat-3 ballot conf commit exec snap = rw past
+  heartbeat-3 ballot conf commit exec snap peer h e = rw (past peer h e)
 
-pub foreign : (c : Call) (n : Node) (m area : List ℕ) (r : Answered) → r ≡ record { number = if ready n m then 3 else 2; count = 0; node = n }
-    → (ready n m ≡ true → turnedAway (view n m) c (places area) ≡ some 3) → Answers ready view c n m area (givenOf r) m area
-foreign c n m area r e f = rw e (go (ready n m) refl)
+-- a call that is refused 3 from 255 on
+as-byte : (c : ℕ → Call) (n : Node) (m area m′ area′ : List ℕ) (r : Answered) (b peer : ℕ) → ((p : ℕ) → 255 ≤ p → ready n m ≡ true → turnedAway (view n m) (c p) (places area) ≡ some 3)
+    → b ≡ asByte peer → Answers ready view (c b) n m area (givenOf r) m′ area′ → Answers ready view (c peer) n m area (givenOf r) m′ area′
+unfolding due step
+as-byte c n m area m′ area′ r b peer f e a = go (ltb 255 peer) refl (rw e at a)
   where
-    go : (t : Bool) → t ≡ ready n m → Answers ready view c n m area (record { number = if t then 3 else 2; count = 0; node = n }) m area
-    go true g = refused c n m area true g refl 3 (f (sym g))
-    go false g = gives-2 c n m area false g refl
+    due-3 : (p : ℕ) → 255 ≤ p → (t : Bool) → ready n m ≡ t → (if t then step (view n m) (c p) (places area) else Refused 2) ≡ (if t then Refused 3 else Refused 2)
+    due-3 p l true g = rw (f p l g)
+    due-3 p l false g = refl
 
-pub byte-3 : (n : Node) (m : List ℕ) (t : Bool) → t ≡ ready n m → t ≡ true → _≡_ {A = Answered} (record { number = 3; count = 0; node = n }) (record { number = if ready n m then 3 else 2; count = 0; node = n })
-byte-3 n m t e f = rw (sym e ∙ f)
-
-pub byte-2 : (n : Node) (m : List ℕ) (t : Bool) → t ≡ ready n m → t ≡ false → _≡_ {A = Answered} (record { number = 2; count = 0; node = n }) (record { number = if ready n m then 3 else 2; count = 0; node = n })
-byte-2 n m t e f = rw (sym e ∙ f)
+    go : (t : Bool) → ltb 255 peer ≡ t → Answers ready view (c (if t then 255 else peer)) n m area (givenOf r) m′ area′ → Answers ready view (c peer) n m area (givenOf r) m′ area′
+    go true g x =
+        let q = due-3 255 (omega arith) (ready n m) refl ∙ sym (due-3 peer (omega (arith, ltb-true 255 peer g)) (ready n m) refl) in
+        subst (λ (y : Step). Follows ready view y n m area (givenOf r) m′ area′) q x
+    go false g x = x
 
 -- ---- fields that are not well-formed
 
@@ -92,28 +96,33 @@ well-formed good c n m area m′ area′ r g h =
       well = λ b. h;
     }
 
-module _ (s : Bytes) (at k : ℕ) (out out′ : List ℕ) (b : Bool) (h : ReadsNumbers s at k out b out′) where
-  pub not-numbers : (c : Call) (n : Node) (m area : List ℕ) (r : Answered) → not b ≡ true → r ≡ record { number = 1; count = 0; node = n }
+module _ (s : Bytes) (at k : ℕ) (x : NumberFields) (h : ReadsAs s at k x) where
+  pub not-numbers : (c : Call) (n : Node) (m area : List ℕ) (r : Answered) → not (x .good) ≡ true → r ≡ record { number = 1; count = 0; node = n }
       → AnswersLine (numbers k (fieldsFrom s at)) c n m area r m area
-  not-numbers c n m area r f e = malformed _ c n m area r (sym (h .good) ∙ not-true b f) e
+  not-numbers c n m area r f e = malformed _ c n m area r (sym (h .good) ∙ not-true (x .good) f) e
 
-  module _ (f : not b ≡ false) where
+  module _ (f : not (x .good) ≡ false) where
     are-numbers : numbers k (fieldsFrom s at) ≡ true
-    are-numbers = sym (h .good) ∙ not-false b f
+    are-numbers = sym (h .good) ∙ not-false (x .good) f
 
-    value : (i : ℕ) → i < k → getD out′ i 0 ≡ numberAt (fieldsFrom s at) i
-    value i l = h .values (not-false b f) i l
+    value : (i : ℕ) → i < k → getD (valuesOf x) i 0 ≡ numberAt (fieldsFrom s at) i
+    value i l = h .values (not-false (x .good) f) i l
 
     module _ (n : Node) (m area m′ area′ : List ℕ) (r : Answered) where
-      pub one : (c : ℕ → Call) → 0 < k → Answers ready view (c (getD out′ 0 0)) n m area (givenOf r) m′ area′
+      pub one : (c : ℕ → Call) → 0 < k → Answers ready view (c (x .first)) n m area (givenOf r) m′ area′
           → AnswersLine (numbers k (fieldsFrom s at)) (c (numberAt (fieldsFrom s at) 0)) n m area r m′ area′
       one c l a = well-formed _ _ n m area m′ area′ r are-numbers (rw (value 0 l) at a)
 
-      pub three : (c : ℕ → ℕ → ℕ → Call) → 2 < k → Answers ready view (c (getD out′ 0 0) (getD out′ 1 0) (getD out′ 2 0)) n m area (givenOf r) m′ area′
+      three : (c : ℕ → ℕ → ℕ → Call) → 2 < k → Answers ready view (c (x .first) (x .second) (x .third)) n m area (givenOf r) m′ area′
           → AnswersLine (numbers k (fieldsFrom s at)) (c (numberAt (fieldsFrom s at) 0) (numberAt (fieldsFrom s at) 1) (numberAt (fieldsFrom s at) 2)) n m area r m′ area′
       three c l a = well-formed _ _ n m area m′ area′ r are-numbers (rw (value 0 (omega arith), value 1 (omega arith), value 2 l) at a)
 
-      pub four : (c : ℕ → ℕ → ℕ → ℕ → Call) → 3 < k → Answers ready view (c (getD out′ 0 0) (getD out′ 1 0) (getD out′ 2 0) (getD out′ 3 0)) n m area (givenOf r) m′ area′
+      pub from-peer : (c : ℕ → ℕ → ℕ → Call) (b : ℕ) → ((p y z : ℕ) → 255 ≤ p → ready n m ≡ true → turnedAway (view n m) (c p y z) (places area) ≡ some 3) → 2 < k → b ≡ asByte (x .first)
+          → Answers ready view (c b (x .second) (x .third)) n m area (givenOf r) m′ area′
+          → AnswersLine (numbers k (fieldsFrom s at)) (c (numberAt (fieldsFrom s at) 0) (numberAt (fieldsFrom s at) 1) (numberAt (fieldsFrom s at) 2)) n m area r m′ area′
+      from-peer c b g l e a = three c l (as-byte (λ p. c p (x .second) (x .third)) n m area m′ area′ r b (x .first) (λ p. g p (x .second) (x .third)) e a)
+
+      pub four : (c : ℕ → ℕ → ℕ → ℕ → Call) → 3 < k → Answers ready view (c (x .first) (x .second) (x .third) (x .fourth)) n m area (givenOf r) m′ area′
           → AnswersLine (numbers k (fieldsFrom s at)) (c (numberAt (fieldsFrom s at) 0) (numberAt (fieldsFrom s at) 1) (numberAt (fieldsFrom s at) 2) (numberAt (fieldsFrom s at) 3)) n m area r m′ area′
       four c l a = well-formed _ _ n m area m′ area′ r are-numbers (rw (value 0 (omega arith), value 1 (omega arith), value 2 (omega arith), value 3 l) at a)
 
@@ -128,35 +137,38 @@ fits-roster true count rows h = h
 fits-roster false count rows h = refl
 
 -- a roster that is whole asks no more of the node
-pub whole-roster : (attached : Bool) (count : ℕ) (rows : List ℕ) (c : Call) (n : Node) (m area m′ area′ : List ℕ) (r : Answered) → holdsRows (length rows) count ≡ true
+whole-roster : (attached : Bool) (count : ℕ) (rows : List ℕ) (c : Call) (n : Node) (m area m′ area′ : List ℕ) (r : Answered) → holdsRows (length rows) count ≡ true
     → Answers (λ (k : Node) (w : List ℕ). ready k w && fitting attached count rows) view c n m area (givenOf r) m′ area′ → Answers ready view c n m area (givenOf r) m′ area′
 whole-roster attached count rows c n m area m′ area′ r e h =
     subst (λ (f : Node → List ℕ → Bool). Answers f view c n m area (givenOf r) m′ area′)
     (fun-ext (λ (k : Node). fun-ext (λ (w : List ℕ). ap (λ (b : Bool). ready k w && b) (fits-roster attached count rows e) ∙ and-true (ready k w))))
     h
 
-module _ (s : Bytes) (at : ℕ) (out out′ : List ℕ) (b : Bool) (h : ReadsNumbers s at 6 out b out′) where
-  pub not-heard : (c : Call) (n : Node) (m area : List ℕ) (r : Answered) → not b ≡ true → r ≡ record { number = 1; count = 0; node = n }
+module _ (s : Bytes) (at : ℕ) (x : NumberFields) (h : ReadsAs s at 6 x) where
+  pub not-heard : (c : Call) (n : Node) (m area : List ℕ) (r : Answered) → not (x .good) ≡ true → r ≡ record { number = 1; count = 0; node = n }
       → AnswersLine (isHeard (fieldsFrom s at)) c n m area r m area
-  not-heard c n m area r f e = malformed _ c n m area r (ap (λ (x : Bool). x && ltb (numberAt (fieldsFrom s at) 2) 2) (sym (h .good) ∙ not-true b f)) e
+  not-heard c n m area r f e = malformed _ c n m area r (ap (λ (t : Bool). t && ltb (numberAt (fieldsFrom s at) 2) 2) (sym (h .good) ∙ not-true (x .good) f)) e
 
-  module _ (f : not b ≡ false) where
-    with-is : getD out′ 2 0 ≡ numberAt (fieldsFrom s at) 2
-    with-is = value s at 6 out out′ b h f 2 (omega arith)
+  module _ (f : not (x .good) ≡ false) where
+    with-is : x .third ≡ numberAt (fieldsFrom s at) 2
+    with-is = value s at 6 x h f 2 (omega arith)
 
-    pub other-with : (c : Call) (n : Node) (m area : List ℕ) (r : Answered) → 1 < getD out′ 2 0 → r ≡ record { number = 1; count = 0; node = n }
+    pub other-with : (c : Call) (n : Node) (m area : List ℕ) (r : Answered) → 1 < x .third → r ≡ record { number = 1; count = 0; node = n }
         → AnswersLine (isHeard (fieldsFrom s at)) c n m area r m area
     other-with c n m area r g e =
-        malformed _ c n m area r (rw (are-numbers s at 6 out out′ b h f, le-ltb (numberAt (fieldsFrom s at) 2) 2 (omega (arith, with-is)))) e
+        malformed _ c n m area r (rw (are-numbers s at 6 x h f, le-ltb (numberAt (fieldsFrom s at) 2) 2 (omega (arith, with-is)))) e
 
-    pub is-heard : (c : ℕ → ℕ → Bool → ℕ → ℕ → ℕ → Call) (n : Node) (m area m′ area′ : List ℕ) (r : Answered) → getD out′ 2 0 ≤ 1
-        → Answers ready view (c (getD out′ 0 0) (getD out′ 1 0) (eqb (getD out′ 2 0) 1) (getD out′ 3 0) (getD out′ 4 0) (getD out′ 5 0)) n m area (givenOf r) m′ area′
+    pub is-heard : (roster : Conf) (count : ℕ) (rows : List ℕ) (n : Node) (m area m′ area′ : List ℕ) (r : Answered) (b : ℕ) → holdsRows (length rows) count ≡ true → x .third ≤ 1 → b ≡ asByte (x .first)
+        → Answers (λ (k : Node) (w : List ℕ). ready k w && fitting (eqb (x .third) 1) count rows) view (Heartbeat b (x .second) (carried (eqb (x .third) 1) roster) (x .fourth) (x .fifth) (x .sixth)) n m area
+        (givenOf r) m′ area′
         → AnswersLine (isHeard (fieldsFrom s at))
-        (c (numberAt (fieldsFrom s at) 0) (numberAt (fieldsFrom s at) 1) (eqb (numberAt (fieldsFrom s at) 2) 1) (numberAt (fieldsFrom s at) 3) (numberAt (fieldsFrom s at) 4) (numberAt (fieldsFrom s at) 5)) n m
-        area r m′ area′
-    is-heard c n m area m′ area′ r g a =
-        let v = value s at 6 out out′ b h f in
-        well-formed _ _ n m area m′ area′ r (rw (are-numbers s at 6 out out′ b h f, lt-ltb (numberAt (fieldsFrom s at) 2) 2 (omega (arith, with-is))))
+        (Heartbeat (numberAt (fieldsFrom s at) 0) (numberAt (fieldsFrom s at) 1) (carried (eqb (numberAt (fieldsFrom s at) 2) 1) roster) (numberAt (fieldsFrom s at) 3) (numberAt (fieldsFrom s at) 4) (numberAt (fieldsFrom s at) 5))
+        n m area r m′ area′
+    is-heard roster count rows n m area m′ area′ r b w g e d =
+        let a = as-byte (λ p. Heartbeat p (x .second) (carried (eqb (x .third) 1) roster) (x .fourth) (x .fifth) (x .sixth)) n m area m′ area′ r b (x .first) (heartbeat-3 n m (places area) _ _ _ _ _) e
+        (whole-roster (eqb (x .third) 1) count rows _ n m area m′ area′ r w d) in
+        let v = value s at 6 x h f in
+        well-formed _ _ n m area m′ area′ r (rw (are-numbers s at 6 x h f, lt-ltb (numberAt (fieldsFrom s at) 2) 2 (omega (arith, with-is))))
         (rw (v 0 (omega arith), v 1 (omega arith), with-is, v 3 (omega arith), v 4 (omega arith), v 5 (omega arith)) at a)
 
 -- ---- a read

@@ -1,7 +1,6 @@
 // The lines of the calls: a line's fields, from a position on, are the call's arguments. A line whose fields are not well-formed is refused 1.
 use fields::CallKind;
 use ids::Ballot;
-use ids::Replica;
 use ids::Slot;
 use node::Answered;
 use node::Node;
@@ -33,192 +32,86 @@ fn malformed(node: Node) -> Answered
     }
 }
 
-// What a call answers to a replica number that no byte has: 2 where no call made the node, else 3.
-fn foreign(node: Node, mem: &[u64]) -> Answered
-    ensures { λ r. ⌜ r ≡ record { number = if ready node (now (mem .entry)) then 3 else 2; count = 0; node = node } ⌝ }
-{
-    if node::is_ready(node, mem) {
-        return Answered {
-            number: 3,
-            count: 0,
-            node,
-        };
-    }
-    Answered {
-        number: 2,
-        count: 0,
-        node,
-    }
-}
-
-fn guard_with(
-    node: Node,
-    mem: &mut [u64],
-    area: &[u64],
-    peer: u64,
-    number: u64,
-    bar: u64,
-) -> Answered
-    ensures { λ r. ⌜ Answers ready view (Guard peer number bar) node (now (mem .entry)) (now (area .entry)) (givenOf r) (now (mem .exit)) (now (area .entry)) ⌝ }
-{
-    if 255 < peer {
-        return foreign(node, mem);
-    }
-    guard::guard(
-        node,
-        mem,
-        area,
-        Replica(peer as u8),
-        Ballot(number),
-        Slot(bar),
-    )
-}
-
 fn guard_line(node: Node, mem: &mut [u64], area: &[u64], line: &[u8], at: usize) -> Answered
     ensures { λ r. ⌜ AnswersLine (numbers 3 (fieldsFrom (now (line .entry)) at)) (Guard (numberAt (fieldsFrom (now (line .entry)) at) 0) (numberAt (fieldsFrom (now (line .entry)) at) 1) (numberAt (fieldsFrom (now (line .entry)) at) 2)) node (now (mem .entry)) (now (area .entry)) r (now (mem .exit)) (now (area .entry)) ⌝ }
 {
-    let mut a = [0u64; 3];
-    if !reader::numbers(line, at, 3, &mut a) {
+    let n = reader::number_fields(line, at, 3);
+    if !n.good {
         return malformed(node);
     }
-    guard_with(node, mem, area, a[0], a[1], a[2])
+    let peer = hosts::replica(n.first);
+    guard::guard(node, mem, area, peer, Ballot(n.second), Slot(n.third))
 }
 
 fn prepared_line(node: Node, mem: &[u64], area: &[u64], line: &[u8], at: usize) -> Answered
     ensures { λ r. ⌜ AnswersLine (numbers 1 (fieldsFrom (now (line .entry)) at)) (Prepared (numberAt (fieldsFrom (now (line .entry)) at) 0)) node (now (mem .entry)) (now (area .entry)) r (now (mem .entry)) (now (area .entry)) ⌝ }
 {
-    let mut a = [0u64; 1];
-    if !reader::numbers(line, at, 1, &mut a) {
+    let n = reader::number_fields(line, at, 1);
+    if !n.good {
         return malformed(node);
     }
-    prepared::prepared(node, mem, area, Ballot(a[0]))
-}
-
-fn reply_with(
-    node: Node,
-    mem: &mut [u64],
-    area: &mut [u64],
-    peer: u64,
-    slot: u64,
-    ballot: u64,
-) -> Answered
-    ensures { λ r. ⌜ Answers ready view (Reply peer slot ballot) node (now (mem .entry)) (now (area .entry)) (givenOf r) (now (mem .exit)) (now (area .exit)) ⌝ }
-{
-    if 255 < peer {
-        return foreign(node, mem);
-    }
-    reply::reply(
-        node,
-        mem,
-        area,
-        Replica(peer as u8),
-        Slot(slot),
-        Ballot(ballot),
-    )
+    prepared::prepared(node, mem, area, Ballot(n.first))
 }
 
 fn reply_line(node: Node, mem: &mut [u64], area: &mut [u64], line: &[u8], at: usize) -> Answered
     ensures { λ r. ⌜ AnswersLine (numbers 3 (fieldsFrom (now (line .entry)) at)) (Reply (numberAt (fieldsFrom (now (line .entry)) at) 0) (numberAt (fieldsFrom (now (line .entry)) at) 1) (numberAt (fieldsFrom (now (line .entry)) at) 2)) node (now (mem .entry)) (now (area .entry)) r (now (mem .exit)) (now (area .exit)) ⌝ }
 {
-    let mut a = [0u64; 3];
-    if !reader::numbers(line, at, 3, &mut a) {
+    let n = reader::number_fields(line, at, 3);
+    if !n.good {
         return malformed(node);
     }
-    reply_with(node, mem, area, a[0], a[1], a[2])
-}
-
-fn notice_with(
-    node: Node,
-    mem: &mut [u64],
-    area: &mut [u64],
-    peer: u64,
-    slot: u64,
-    ballot: u64,
-) -> Answered
-    ensures { λ r. ⌜ Answers ready view (Notice peer slot ballot) node (now (mem .entry)) (now (area .entry)) (givenOf r) (now (mem .exit)) (now (area .exit)) ⌝ }
-{
-    if 255 < peer {
-        return foreign(node, mem);
-    }
-    notice::notice(
-        node,
-        mem,
-        area,
-        Replica(peer as u8),
-        Slot(slot),
-        Ballot(ballot),
-    )
+    let peer = hosts::replica(n.first);
+    reply::reply(node, mem, area, peer, Slot(n.second), Ballot(n.third))
 }
 
 fn notice_line(node: Node, mem: &mut [u64], area: &mut [u64], line: &[u8], at: usize) -> Answered
     ensures { λ r. ⌜ AnswersLine (numbers 3 (fieldsFrom (now (line .entry)) at)) (Notice (numberAt (fieldsFrom (now (line .entry)) at) 0) (numberAt (fieldsFrom (now (line .entry)) at) 1) (numberAt (fieldsFrom (now (line .entry)) at) 2)) node (now (mem .entry)) (now (area .entry)) r (now (mem .exit)) (now (area .exit)) ⌝ }
 {
-    let mut a = [0u64; 3];
-    if !reader::numbers(line, at, 3, &mut a) {
+    let n = reader::number_fields(line, at, 3);
+    if !n.good {
         return malformed(node);
     }
-    notice_with(node, mem, area, a[0], a[1], a[2])
-}
-
-fn commit_with(
-    node: Node,
-    mem: &mut [u64],
-    area: &mut [u64],
-    peer: u64,
-    ballot: u64,
-    bar: u64,
-) -> Answered
-    ensures { λ r. ⌜ Answers ready view (CommitNotice peer ballot bar) node (now (mem .entry)) (now (area .entry)) (givenOf r) (now (mem .exit)) (now (area .exit)) ⌝ }
-{
-    if 255 < peer {
-        return foreign(node, mem);
-    }
-    commit::commit(
-        node,
-        mem,
-        area,
-        Replica(peer as u8),
-        Ballot(ballot),
-        Slot(bar),
-    )
+    let peer = hosts::replica(n.first);
+    notice::notice(node, mem, area, peer, Slot(n.second), Ballot(n.third))
 }
 
 fn commit_line(node: Node, mem: &mut [u64], area: &mut [u64], line: &[u8], at: usize) -> Answered
     ensures { λ r. ⌜ AnswersLine (numbers 3 (fieldsFrom (now (line .entry)) at)) (CommitNotice (numberAt (fieldsFrom (now (line .entry)) at) 0) (numberAt (fieldsFrom (now (line .entry)) at) 1) (numberAt (fieldsFrom (now (line .entry)) at) 2)) node (now (mem .entry)) (now (area .entry)) r (now (mem .exit)) (now (area .exit)) ⌝ }
 {
-    let mut a = [0u64; 3];
-    if !reader::numbers(line, at, 3, &mut a) {
+    let n = reader::number_fields(line, at, 3);
+    if !n.good {
         return malformed(node);
     }
-    commit_with(node, mem, area, a[0], a[1], a[2])
+    let peer = hosts::replica(n.first);
+    commit::commit(node, mem, area, peer, Ballot(n.second), Slot(n.third))
 }
 
 fn bars_line(node: Node, mem: &mut [u64], area: &[u64], line: &[u8], at: usize) -> Answered
     ensures { λ r. ⌜ AnswersLine (numbers 4 (fieldsFrom (now (line .entry)) at)) (Bars (numberAt (fieldsFrom (now (line .entry)) at) 0) (numberAt (fieldsFrom (now (line .entry)) at) 1) (numberAt (fieldsFrom (now (line .entry)) at) 2) (numberAt (fieldsFrom (now (line .entry)) at) 3)) node (now (mem .entry)) (now (area .entry)) r (now (mem .exit)) (now (area .entry)) ⌝ }
 {
-    let mut a = [0u64; 4];
-    if !reader::numbers(line, at, 4, &mut a) {
+    let n = reader::number_fields(line, at, 4);
+    if !n.good {
         return malformed(node);
     }
     bars::bars(
         node,
         mem,
         area,
-        Slot(a[0]),
-        Slot(a[1]),
-        Slot(a[2]),
-        Slot(a[3]),
+        Slot(n.first),
+        Slot(n.second),
+        Slot(n.third),
+        Slot(n.fourth),
     )
 }
 
 fn release_line(node: Node, mem: &mut [u64], area: &mut [u64], line: &[u8], at: usize) -> Answered
     ensures { λ r. ⌜ AnswersLine (numbers 1 (fieldsFrom (now (line .entry)) at)) (Release (numberAt (fieldsFrom (now (line .entry)) at) 0)) node (now (mem .entry)) (now (area .entry)) r (now (mem .exit)) (now (area .exit)) ⌝ }
 {
-    let mut a = [0u64; 1];
-    if !reader::numbers(line, at, 1, &mut a) {
+    let n = reader::number_fields(line, at, 1);
+    if !n.good {
         return malformed(node);
     }
-    release::release(node, mem, area, Slot(a[0]))
+    release::release(node, mem, area, Slot(n.first))
 }
 
 // The fields of a read line: where the key starts and ends.
@@ -320,39 +213,6 @@ pub fn call_line(
 }
 
 // A draft that is attached is whole.
-fn heard_with(
-    node: Node,
-    mem: &mut [u64],
-    area: &mut [u64],
-    draft: RespondersConf,
-    rows: &[u64],
-    peer: u64,
-    ballot: u64,
-    attached: bool,
-    commit: u64,
-    exec: u64,
-    snap: u64,
-) -> Answered
-    ensures { λ r. ⌜ (holdsRows (length (now (rows .entry))) (draft .count) ≡ true → Answers ready view (Heartbeat peer ballot (carried attached (rosterOf draft (now (rows .entry)))) commit exec snap) node (now (mem .entry)) (now (area .entry)) (givenOf r) (now (mem .exit)) (now (area .exit))) ⌝ }
-{
-    if 255 < peer {
-        return foreign(node, mem);
-    }
-    heartbeat::heartbeat(
-        node,
-        mem,
-        area,
-        Replica(peer as u8),
-        Ballot(ballot),
-        attached,
-        draft,
-        rows,
-        Slot(commit),
-        Slot(exec),
-        Slot(snap),
-    )
-}
-
 pub fn heard_line(
     node: Node,
     mem: &mut [u64],
@@ -364,24 +224,25 @@ pub fn heard_line(
 ) -> Answered
     ensures { λ r. ⌜ (holdsRows (length (now (rows .entry))) (draft .count) ≡ true → AnswersLine (isHeard (fieldsFrom (now (line .entry)) at)) (Heartbeat (numberAt (fieldsFrom (now (line .entry)) at) 0) (numberAt (fieldsFrom (now (line .entry)) at) 1) (carried (eqb (numberAt (fieldsFrom (now (line .entry)) at) 2) 1) (rosterOf draft (now (rows .entry)))) (numberAt (fieldsFrom (now (line .entry)) at) 3) (numberAt (fieldsFrom (now (line .entry)) at) 4) (numberAt (fieldsFrom (now (line .entry)) at) 5)) node (now (mem .entry)) (now (area .entry)) r (now (mem .exit)) (now (area .exit))) ⌝ }
 {
-    let mut a = [0u64; 6];
-    if !reader::numbers(line, at, 6, &mut a) {
+    let n = reader::number_fields(line, at, 6);
+    if !n.good {
         return malformed(node);
     }
-    if 1 < a[2] {
+    if 1 < n.third {
         return malformed(node);
     }
-    heard_with(
+    let peer = hosts::replica(n.first);
+    heartbeat::heartbeat(
         node,
         mem,
         area,
+        peer,
+        Ballot(n.second),
+        n.third == 1,
         draft,
         rows,
-        a[0],
-        a[1],
-        a[2] == 1,
-        a[3],
-        a[4],
-        a[5],
+        Slot(n.fourth),
+        Slot(n.fifth),
+        Slot(n.sixth),
     )
 }

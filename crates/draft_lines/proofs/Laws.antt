@@ -11,16 +11,18 @@ use Rattle.words.specs.Choice.{if_then_else_}
 use Rattle.words.proofs.Tests.{and-both}
 use Rattle.fields.specs.Split.{Bytes, fieldsFrom}
 use Rattle.fields.specs.Number.{isNumber, valueOf, numbers, numberAt}
-use Rattle.fields.specs.Reads.{noneLeft, between, ReadsField, ReadsNumberAt, ReadsNumbers}
+use Rattle.fields.specs.Reads.{noneLeft, between, ReadsField, ReadsNumberAt}
 use Rattle.fields.specs.declared.Field.{Field}
 use Rattle.fields.specs.declared.NumberAt.{NumberAt}
 use Rattle.fields.proofs.Laws.{all-read, none-left, numbers-none}
+use Rattle.reader.specs.declared.NumberFields.{NumberFields}
+use Rattle.reader.specs.Takes.{ReadsAs}
 use Rattle.responders.specs.declared.RespondersConf.{RespondersConf}
 use Rattle.responders.specs.declared.Edited.{Edited}
 use Rattle.responders.specs.declared.Edited.the-variants as edited
 use Rattle.roster_show.specs.declared.Shown.{Shown}
 use Rattle.roster_show.specs.declared.Shown.the-variants as shown
-use Rattle.responders.specs.Edit.{Edit, SetLeader, SetResponders, SetFull, IntoFiltered, ResetFull, grounds, answer, refused}
+use Rattle.responders.specs.Edit.{Edit, SetLeader, SetResponders, SetFull, IntoFiltered, ResetFull, Answer, grounds, answer, refused}
 use Rattle.responders.specs.Edits.{Edits, Gives, due, view, holdsRows, inRange}
 use Rattle.roster_show.specs.Show.{Listing, listing}
 use Rattle.bodega.specs.Replica.{fresh}
@@ -33,41 +35,40 @@ use Rattle.node.specs.View.{size, ready}
 use Rattle.node.specs.Begins as begins
 use Rattle.fields.specs.declared.EditKind.{EditKind}
 use Rattle.hosts.specs.Line.{isRange, isEdit, editOf}
-use Rattle.hosts.specs.Acts.{EditsLine}
+use Rattle.hosts.specs.Acts.{EditsLine, asByte}
 use Rattle.hosts.proofs.Laws.{not-both, some-left}
 use Rattle.draft_lines.specs.declared.RangeFields.{RangeFields}
 use Rattle.draft_lines.specs.Drafts.{ReadsRange, ShowsLine, Refuses, BeginsBy, BeginsLine}
 
 -- ---- a replica number that no byte has
 
-module _ (population : ℕ) (c : RespondersConf) (rows : List ℕ) (id : ℕ) (h : 255 < id) where
+module _ (population : ℕ) (c : RespondersConf) (rows : List ℕ) where
   far : (i : ℕ) → 255 ≤ i → holdsRows (length rows) (c .count) && inRange population ≡ true → leb population i ≡ true
   far i l e = le-leb population i (omega (arith, leb-true population 64 (and-both (leb 1 population) (leb population 64) (and-both (holdsRows (length rows) (c .count)) (inRange population) e .1) .1)))
 
-  -- any edit whose first ground is 3 for such a number
-  same-due : (e f : Edit) → (leb population 255 ≡ true → answer population (view c rows) e ≡ refused 3) → (leb population id ≡ true → answer population (view c rows) f ≡ refused 3)
-      → due population c rows e ≡ due population c rows f
+  -- any edit that is refused 3 from the population on
+  as-byte : (e : ℕ → Edit) → ((i : ℕ) → leb population i ≡ true → answer population (view c rows) (e i) ≡ refused 3) → (b id : ℕ) (r : Edited) (rows′ : List ℕ) → b ≡ asByte id
+      → Edits (e b) population c rows r rows′ → Edits (e id) population c rows r rows′
   unfolding due
-  same-due e f p q = go (holdsRows (length rows) (c .count) && inRange population) refl
+  as-byte e f b id r rows′ q x = go (ltb 255 id) refl (rw q at x)
     where
-      go : (t : Bool) → holdsRows (length rows) (c .count) && inRange population ≡ t
-          → (if t then answer population (view c rows) e else refused 2) ≡ (if t then answer population (view c rows) f else refused 2)
-      go true g = p (far 255 (omega arith) g) ∙ sym (q (far id (omega arith) g))
-      go false g = refl
+      due-3 : (i : ℕ) → 255 ≤ i → (t : Bool) → holdsRows (length rows) (c .count) && inRange population ≡ t → (if t then answer population (view c rows) (e i) else refused 2) ≡ (if t then refused 3 else refused 2)
+      due-3 i l true g = f i (far i l g)
+      due-3 i l false g = refl
 
-  leader-3 : (i : ℕ) → leb population i ≡ true → answer population (view c rows) (SetLeader i) ≡ refused 3
+      go : (t : Bool) → ltb 255 id ≡ t → Edits (e (if t then 255 else id)) population c rows r rows′ → Edits (e id) population c rows r rows′
+      go true g y =
+          let k = due-3 255 (omega arith) (holdsRows (length rows) (c .count) && inRange population) refl ∙ sym (due-3 id (omega (arith, ltb-true 255 id g)) (holdsRows (length rows) (c .count) && inRange population) refl) in
+          subst (λ (z : Answer). Gives z r rows rows′) k y
+      go false g y = y
+
+  pub to-leader : (b id : ℕ) (r : Edited) (rows′ : List ℕ) → b ≡ asByte id → Edits (SetLeader b) population c rows r rows′ → Edits (SetLeader id) population c rows r rows′
   unfolding answer grounds
-  leader-3 i g = rw g
+  to-leader = as-byte SetLeader (λ i g. rw g)
 
-  drop-3 : (i : ℕ) → leb population i ≡ true → answer population (view c rows) (IntoFiltered i) ≡ refused 3
+  pub to-dropped : (b id : ℕ) (r : Edited) (rows′ : List ℕ) → b ≡ asByte id → Edits (IntoFiltered b) population c rows r rows′ → Edits (IntoFiltered id) population c rows r rows′
   unfolding answer grounds
-  drop-3 i g = rw g
-
-  pub far-leader : (r : Edited) (rows′ : List ℕ) → Edits (SetLeader 255) population c rows r rows′ → Edits (SetLeader id) population c rows r rows′
-  far-leader r rows′ e = rw (same-due (SetLeader 255) (SetLeader id) (leader-3 255) (leader-3 id)) at e
-
-  pub far-drop : (r : Edited) (rows′ : List ℕ) → Edits (IntoFiltered 255) population c rows r rows′ → Edits (IntoFiltered id) population c rows r rows′
-  far-drop r rows′ e = rw (same-due (IntoFiltered 255) (IntoFiltered id) (drop-3 255) (drop-3 id)) at e
+  to-dropped = as-byte IntoFiltered (λ i g. rw g)
 
 -- ---- edits
 
@@ -78,15 +79,15 @@ pub good-edit : (good : Bool) (e : Edit) (population : ℕ) (c : RespondersConf)
     → EditsLine good e population c rows r rows′
 good-edit good e population c rows rows′ r g h = record { bad = λ f. not-both f g; well = λ f. h }
 
-module _ (s : Bytes) (at k : ℕ) (out out′ : List ℕ) (b : Bool) (h : ReadsNumbers s at k out b out′) where
-  pub other-fields : (e : Edit) (population : ℕ) (c : RespondersConf) (rows : List ℕ) → not b ≡ true
+module _ (s : Bytes) (at k : ℕ) (x : NumberFields) (h : ReadsAs s at k x) where
+  pub other-fields : (e : Edit) (population : ℕ) (c : RespondersConf) (rows : List ℕ) → not (x .good) ≡ true
       → EditsLine (numbers k (fieldsFrom s at)) e population c rows (edited.Refused 1) rows
-  other-fields e population c rows f = bad-edit _ e population c rows (sym (h .good) ∙ not-true b f)
+  other-fields e population c rows f = bad-edit _ e population c rows (sym (h .good) ∙ not-true (x .good) f)
 
-  pub one-number : (e : ℕ → Edit) (population : ℕ) (c : RespondersConf) (rows rows′ : List ℕ) (r : Edited) → not b ≡ false → 0 < k
-      → Edits (e (getD out′ 0 0)) population c rows r rows′ → EditsLine (numbers k (fieldsFrom s at)) (e (numberAt (fieldsFrom s at) 0)) population c rows r rows′
+  pub one-number : (e : ℕ → Edit) (population : ℕ) (c : RespondersConf) (rows rows′ : List ℕ) (r : Edited) → not (x .good) ≡ false → 0 < k
+      → Edits (e (x .first)) population c rows r rows′ → EditsLine (numbers k (fieldsFrom s at)) (e (numberAt (fieldsFrom s at) 0)) population c rows r rows′
   one-number e population c rows rows′ r f l g =
-      good-edit _ _ population c rows rows′ r (sym (h .good) ∙ not-false b f) (rw (h .values (not-false b f) 0 l) at g)
+      good-edit _ _ population c rows rows′ r (sym (h .good) ∙ not-false (x .good) f) (rw (h .values (not-false (x .good) f) 0 l) at g)
 
 pub of-kind : (k x : EditKind) (fs : List Bytes) (population : ℕ) (c : RespondersConf) (rows rows′ : List ℕ) (r : Edited) → k ≡ x → EditsLine (isEdit x fs) (editOf x fs) population c rows r rows′
     → EditsLine (isEdit k fs) (editOf k fs) population c rows r rows′
@@ -172,16 +173,16 @@ module _ (id population quorum : ℕ) where
         go true h = absurd h
         go false h = record { answer = g; sameMem = h .1 }
 
-module _ (s : Bytes) (at : ℕ) (out out′ : List ℕ) (b : Bool) (h : ReadsNumbers s at 3 out b out′) (n : Node) (mem : List ℕ) where
-  pub bad-node : (id population quorum : ℕ) (a : Answered) → not b ≡ true → a ≡ record { number = 1; count = 0; node = n }
+module _ (s : Bytes) (at : ℕ) (k : NumberFields) (h : ReadsAs s at 3 k) (n : Node) (mem : List ℕ) where
+  pub bad-node : (id population quorum : ℕ) (a : Answered) → not (k .good) ≡ true → a ≡ record { number = 1; count = 0; node = n }
       → BeginsLine (numbers 3 (fieldsFrom s at)) id population quorum n mem a mem
   bad-node id population quorum a f e =
-      let g = sym (h .good) ∙ not-true b f in
+      let g = sym (h .good) ∙ not-true (k .good) f in
       record { bad = λ x. record { answer = e; sameMem = refl }; second = λ x. not-both g x; first = λ x. not-both g x }
 
-  module _ (f : not b ≡ false) (t : Bool) (r : t ≡ ready n mem) where
+  module _ (f : not (k .good) ≡ false) (t : Bool) (r : t ≡ ready n mem) where
     good : numbers 3 (fieldsFrom s at) ≡ true
-    good = sym (h .good) ∙ not-false b f
+    good = sym (h .good) ∙ not-false (k .good) f
 
     pub second-node : (id population quorum : ℕ) (a : Answered) → t ≡ true → a ≡ record { number = 2; count = 0; node = n }
         → BeginsLine (numbers 3 (fieldsFrom s at)) id population quorum n mem a mem
@@ -189,10 +190,10 @@ module _ (s : Bytes) (at : ℕ) (out out′ : List ℕ) (b : Bool) (h : ReadsNum
         record { bad = λ x. not-both x good; second = λ x y. record { answer = e; sameMem = refl }; first = λ x y. not-both y (sym r ∙ q) }
 
     pub first-node : (a : Answered) (mem′ : List ℕ) → t ≡ false
-        → BeginsBy (node.inRange (getD out′ 0 0) (getD out′ 1 0) (getD out′ 2 0)) (getD out′ 0 0) (getD out′ 1 0) (getD out′ 2 0) n mem a mem′
+        → BeginsBy (node.inRange (k .first) (k .second) (k .third)) (k .first) (k .second) (k .third) n mem a mem′
         → BeginsLine (numbers 3 (fieldsFrom s at)) (numberAt (fieldsFrom s at) 0) (numberAt (fieldsFrom s at) 1) (numberAt (fieldsFrom s at) 2) n mem a mem′
     first-node a mem′ q g =
-        let v = h .values (not-false b f) in
+        let v = h .values (not-false (k .good) f) in
         record { bad = λ x. not-both x good; second = λ x y. not-both (sym r ∙ q) y; first = λ x y. rw (v 0 (omega arith), v 1 (omega arith), v 2 (omega arith)) at g }
 
 -- ---- a range

@@ -21,34 +21,16 @@ ghost use Rattle.hosts.specs.Line.{isEdit, editOf, isRange};
 ghost use Rattle.hosts.specs.Acts.{EditsLine};
 ghost use Rattle.draft_lines.specs.Drafts.{ReadsRange, ShowsLine, BeginsBy, BeginsLine};
 
-// ---- the draft. A replica number that no byte has is refused as 255 is.
-
-fn lead_with(draft: RespondersConf, rows: &[u64], population: u8, leader: u64) -> Edited
-    ensures { λ r. ⌜ Edits (SetLeader leader) population draft (now (rows .entry)) r (now (rows .entry)) ⌝ }
-{
-    if 255 < leader {
-        return draft.set_leader(rows, population, Replica(255));
-    }
-    draft.set_leader(rows, population, Replica(leader as u8))
-}
+// ---- the draft
 
 fn lead_line(draft: RespondersConf, rows: &[u64], population: u8, line: &[u8], at: usize) -> Edited
     ensures { λ r. ⌜ EditsLine (numbers 1 (fieldsFrom (now (line .entry)) at)) (SetLeader (numberAt (fieldsFrom (now (line .entry)) at) 0)) population draft (now (rows .entry)) r (now (rows .entry)) ⌝ }
 {
-    let mut a = [0u64; 1];
-    if !reader::numbers(line, at, 1, &mut a) {
+    let n = reader::number_fields(line, at, 1);
+    if !n.good {
         return Edited::Refused(1);
     }
-    lead_with(draft, rows, population, a[0])
-}
-
-fn drop_with(draft: RespondersConf, rows: &mut [u64], population: u8, id: u64) -> Edited
-    ensures { λ r. ⌜ Edits (IntoFiltered id) population draft (now (rows .entry)) r (now (rows .exit)) ⌝ }
-{
-    if 255 < id {
-        return draft.into_filtered(rows, population, Replica(255));
-    }
-    draft.into_filtered(rows, population, Replica(id as u8))
+    draft.set_leader(rows, population, hosts::replica(n.first))
 }
 
 fn drop_line(
@@ -60,11 +42,11 @@ fn drop_line(
 ) -> Edited
     ensures { λ r. ⌜ EditsLine (numbers 1 (fieldsFrom (now (line .entry)) at)) (IntoFiltered (numberAt (fieldsFrom (now (line .entry)) at) 0)) population draft (now (rows .entry)) r (now (rows .exit)) ⌝ }
 {
-    let mut a = [0u64; 1];
-    if !reader::numbers(line, at, 1, &mut a) {
+    let n = reader::number_fields(line, at, 1);
+    if !n.good {
         return Edited::Refused(1);
     }
-    drop_with(draft, rows, population, a[0])
+    draft.into_filtered(rows, population, hosts::replica(n.first))
 }
 
 fn whole_line(
@@ -76,11 +58,11 @@ fn whole_line(
 ) -> Edited
     ensures { λ r. ⌜ EditsLine (numbers 1 (fieldsFrom (now (line .entry)) at)) (SetFull (numberAt (fieldsFrom (now (line .entry)) at) 0)) population draft (now (rows .entry)) r (now (rows .exit)) ⌝ }
 {
-    let mut a = [0u64; 1];
-    if !reader::numbers(line, at, 1, &mut a) {
+    let n = reader::number_fields(line, at, 1);
+    if !n.good {
         return Edited::Refused(1);
     }
-    draft.set_full(rows, population, a[0])
+    draft.set_full(rows, population, n.first)
 }
 
 fn reset_line(draft: RespondersConf, rows: &[u64], population: u8, line: &[u8], at: usize) -> Edited
@@ -247,12 +229,12 @@ fn begin(node: Node, mem: &mut [u64], id: u64, population: u64, quorum: u64) -> 
 pub fn node_line(node: Node, mem: &mut [u64], line: &[u8], at: usize) -> Answered
     ensures { λ r. ⌜ (10305 ≤ length (now (mem .entry)) → BeginsLine (numbers 3 (fieldsFrom (now (line .entry)) at)) (numberAt (fieldsFrom (now (line .entry)) at) 0) (numberAt (fieldsFrom (now (line .entry)) at) 1) (numberAt (fieldsFrom (now (line .entry)) at) 2) node (now (mem .entry)) r (now (mem .exit))) ⌝ }
 {
-    let mut a = [0u64; 3];
-    if !reader::numbers(line, at, 3, &mut a) {
+    let n = reader::number_fields(line, at, 3);
+    if !n.good {
         return refused(node, 1);
     }
     if node::is_ready(node, mem) {
         return refused(node, 2);
     }
-    begin(node, mem, a[0], a[1], a[2])
+    begin(node, mem, n.first, n.second, n.third)
 }

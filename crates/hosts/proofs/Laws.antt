@@ -6,7 +6,7 @@ use Prim.Native.Nat.{ℕ, _≤_, _<_}
 use native.Mathlib.Omega.{arith}
 use lib.Dec.{leb}
 use lib.ListN.{length}
-use borrow.Author.Tests.{le-leb, lt-leb}
+use borrow.Author.Tests.{le-leb, lt-leb, lt-ltb, le-ltb}
 use Rattle.fields.specs.Split.{Bytes}
 use Rattle.fields.specs.Reads.{noneLeft}
 use Rattle.responders.specs.declared.RespondersConf.{RespondersConf}
@@ -16,7 +16,7 @@ use Rattle.node.specs.declared.Node.{Node}
 use Rattle.node.specs.View.{size, ready}
 use Rattle.hosts.specs.declared.Host.{Host}
 use Rattle.hosts.specs.Host.{freshHost}
-use Rattle.hosts.specs.Acts.{hostOf, sound}
+use Rattle.hosts.specs.Acts.{hostOf, sound, asByte}
 
 module _ (d : RespondersConf) (mem rows : List ℕ) where
   pub short-mem : length mem < 10305 → false ≡ sound d mem rows
@@ -49,3 +49,11 @@ not-both f g = absurd (true≢false (sym g ∙ f))
 pub some-left : (l : List Bytes) → noneLeft l ≡ false → length l ≡ 0 → ⊥
 some-left [] n e = not-both n refl
 some-left (f ∷ l) n e = absurd (omega arith)
+
+-- ---- a replica number as a byte
+
+pub past-bytes : (n : ℕ) → 255 < n → 255 ≡ asByte n
+past-bytes n l = sym (rw (lt-ltb 255 n l))
+
+pub a-byte : (n : ℕ) → n ≤ 255 → n ≡ asByte n
+a-byte n l = sym (rw (le-ltb 255 n l))

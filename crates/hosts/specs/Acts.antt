@@ -4,7 +4,7 @@ use mathlib.Core.Bool.{Bool, true, false, _&&_}
 use mathlib.Core.List.{List}
 use mathlib.Core.Option.{Option, none, some}
 use Prim.Native.Nat.{ℕ, _<_}
-use lib.Dec.{leb}
+use lib.Dec.{leb, ltb}
 use lib.ListN.{length}
 use Rattle.words.specs.Choice.{if_then_else_, ifNone_then_else_}
 use Rattle.words.specs.Writes.{writes}
@@ -74,3 +74,8 @@ pub record AnswersLine (good : Bool) (c : Call) (node : Node) (mem area : List �
 pub record EditsLine (good : Bool) (e : Edit) (population : ℕ) (c : RespondersConf) (rows : List ℕ) (r : Edited) (rows′ : List ℕ) : Type 0 where
   pub bad : good ≡ false → Gives (refused 1) r rows rows′
   pub well : good ≡ true → Edits e population c rows r rows′
+
+-- ---- a replica number that no byte has is refused as 255 is
+
+abbrev pub asByte : ℕ → ℕ
+asByte n = if ltb 255 n then 255 else n

@@ -11,7 +11,7 @@ ghost use mathlib.Core.Bool.{false};
 ghost use Prim.Native.Nat.{ℕ, _≤_};
 ghost use Rattle.node.specs.View.{ready};
 ghost use Rattle.hosts.specs.Host.{freshHost};
-ghost use Rattle.hosts.specs.Acts.{hostOf, sound};
+ghost use Rattle.hosts.specs.Acts.{hostOf, sound, asByte};
 
 pub struct Host {
     pub node: Node,
@@ -73,4 +73,14 @@ pub fn is_sound(draft: RespondersConf, mem: &[u64], rows: &[u64]) -> bool
         return false;
     }
     draft.count <= RespondersConf::RANGES
+}
+
+// A replica number as a byte. One that no byte has is refused as 255 is, since no node has so many peers.
+pub fn replica(n: u64) -> Replica
+    ensures { λ r. ⌜ r .0 ≡ asByte n ⌝ }
+{
+    if 255 < n {
+        return Replica(255);
+    }
+    Replica(n as u8)
 }

@@ -1,8 +1,8 @@
 -- The numbers that are read, one after the other. Assumes nothing.
 use mathlib.Core.Path.{_≡_, refl, sym, ap, _∙_}
 use mathlib.Core.Bool.{Bool, true, false, true≢false}
-use mathlib.Core.List.{List, []}
-use Prim.Native.Nat.{ℕ, _+_, _-_, _≤_, _<_}
+use mathlib.Core.List.{List, [], _∷_}
+use Prim.Native.Nat.{ℕ, zero, suc, _+_, _-_, _≤_, _<_}
 use native.Mathlib.Nat.{add-zero}
 use native.Mathlib.Omega.{arith}
 use native.Mathlib.Decide.{decLt}
@@ -12,6 +12,7 @@ use Rattle.fields.specs.declared.NumberAt.{NumberAt}
 use Rattle.fields.specs.Split.{Bytes, fieldsFrom}
 use Rattle.fields.specs.Number.{valueOf, numbers, numberAt}
 use Rattle.fields.specs.Reads.{noneLeft, ReadsNumberAt, ReadsNumbers}
+use Rattle.reader.specs.Takes.{ReadsAs}
 use Rattle.fields.proofs.Laws.{numbers-more, numbers-other, numbers-none}
 
 -- i of k numbers are read, and the others begin at next
@@ -55,3 +56,18 @@ module _ (s : Bytes) (at k : ℕ) (out₀ out : List ℕ) (next i : ℕ) (p : To
       let q : i ≡ k = omega (arith, p .count) in
       let z : k - i ≡ 0 = omega arith in
       record { good = e ∙ numbers-none (fieldsFrom s next) ∙ (rw z at (p .good)); values = λ _ j b. p .values j (omega arith); rest = p .rest; size = p .size }
+
+-- ---- six numbers at most
+
+pub six : (s : Bytes) (at k : ℕ) (out out′ : List ℕ) (b : Bool) → k ≤ 6 → ReadsNumbers s at k out b out′
+    → ReadsAs s at k (record { good = b; first = getD out′ 0 0; second = getD out′ 1 0; third = getD out′ 2 0; fourth = getD out′ 3 0; fifth = getD out′ 4 0; sixth = getD out′ 5 0 })
+six s at k out out′ b l h = record { good = h .good; values = λ e i m. same i (omega arith) ∙ h .values e i m }
+  where
+    same : (i : ℕ) → i < 6 → getD (getD out′ 0 0 ∷ getD out′ 1 0 ∷ getD out′ 2 0 ∷ getD out′ 3 0 ∷ getD out′ 4 0 ∷ getD out′ 5 0 ∷ []) i 0 ≡ getD out′ i 0
+    same zero m = refl
+    same (suc zero) m = refl
+    same (suc (suc zero)) m = refl
+    same (suc (suc (suc zero))) m = refl
+    same (suc (suc (suc (suc zero)))) m = refl
+    same (suc (suc (suc (suc (suc zero))))) m = refl
+    same (suc (suc (suc (suc (suc (suc i)))))) m = absurd (omega arith)

@@ -5,11 +5,22 @@ ghost use mathlib.Core.Path.{_≡_};
 ghost use Prim.Native.Nat.{_≤_};
 ghost use lib.ListN.{length};
 ghost use Rattle.fields.specs.Reads.{ReadsField, ReadsNumberAt, ReadsNumbers};
-ghost use Rattle.reader.specs.Takes.{TakesField, TakesNumber};
+ghost use Rattle.reader.specs.Takes.{TakesField, TakesNumber, ReadsAs};
 
 pub struct LineReader<'a> {
     pub line: &'a [u8],
     pub at: usize,
+}
+
+// The fields of a line as numbers: whether they are as many as asked, and which.
+pub struct NumberFields {
+    pub good: bool,
+    pub first: u64,
+    pub second: u64,
+    pub third: u64,
+    pub fourth: u64,
+    pub fifth: u64,
+    pub sixth: u64,
 }
 
 pub fn new<'a>(line: &'a [u8], at: usize) -> LineReader<'a>
@@ -51,7 +62,7 @@ pub fn number_from(line: &[u8], at: usize) -> NumberAt
 }
 
 // The fields from a position on: whether they are k numbers, and which.
-pub fn numbers(line: &[u8], at: usize, k: usize, out: &mut [u64]) -> bool
+fn numbers(line: &[u8], at: usize, k: usize, out: &mut [u64]) -> bool
     requires { ⌜ k ≤ length (now out) ⌝ }
     ensures { λ r. ⌜ ReadsNumbers (now (line .entry)) at k (now (out .entry)) r (now (out .exit)) ⌝ }
 {
@@ -68,4 +79,22 @@ pub fn numbers(line: &[u8], at: usize, k: usize, out: &mut [u64]) -> bool
         }
     }
     fields::ended(line, next)
+}
+
+// The same for at most six numbers.
+pub fn number_fields(line: &[u8], at: usize, k: usize) -> NumberFields
+    requires { ⌜ k ≤ 6 ⌝ }
+    ensures { λ r. ⌜ ReadsAs (now (line .entry)) at k r ⌝ }
+{
+    let mut a = [0u64; 6];
+    let good = numbers(line, at, k, &mut a);
+    NumberFields {
+        good,
+        first: a[0],
+        second: a[1],
+        third: a[2],
+        fourth: a[3],
+        fifth: a[4],
+        sixth: a[5],
+    }
 }

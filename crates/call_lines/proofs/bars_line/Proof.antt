@@ -5,29 +5,14 @@ use borrow.Author.Needs.{needs}
 use Rattle.call_lines.proofs.bars_line.Statement.{statement}
 use Rattle.call_lines.proofs.bars_line.Tie as tie
 
-slice-aggregate-numbers : tie.Need-slice-aggregate-numbers
-slice-aggregate-numbers c = search needs
-
-numbers-requires : tie.Need-numbers-requires
-numbers-requires c κs = search needs
+number-fields-requires : tie.Need-number-fields-requires
+number-fields-requires c κs = search needs
 
 malformed-requires : tie.Need-malformed-requires
 malformed-requires c κs = search needs
 
 returns : tie.Need-returns
-returns c = law.not-numbers _ _ _ _ _ _ (c .before .before .before .numbers .ensures) _ _ _ _ _ (c .before .if1 .taken) (c .malformed .ensures)
-
-array-read-t15 : tie.Need-array-read-t15
-array-read-t15 c = search needs
-
-array-read-t19 : tie.Need-array-read-t19
-array-read-t19 c = search needs
-
-array-read-t23 : tie.Need-array-read-t23
-array-read-t23 c = search needs
-
-array-read-t27 : tie.Need-array-read-t27
-array-read-t27 c = search needs
+returns c = law.not-numbers _ _ _ _ (c .before .before .before .number-fields .ensures) _ _ _ _ _ (c .before .if1 .taken) (c .malformed .ensures)
 
 bars-requires : tie.Need-bars-requires
 bars-requires c κs = search needs
@@ -36,20 +21,15 @@ same-length : tie.Need-same-length
 same-length c = search needs
 
 returns-2 : tie.Need-returns-2
-returns-2 c = law.four _ _ _ _ _ _ (c .before .before .before .before .before .before .numbers .ensures) (c .before .before .before .before .if1 .left) _ _ _ _ _ _ Bars (omega arith) (c .before .before .bars .ensures)
+returns-2 c = law.four _ _ _ _ (c .before .before .before .before .before .before .number-fields .ensures) (c .before .before .before .before .if1 .left) _ _ _ _ _ _ Bars (omega arith) (c .before .before .bars .ensures)
 
 pub bars-line-spec : {M : Type 1} → statement M
 bars-line-spec =
     tie.close
     (tie.spec
-    slice-aggregate-numbers
-    numbers-requires
+    number-fields-requires
     malformed-requires
     returns
-    array-read-t15
-    array-read-t19
-    array-read-t23
-    array-read-t27
     bars-requires
     same-length
     returns-2)

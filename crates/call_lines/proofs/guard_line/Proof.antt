@@ -5,47 +5,35 @@ use borrow.Author.Needs.{needs}
 use Rattle.call_lines.proofs.guard_line.Statement.{statement}
 use Rattle.call_lines.proofs.guard_line.Tie as tie
 
-slice-aggregate-numbers : tie.Need-slice-aggregate-numbers
-slice-aggregate-numbers c = search needs
-
-numbers-requires : tie.Need-numbers-requires
-numbers-requires c κs = search needs
+number-fields-requires : tie.Need-number-fields-requires
+number-fields-requires c κs = search needs
 
 malformed-requires : tie.Need-malformed-requires
 malformed-requires c κs = search needs
 
 returns : tie.Need-returns
-returns c = law.not-numbers _ _ _ _ _ _ (c .before .before .before .numbers .ensures) _ _ _ _ _ (c .before .if1 .taken) (c .malformed .ensures)
+returns c = law.not-numbers _ _ _ _ (c .before .before .before .number-fields .ensures) _ _ _ _ _ (c .before .if1 .taken) (c .malformed .ensures)
 
-array-read-guard-with : tie.Need-array-read-guard-with
-array-read-guard-with c = search needs
+replica-requires : tie.Need-replica-requires
+replica-requires c κs = search needs
 
-array-read-guard-with-2 : tie.Need-array-read-guard-with-2
-array-read-guard-with-2 c = search needs
-
-array-read-guard-with-3 : tie.Need-array-read-guard-with-3
-array-read-guard-with-3 c = search needs
-
-guard-with-requires : tie.Need-guard-with-requires
-guard-with-requires c κs = search needs
+guard-requires : tie.Need-guard-requires
+guard-requires c κs = search needs
 
 same-length : tie.Need-same-length
 same-length c = search needs
 
 returns-2 : tie.Need-returns-2
-returns-2 c = law.three _ _ _ _ _ _ (c .before .before .before .before .before .before .numbers .ensures) (c .before .before .before .before .if1 .left) _ _ _ _ _ _ Guard (omega arith) (c .before .before .guard-with .ensures)
+returns-2 c = law.from-peer _ _ _ _ (c .before .before .before .before .before .before .before .number-fields .ensures) (c .before .before .before .before .before .if1 .left) _ _ _ _ _ _ Guard _ (law.guard-3 _ _ _) (omega arith) (c .before .before .before .before .replica .ensures) (c .before .before .guard .ensures)
 
 pub guard-line-spec : {M : Type 1} → statement M
 guard-line-spec =
     tie.close
     (tie.spec
-    slice-aggregate-numbers
-    numbers-requires
+    number-fields-requires
     malformed-requires
     returns
-    array-read-guard-with
-    array-read-guard-with-2
-    array-read-guard-with-3
-    guard-with-requires
+    replica-requires
+    guard-requires
     same-length
     returns-2)
