@@ -1,6 +1,6 @@
 //! Recorded calls for the program `crates/calls_main`: the ten calls of
-//! document 01 and edits of a draft, the oracle's answer to each with its
-//! items, and a sum over the whole node, or the draft, after it.
+//! document 01 and edits of a draft, the oracle's answer to each, and a sum
+//! over the whole node and one over the draft after it.
 
 use std::collections::BTreeMap;
 use std::ops::Range;
@@ -36,9 +36,6 @@ const SEEDS: [u64; 22] = [
     498, 555,
 ];
 const LINES: u64 = 220;
-
-/// A node that a script ends with is written in full if it has fewer numbers.
-const SHOWN: usize = 120;
 
 /// A prime below 2^32.
 const PRIME: u64 = 4_294_967_291;
@@ -385,7 +382,7 @@ fn short(node: &BodegaReplica) -> Vec<u64> {
     short
 }
 
-/// A node in numbers, in the order in which the program writes them.
+/// A node in numbers, in the order of the sum.
 fn numbers(node: &BodegaReplica, written: &[String]) -> Vec<u64> {
     let mut numbers: Vec<u64> = [node.id, node.population, node.quorum_cnt]
         .map(u64::from)
@@ -472,39 +469,33 @@ impl Recording {
         self.input.push(b'\n');
     }
 
-    /// The line of a call has its places in front of its fields.
+    /// A line of document 01 has its places in front.
     fn put_call(&mut self, line: &[u8], places: usize) {
-        let comma = line.iter().position(|&b| b == b',').unwrap_or(line.len());
-        let places = format!(",{places}");
-        self.put(&[&line[..comma], places.as_bytes(), &line[comma..]].concat());
+        self.put(&[format!("{places},").as_bytes(), line].concat());
     }
 
-    /// The line's number, that of the refusal or 0, that of the items, the sum
-    /// over the node, or over the draft at a line of the draft, and the items.
+    /// The answer of document 01, then the sum over the node and over the
+    /// draft.
     fn answer(&mut self, kind: usize, refusal: u8) {
         let host = self.replay.host();
-        let draft = KINDS[kind] == "show" || EDITS.contains(&KINDS[kind]);
-        let numbers = match host {
-            Some(host) if draft => roster(&host.draft),
-            _ => self.numbers(),
-        };
         let items = if refusal == 0 {
             self.replay.items()
         } else {
             &[]
         };
-        let line = [
-            self.lines,
-            u64::from(refusal),
-            items.len() as u64,
-            sum(&text(&numbers)),
-        ];
-        self.output.extend_from_slice(&text(&line)[1..]);
-        self.output.push(b'\n');
+        let head = match refusal {
+            0 => format!("{},taken,{}\n", self.lines, items.len()),
+            _ => format!("{},refused,{refusal}\n", self.lines),
+        };
+        self.output.extend_from_slice(head.as_bytes());
         for item in items {
             item.write(&mut self.output);
             self.items[item.kind()] += 1;
         }
+        let draft = host.map_or_else(Vec::new, |host| roster(&host.draft));
+        let [node, draft] = [self.numbers(), draft].map(|numbers| sum(&text(&numbers)));
+        let sums = format!("sum,{node},{draft}\n");
+        self.output.extend_from_slice(sums.as_bytes());
         *self.reached.entry((KINDS[kind], refusal)).or_default() += 1;
         if let Some(host) = host {
             let met = [
@@ -515,14 +506,6 @@ impl Recording {
             ];
             self.most = std::array::from_fn(|i| self.most[i].max(met[i]));
         }
-    }
-
-    /// The node is written in full.
-    fn show(&mut self) {
-        self.put(b"numbers");
-        let numbers = text(&self.numbers());
-        self.output.extend(numbers);
-        self.output.push(b'\n');
     }
 
     /// The node's buffer or the draft's words are lent short: no call is taken.
@@ -539,11 +522,8 @@ impl Recording {
             (words, ROWS)
         };
         self.put(format!("lend,{words},{rows}").as_bytes());
-        if sort == Sort::Call {
-            self.put_call(line, PLACES);
-        } else {
-            self.put(line);
-        }
+        let places = if sort == Sort::Call { PLACES } else { 0 };
+        self.put_call(line, places);
         self.answer(kind, 2);
         self.put(format!("lend,{WORDS},{ROWS}").as_bytes());
     }
@@ -606,7 +586,7 @@ impl Recording {
             let more = self.rng.pick(&[0, 0, 1, 3, PLACES - items]);
             self.put_call(line, items + more);
         } else {
-            self.put(line);
+            self.put_call(line, 0);
         }
         self.answer(kind, refusal);
     }
@@ -757,9 +737,6 @@ fn seeded(recording: &mut Recording, seed: u64) {
             recording.event(odd_node(&mut rng).as_bytes());
         }
         recording.event(&line);
-    }
-    if recording.numbers().len() < SHOWN {
-        recording.show();
     }
     if seed % 2 == 1 {
         return;

@@ -37,8 +37,6 @@ fn files_are_the_oracles() {
     let recording = make();
     assert!(std::fs::read(folder.join("stdin")).unwrap() == recording.input);
     assert!(std::fs::read(folder.join("stdout")).unwrap() == recording.output);
-    // the program's buffer
-    assert!(recording.input.len() < 262_144, "{}", recording.input.len());
 }
 
 #[test]

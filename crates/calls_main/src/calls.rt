@@ -1,196 +1,130 @@
-// The calls, each with the fields of its line; the first is the number of places.
-use crate::fields;
-use crate::fields::small;
-use crate::fields::value;
-use ids::Ballot;
-use ids::Replica;
-use ids::Slot;
+// What a line of document 01 does to the node and the draft.
+use fields::Kind;
+use hosts::Host;
 use node::Answered;
 use node::Node;
+use responders::Edited;
 use responders::RespondersConf;
-ghost use Prim.Native.Nat.{_+_, _<_, _≤_};
+use roster_show::Shown;
+ghost use Prim.Native.Nat.{_≤_};
 ghost use lib.ListN.{length};
 
-fn heard_call(
-    node: Node,
-    line: &[u8],
-    mem: &mut [u64],
-    area: &mut [u64],
-    conf: RespondersConf,
-    rows: &[u64],
-) -> Answered {
-    let peer = Replica(small(line, 2));
-    let ballot = Ballot(value(line, 3));
-    let attached = value(line, 4) == 1;
-    let commit = Slot(value(line, 5));
-    let exec = Slot(value(line, 6));
-    let snap = Slot(value(line, 7));
-    heartbeat::heartbeat(
+// The node, the draft, and the population that its edits are for.
+pub(crate) struct Subject {
+    pub node: Node,
+    pub draft: RespondersConf,
+    pub population: u8,
+}
+
+// 0: taken, with this many items; else the number of the refusal.
+pub(crate) struct Done {
+    pub number: u64,
+    pub count: usize,
+    pub subject: Subject,
+}
+
+fn left(subject: Subject, number: u64, count: usize) -> Done {
+    Done {
+        number,
+        count,
+        subject,
+    }
+}
+
+fn called(subject: Subject, a: Answered) -> Done {
+    let node = a.node;
+    let draft = subject.draft;
+    let next = Subject {
         node,
-        mem,
-        area,
-        peer,
-        ballot,
-        attached,
-        conf,
-        rows,
-        commit,
-        exec,
-        snap,
-    )
+        draft,
+        population: subject.population,
+    };
+    left(next, a.number, a.count)
 }
 
-fn guard_call(node: Node, line: &[u8], mem: &mut [u64], area: &[u64]) -> Answered {
-    let peer = Replica(small(line, 2));
-    let number = Ballot(value(line, 3));
-    let bar = Slot(value(line, 4));
-    guard::guard(node, mem, area, peer, number, bar)
-}
-
-fn prepared_call(node: Node, line: &[u8], mem: &[u64], area: &[u64]) -> Answered {
-    let ballot = Ballot(value(line, 2));
-    prepared::prepared(node, mem, area, ballot)
-}
-
-fn bars_call(node: Node, line: &[u8], mem: &mut [u64], area: &[u64]) -> Answered {
-    let start = Slot(value(line, 2));
-    let accept = Slot(value(line, 3));
-    let commit = Slot(value(line, 4));
-    let exec = Slot(value(line, 5));
-    bars::bars(node, mem, area, start, accept, commit, exec)
-}
-
-fn reply_call(node: Node, line: &[u8], mem: &mut [u64], area: &mut [u64]) -> Answered {
-    let peer = Replica(small(line, 2));
-    let slot = Slot(value(line, 3));
-    let ballot = Ballot(value(line, 4));
-    reply::reply(node, mem, area, peer, slot, ballot)
-}
-
-fn notice_call(node: Node, line: &[u8], mem: &mut [u64], area: &mut [u64]) -> Answered {
-    let peer = Replica(small(line, 2));
-    let slot = Slot(value(line, 3));
-    let ballot = Ballot(value(line, 4));
-    notice::notice(node, mem, area, peer, slot, ballot)
-}
-
-fn commit_call(node: Node, line: &[u8], mem: &mut [u64], area: &mut [u64]) -> Answered {
-    let peer = Replica(small(line, 2));
-    let ballot = Ballot(value(line, 3));
-    let bar = Slot(value(line, 4));
-    commit::commit(node, mem, area, peer, ballot, bar)
-}
-
-fn read_call(node: Node, line: &[u8], mem: &mut [u64], area: &mut [u64]) -> Answered {
-    let key = fields::at(line, 5);
-    let start = key.start;
-    let end = key.end;
-    read::read(
+// A fresh node has an empty draft.
+fn begun(subject: Subject, a: Answered) -> Done {
+    if a.number != 0 {
+        return left(subject, a.number, 0);
+    }
+    let node = a.node;
+    let draft = RespondersConf::empty();
+    let next = Subject {
         node,
-        mem,
-        area,
-        value(line, 2),
-        value(line, 3),
-        value(line, 4),
-        &line[start..end],
-    )
+        draft,
+        population: node.population,
+    };
+    left(next, 0, 0)
 }
 
-fn release_call(node: Node, line: &[u8], mem: &mut [u64], area: &mut [u64]) -> Answered {
-    let slot = Slot(value(line, 2));
-    release::release(node, mem, area, slot)
-}
-
-fn set(s: &mut [u64], i: usize, w: u64) {
-    if i < s.len() {
-        s[i] = w;
+fn edited(subject: Subject, e: Edited) -> Done {
+    match e {
+        Edited::Taken(draft) => {
+            let node = subject.node;
+            let next = Subject {
+                node,
+                draft,
+                population: subject.population,
+            };
+            left(next, 0, 0)
+        }
+        Edited::Refused(number) => left(subject, number, 0),
     }
 }
 
-// Where a key is, and how long.
-fn put_key(line: &[u8], k: usize, rows: &mut [u64], p: usize)
-    requires { ⌜ p < 3000 ⌝ }
+fn shown(subject: Subject, s: Shown) -> Done {
+    match s {
+        Shown::Items(count) => left(subject, 0, count),
+        Shown::Refused(number) => left(subject, number, 0),
+    }
+}
+
+fn record(node: Node, mem: &mut [u64], area: &[u64], line: &[u8], at: usize) -> Answered
+    requires { ⌜ length (now line) ≤ 1024 ⌝ }
 {
-    let key = fields::at(line, k);
-    set(rows, p, key.start as u64);
-    set(rows, p + 1, (key.end - key.start) as u64);
+    let mut groups = [0u64; 1542];
+    record_lines::record_line(node, mem, area, &mut groups, line, at)
 }
 
-// Kind and value: an empty one is a Get.
-fn put_value(line: &[u8], k: usize, rows: &mut [u64], p: usize)
-    requires { ⌜ p < 3000 ⌝ }
-{
-    let b = fields::at(line, k);
-    set(rows, p, (b.start < b.end) as u64);
-    set(rows, p + 1, value(line, k));
+// A node line makes a fresh node wherever it can.
+fn fresh(mem: &mut [u64], line: &[u8], at: usize) -> Answered {
+    let none = Host::fresh();
+    draft_lines::node_line(none.node, mem, line, at)
 }
 
-// A request in six words.
-fn put_row(line: &[u8], k: usize, rows: &mut [u64], p: usize)
-    requires { ⌜ (k < 1000) × (p < 2900) ⌝ }
-{
-    set(rows, p, value(line, k));
-    set(rows, p + 1, value(line, k + 1));
-    put_value(line, k + 3, rows, p + 2);
-    put_key(line, k + 2, rows, p + 4);
-}
-
-// The groups of four fields as rows, and how many words they are.
-fn batch(line: &[u8], rows: &mut [u64]) -> usize {
-    let count = fields::count(line);
-    let mut k = 4;
-    let mut p = 0;
-    while k < 990 && k + 3 < count {
-        put_row(line, k, rows, p);
-        k += 4;
-        p += 6;
-    }
-    p
-}
-
-fn record_call(node: Node, line: &[u8], mem: &mut [u64], area: &[u64]) -> Answered {
-    let slot = Slot(value(line, 2));
-    let ballot = Ballot(value(line, 3));
-    let mut rows = [0u64; 1200];
-    let used = fields::least(batch(line, &mut rows), 1200);
-    record::record(node, mem, area, slot, ballot, &rows[0..used], line)
-}
-
-// Those without items.
-fn plain_call(kind: usize, node: Node, line: &[u8], mem: &mut [u64], area: &mut [u64]) -> Answered {
-    match kind {
-        1 => guard_call(node, line, mem, area),
-        2 => prepared_call(node, line, mem, area),
-        3 => record_call(node, line, mem, area),
-        _ => bars_call(node, line, mem, area),
-    }
-}
-
-fn slot_call(kind: usize, node: Node, line: &[u8], mem: &mut [u64], area: &mut [u64]) -> Answered {
-    match kind {
-        5 => reply_call(node, line, mem, area),
-        6 => notice_call(node, line, mem, area),
-        7 => commit_call(node, line, mem, area),
-        8 => read_call(node, line, mem, area),
-        _ => release_call(node, line, mem, area),
-    }
-}
-
-// The kind is the place of the line's name; the roster is a heartbeat's.
-pub(crate) fn call(
-    kind: usize,
-    node: Node,
-    line: &[u8],
+pub(crate) fn act(
+    subject: Subject,
     mem: &mut [u64],
+    rows: &mut [u64],
     area: &mut [u64],
-    conf: RespondersConf,
-    rows: &[u64],
-) -> Answered {
-    if kind == 0 {
-        return heard_call(node, line, mem, area, conf, rows);
+    kind: Kind,
+    line: &[u8],
+    at: usize,
+) -> Done
+    requires { ⌜ length (now line) ≤ 1024 ⌝ }
+{
+    let node = subject.node;
+    let draft = subject.draft;
+    let population = subject.population;
+    match kind {
+        Kind::Node => begun(subject, fresh(mem, line, at)),
+        Kind::Edit(edit) => edited(
+            subject,
+            draft_lines::edit_line(edit, draft, rows, population, line, at),
+        ),
+        Kind::Show => shown(
+            subject,
+            draft_lines::show_line(draft, rows, area, population, line, at),
+        ),
+        Kind::Heard => called(
+            subject,
+            call_lines::heard_line(node, mem, area, draft, rows, line, at),
+        ),
+        Kind::Record => called(subject, record(node, mem, area, line, at)),
+        Kind::Call(call) => called(
+            subject,
+            call_lines::call_line(call, node, mem, area, line, at),
+        ),
+        Kind::Unknown => left(subject, 1, 0),
     }
-    if kind < 5 {
-        return plain_call(kind, node, line, mem, area);
-    }
-    slot_call(kind, node, line, mem, area)
 }

@@ -1,122 +1,86 @@
-// Runs recorded calls, one to a line of standard input, on one node, and writes what each answers and a sum over the whole node after it.
-// vectors/README.md says what the lines are and how the recorded ones are made.
-mod answers;
+// Runs recorded calls on one node. vectors/README.md says what the lines are, what is written for each, and how the recorded ones are made.
 mod calls;
-mod drafts;
-mod fields;
-mod numbers;
-mod text;
 
-use fields::least;
-use ids::Replica;
+use calls::Done;
+use calls::Subject;
+use fields::Kind;
+use hosts::Host;
 use ids::Slot;
-use node::Fresh;
 use node::Node;
-use responders::Edited;
 use responders::RespondersConf;
-use roster_show::Shown;
-ghost use Prim.Native.Nat.{_+_, _<_, _≤_};
+ghost use mathlib.Core.Path.{_≡_};
+ghost use Prim.Native.Nat.{_*_, _≤_};
 ghost use lib.ListN.{length};
 
-// The node, the draft and the population that its edits are for, how many words of the node's buffer and of the draft's rows are lent, and how many lines were read.
-struct Host {
-    node: Node,
-    draft: RespondersConf,
-    population: u8,
-    lent: usize,
+// What goes from line to line: how many words of the node's buffer and of the draft's rows are lent, and how many lines were read.
+struct State {
+    subject: Subject,
+    words: usize,
     rows: usize,
     lines: u64,
 }
 
-// What a line comes to: it answers nothing, a call of the node, an edit of the draft, or the node's numbers.
-struct Done {
-    host: Host,
-    what: u8,
-    number: u64,
-    count: usize,
+// Where the lines of a piece end.
+struct Place {
+    at: usize,
+    state: State,
 }
 
-const NOTHING: u8 = 0;
-
-const CALL: u8 = 1;
-
-const EDIT: u8 = 2;
-
-const NUMBERS: u8 = 3;
-
-fn begin(node: Node) -> Host {
-    let draft = RespondersConf::empty();
-    Host {
-        node,
-        draft,
-        population: node.population,
-        lent: Node::WORDS,
-        rows: RespondersConf::WORDS,
-        lines: 0,
-    }
+// What goes from piece to piece: how many bytes were kept.
+struct Progress {
+    have: usize,
+    state: State,
+    more: bool,
 }
 
-fn with_node(host: Host, node: Node) -> Host {
-    let draft = host.draft;
-    Host {
-        node,
-        draft,
-        population: host.population,
-        lent: host.lent,
-        rows: host.rows,
-        lines: host.lines,
-    }
+fn least(a: usize, b: usize) -> usize
+    ensures { λ r. ⌜ r ≤ b ⌝ }
+{
+    if a < b { a } else { b }
 }
 
-fn with_draft(host: Host, draft: RespondersConf, population: u8) -> Host {
-    let node = host.node;
-    Host {
-        node,
-        draft,
-        population,
-        lent: host.lent,
-        rows: host.rows,
-        lines: host.lines,
-    }
+// ---- answers
+
+fn say(text: &[u8]) {
+    io::write_all(1, text);
 }
 
-fn with_lent(host: Host, lent: usize, rows: usize) -> Host {
-    let node = host.node;
-    let draft = host.draft;
-    Host {
-        node,
-        draft,
-        population: host.population,
-        lent,
-        rows,
-        lines: host.lines,
-    }
+fn say_field(n: u32) {
+    say(b",");
+    io::print_decimal(1, n as u64);
 }
 
-fn counted(host: Host) -> Host {
-    let node = host.node;
-    let draft = host.draft;
-    Host {
-        node,
-        draft,
-        population: host.population,
-        lent: host.lent,
-        rows: host.rows,
-        lines: std::num::wrapping_add_u64(host.lines, 1),
-    }
+fn say_sums(node: u32, draft: u32) {
+    say(b"sum");
+    say_field(node);
+    say_field(draft);
+    say(b"\n");
 }
 
-fn silent(host: Host) -> Done {
-    Done {
-        host,
-        what: NOTHING,
-        number: 0,
-        count: 0,
+fn say_answer(line: u64, number: u64, count: usize, area: &[u64]) {
+    if 546 < count {
+        return;
     }
+    if area.len() < count * 6 {
+        return;
+    }
+    let mut out = io::large_buffer();
+    let end = answers::put_answer(&mut out, line, number, count, area);
+    say(&out[0..end]);
+}
+
+// ---- lines
+
+// Where the line's name ends.
+fn name_end(line: &[u8]) -> usize
+    ensures { λ r. ⌜ r ≤ length (now (line .entry)) ⌝ }
+{
+    let name = fields::field_at(line, 0);
+    name.end
 }
 
 // Start, commit and exec bar at a slot: no list of calls gets there soon.
-fn jump(node: Node, slot: u64) -> Node {
+fn jumped(node: Node, slot: u64) -> Node {
     let id = node.id;
     let conf = node.bodega_conf;
     let max_seen = node.bal_max_seen;
@@ -144,248 +108,220 @@ fn jump(node: Node, slot: u64) -> Node {
     }
 }
 
-// ---- lines
-
-fn fresh(lent: usize, line: &[u8], mem: &mut [u64]) -> Fresh {
-    let n = least(lent, mem.len());
-    let id = Replica(fields::small(line, 1));
-    let population = fields::small(line, 2);
-    let quorum = fields::small(line, 3);
-    Node::fresh(&mut mem[0..n], id, population, quorum)
-}
-
-fn node_line(host: Host, line: &[u8], mem: &mut [u64]) -> Done {
-    match fresh(host.lent, line, mem) {
-        Fresh::Made(node) => {
-            let draft = RespondersConf::empty();
-            let next = with_node(host, node);
-            Done {
-                host: with_draft(next, draft, node.population),
-                what: CALL,
-                number: 0,
-                count: 0,
-            }
-        }
-        Fresh::Refused(number) => Done {
-            host,
-            what: CALL,
-            number,
-            count: 0,
-        },
+fn with(s: State, subject: Subject) -> State {
+    State {
+        subject,
+        words: s.words,
+        rows: s.rows,
+        lines: s.lines,
     }
 }
 
-// The words of the places that a line says.
-fn room(line: &[u8], area: &[u64]) -> usize
-    ensures { λ r. ⌜ r ≤ length (now (area .entry)) ⌝ }
-{
-    let places = least(fields::value(line, 1) as usize, 1000);
-    least(places * 6, area.len())
+fn lend(s: State, words: u64, rows: u64) -> State {
+    let subject = s.subject;
+    State {
+        subject,
+        words: words as usize,
+        rows: rows as usize,
+        lines: s.lines,
+    }
 }
 
-fn call_line(
-    kind: usize,
-    host: Host,
-    line: &[u8],
-    mem: &mut [u64],
-    area: &mut [u64],
-    rows: &[u64],
-) -> Done {
-    let lent = least(host.lent, mem.len());
-    let lent_rows = least(host.rows, rows.len());
-    let n = room(line, area);
-    let node = host.node;
-    let draft = host.draft;
-    let a = calls::call(
-        kind,
+fn draft(s: State, population: u64) -> State {
+    if 255 < population {
+        return s;
+    }
+    let node = s.subject.node;
+    let draft = RespondersConf::empty();
+    let next = Subject {
         node,
-        line,
-        &mut mem[0..lent],
-        &mut area[0..n],
         draft,
-        &rows[0..lent_rows],
-    );
-    Done {
-        host: with_node(host, a.node),
-        what: CALL,
-        number: a.number,
-        count: a.count,
+        population: population as u8,
+    };
+    with(s, next)
+}
+
+fn jump(s: State, slot: u64) -> State {
+    let node = jumped(s.subject.node, slot);
+    let draft = s.subject.draft;
+    let next = Subject {
+        node,
+        draft,
+        population: s.subject.population,
+    };
+    with(s, next)
+}
+
+// A line that has no answer.
+fn prepare(s: State, line: &[u8]) -> State {
+    let end = name_end(line);
+    let a = fields::number_at(line, end + 1);
+    let b = fields::number_at(line, a.next);
+    let name = &line[0..end];
+    if check::same(name, b"lend") {
+        return lend(s, a.value, b.value);
     }
-}
-
-fn edited(host: Host, edited: Edited) -> Done {
-    match edited {
-        Edited::Taken(conf) => Done {
-            host: with_draft(host, conf, host.population),
-            what: EDIT,
-            number: 0,
-            count: 0,
-        },
-        Edited::Refused(number) => Done {
-            host,
-            what: EDIT,
-            number,
-            count: 0,
-        },
+    if check::same(name, b"draft") {
+        return draft(s, a.value);
     }
-}
-
-fn edit_line(kind: usize, host: Host, line: &[u8], rows: &mut [u64]) -> Done {
-    let lent = least(host.rows, rows.len());
-    let draft = host.draft;
-    let e = drafts::edit(kind, draft, &mut rows[0..lent], host.population, line);
-    edited(host, e)
-}
-
-fn shown(host: Host, shown: Shown) -> Done {
-    match shown {
-        Shown::Items(count) => Done {
-            host,
-            what: EDIT,
-            number: 0,
-            count,
-        },
-        Shown::Refused(number) => Done {
-            host,
-            what: EDIT,
-            number,
-            count: 0,
-        },
+    if check::same(name, b"jump") {
+        return jump(s, a.value);
     }
+    s
 }
 
-fn show_line(host: Host, line: &[u8], rows: &[u64], area: &mut [u64]) -> Done {
-    let lent = least(host.rows, rows.len());
-    let n = room(line, area);
-    let draft = host.draft;
-    let s = roster_show::show(draft, &rows[0..lent], &mut area[0..n]);
-    shown(host, s)
-}
-
-// A line that is no call.
-fn other(kind: usize, host: Host, line: &[u8]) -> Done {
-    match kind {
-        17 => Done {
-            host,
-            what: NUMBERS,
-            number: 0,
-            count: 0,
-        },
-        18 => silent(with_lent(
-            host,
-            fields::value(line, 1) as usize,
-            fields::value(line, 2) as usize,
-        )),
-        19 => silent(with_draft(host, RespondersConf::empty(), fields::small(line, 1))),
-        20 => silent(with_node(host, jump(host.node, fields::value(line, 1)))),
-        _ => silent(host),
-    }
-}
-
-// The place of the line's name: first the calls, then the draft's edits, then the others.
-fn kind_of(line: &[u8]) -> usize {
-    let end = fields::end_of(line, 0, b',');
-    fields::place(
-        b"heard,guard,prepared,record,bars,reply,notice,commit,read,release,lead,range,whole,drop,reset,node,show,numbers,lend,draft,jump",
-        &line[0..end],
+// Done with what is lent of the buffers.
+fn act(
+    s: State,
+    mem: &mut [u64],
+    rows: &mut [u64],
+    area: &mut [u64],
+    places: usize,
+    kind: Kind,
+    line: &[u8],
+    at: usize,
+) -> Done
+    requires { ⌜ (places ≤ 546) × (length (now line) ≤ 1024) ⌝ }
+{
+    let n = least(s.words, mem.len());
+    let k = least(s.rows, rows.len());
+    let room = least(places * 6, area.len());
+    calls::act(
+        s.subject,
+        &mut mem[0..n],
+        &mut rows[0..k],
+        &mut area[0..room],
+        kind,
+        line,
+        at,
     )
 }
 
-fn step(host: Host, line: &[u8], mem: &mut [u64], area: &mut [u64], rows: &mut [u64]) -> Done {
-    let kind = kind_of(line);
-    if kind < 10 {
-        return call_line(kind, host, line, mem, area, rows);
-    }
-    if kind < 15 {
-        return edit_line(kind, host, line, rows);
-    }
-    if kind == 15 {
-        return node_line(host, line, mem);
-    }
-    if kind == 16 {
-        return show_line(host, line, rows, area);
-    }
-    other(kind, host, line)
-}
-
-// ---- answers
-
-// Writes the first n bytes.
-fn write(out: &[u8], n: usize) {
-    let used = least(n, out.len());
-    io::write_all(1, &out[0..used]);
-}
-
-// The numbers of the node or the draft.
-fn put_numbers(done: Done, mem: &[u64], rows: &[u64], out: &mut [u8]) -> usize {
-    if done.what == EDIT {
-        return numbers::roster(out, 0, rows, done.host.draft);
-    }
-    numbers::whole(out, 0, mem, done.host.node)
-}
-
-// The answer to a line, with a sum of the first n bytes of the text before.
-fn answer(done: Done, n: usize, area: &[u64], out: &mut [u8]) {
-    let used = least(n, out.len());
-    let sum = text::sum(&out[0..used]);
-    let p = answers::head(out, done.host.lines, done.number, done.count, sum);
-    let q = answers::items(out, p, area, done.count);
-    write(out, q);
-}
-
-fn tell(done: Done, mem: &[u64], area: &[u64], rows: &[u64], out: &mut [u8]) {
-    if done.what == NOTHING {
-        return;
-    }
-    let n = put_numbers(done, mem, rows, out);
-    if done.what == NUMBERS {
-        let end = text::byte(out, n, b'\n');
-        write(out, end);
-        return;
-    }
-    answer(done, n, area, out);
-}
-
-fn take(
-    host: Host,
-    line: &[u8],
-    mem: &mut [u64],
-    area: &mut [u64],
-    rows: &mut [u64],
-    out: &mut [u8],
-) -> Host {
-    let done = step(counted(host), line, mem, area, rows);
-    tell(done, mem, area, rows, out);
-    done.host
-}
-
-// Where the line after the one that ends at `end` starts.
-fn past(at: usize, end: usize, n: usize) -> usize
-    requires { ⌜ (at < n) × (at ≤ end) × (end ≤ n) ⌝ }
-    ensures { λ r. ⌜ (at < r) × (r ≤ n) ⌝ }
+// A line of document 01, with places for so many items.
+fn call(s: State, mem: &mut [u64], rows: &mut [u64], places: usize, line: &[u8]) -> State
+    requires { ⌜ (places ≤ 546) × (length (now line) ≤ 1024) ⌝ }
 {
-    if end < n { end + 1 } else { n }
+    let end = name_end(line);
+    let kind = fields::kind_of(&line[0..end]);
+    let mut area = [0u64; 3276];
+    let done = act(s, mem, rows, &mut area, places, kind, line, end + 1);
+    say_answer(s.lines, done.number, done.count, &area);
+    let next = done.subject;
+    say_sums(
+        node_sum::of_node(next.node, mem),
+        node_sum::of_roster(next.draft, rows),
+    );
+    with(s, next)
 }
 
-fn run(input: &[u8], mem: &mut [u64], area: &mut [u64], rows: &mut [u64], out: &mut [u8]) {
-    let Fresh::Made(node) = Node::fresh(mem, Replica(0), 1, 1) else {
-        return;
-    };
-    let mut host = begin(node);
+fn counted(s: State) -> State {
+    let subject = s.subject;
+    State {
+        subject,
+        words: s.words,
+        rows: s.rows,
+        lines: std::num::wrapping_add_u64(s.lines, 1),
+    }
+}
+
+fn take(from: State, mem: &mut [u64], rows: &mut [u64], line: &[u8]) -> State {
+    let s = counted(from);
+    let places = fields::number_at(line, 0);
+    if !places.good {
+        return prepare(s, line);
+    }
+    let at = places.next;
+    if line.len() < at {
+        return s;
+    }
+    if 1024 < line.len() - at {
+        return s;
+    }
+    call(s, mem, rows, least(places.value as usize, 546), &line[at..])
+}
+
+// ---- pieces of standard input
+
+// Where the line that begins at a position ends.
+fn line_end(piece: &[u8], at: usize) -> usize
+    requires { ⌜ at ≤ length (now piece) ⌝ }
+    ensures { λ r. ⌜ (at ≤ r) × (r ≤ length (now (piece .entry))) ⌝ }
+{
+    pieces::line_end(piece, at)
+}
+
+fn drain(piece: &[u8], from: State, mem: &mut [u64], rows: &mut [u64]) -> Place
+    ensures { λ r. ⌜ r .at ≤ length (now (piece .entry)) ⌝ }
+{
+    let mut state = from;
     let mut at = 0;
-    while at < input.len() {
-        let end = fields::end_of(input, at, b'\n');
-        host = take(host, &input[at..end], mem, area, rows, out);
-        at = past(at, end, input.len());
+    loop {
+        let end = line_end(piece, at);
+        if end == piece.len() {
+            return Place { at, state };
+        }
+        state = take(state, mem, rows, &piece[at..end]);
+        at = end + 1;
+    }
+}
+
+// Reads a piece behind the bytes that were kept, and takes the lines that end in it.
+fn turn(buf: &mut [u8], have: usize, state: State, mem: &mut [u64], rows: &mut [u64]) -> Progress
+    requires { ⌜ (have ≤ 1024) × (length (now buf) ≡ 65536) ⌝ }
+    ensures { λ r. ⌜ r .have ≤ 1024 ⌝ }
+{
+    let n = io::read_full(0, &mut buf[have..]);
+    if n == 0 {
+        return Progress {
+            have,
+            state,
+            more: false,
+        };
+    }
+    let end = have + n;
+    let place = drain(&buf[0..end], state, mem, rows);
+    let kept = pieces::keep(buf, place.at, end, false);
+    let next = place.state;
+    Progress {
+        have: kept.have,
+        state: next,
+        more: true,
+    }
+}
+
+// A proved loop has to end, and nothing says that the input does: so it counts its turns down, from a number that no run uses up.
+fn run(buf: &mut [u8], mem: &mut [u64], rows: &mut [u64])
+    requires { ⌜ length (now buf) ≡ 65536 ⌝ }
+{
+    let host = Host::fresh();
+    let node = host.node;
+    let draft = host.draft;
+    let subject = Subject {
+        node,
+        draft,
+        population: 0,
+    };
+    let state = State {
+        subject,
+        words: Node::WORDS,
+        rows: RespondersConf::WORDS,
+        lines: 0,
+    };
+    let mut t = Progress {
+        have: 0,
+        state,
+        more: true,
+    };
+    let mut turns = u64::MAX;
+    while turns > 0 && t.more {
+        t = turn(buf, t.have, t.state, mem, rows);
+        turns -= 1;
     }
 }
 
 fn main() {
-    let mut input = [0u8; 262144];
+    let mut buf = io::large_buffer();
     let mut mem = [0u64; 10305];
-    let mut area = [0u64; 3276];
     let mut rows = [0u64; 320];
-    let mut out = [0u8; 65536];
-    let n = io::read_full(0, &mut input);
-    run(&input[0..n], &mut mem, &mut area, &mut rows, &mut out);
+    run(&mut buf, &mut mem, &mut rows);
 }
