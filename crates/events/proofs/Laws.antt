@@ -1,9 +1,9 @@
 -- What a line's call, edit or listing comes to for the host. Assumes nothing.
 use mathlib.Core.Path.{_≡_, refl, sym, ap, subst, _∙_}
-use mathlib.Core.Bool.{Bool, true, false, not, _&&_, and-false}
+use mathlib.Core.Bool.{Bool, true, false, not, _&&_, and-true, and-false}
 use mathlib.Core.List.{List, [], _∷_, _++_}
 use mathlib.Core.Option.{Option, none, some}
-use Prim.Native.Nat.{ℕ, _/_, _<_, _≤_}
+use Prim.Native.Nat.{ℕ, _*_, _/_, _<_, _≤_}
 use native.Mathlib.Omega.{arith}
 use lib.Dec.{leb, ltb, eqb}
 use lib.ListN.{length, length-append, length-map}
@@ -53,7 +53,7 @@ use Rattle.answers.specs.Wrote.{Wrote, Answered}
 use Rattle.answers.proofs.Items.{holds}
 use Rattle.words.specs.Writes.{writes, length-writes}
 use Rattle.events.specs.Ways as ways
-use Rattle.events.specs.Tells.{fit, due as due-line, Tells}
+use Rattle.events.specs.Tells.{whole, fit, heardIn, due as due-line, Tells}
 
 -- ---- a refusal changes nothing
 
@@ -331,24 +331,19 @@ population-made n mem t e f = rw (sym e ∙ f)
 pub population-none : (n : Node) (mem : List ℕ) (t : Bool) → t ≡ ready n mem → t ≡ false → 0 ≡ (if ready n mem then n .population else 0)
 population-none n mem t e f = rw (sym e ∙ f)
 
-module _ (d : RespondersConf) (mem rows area groups out : List ℕ) (t : Bool) (e : t ≡ sound d mem rows) where
-  pub unsound : not t ≡ true → false ≡ fit d mem rows area groups out
-  unfolding fit
+module _ (d : RespondersConf) (mem rows area groups : List ℕ) (t : Bool) (e : t ≡ sound d mem rows) where
+  pub unsound : not t ≡ true → false ≡ whole d mem rows area groups
+  unfolding whole
   unsound f = sym (rw (sym e ∙ not-true t f))
 
   module _ (f : not t ≡ false) where
-    pub other-places : (length area / 6 ≡ 546 → ⊥) → false ≡ fit d mem rows area groups out
-    unfolding fit
+    pub other-places : (length area / 6 ≡ 546 → ⊥) → false ≡ whole d mem rows area groups
+    unfolding whole
     other-places g = sym (rw (sym e ∙ not-false t f, ne-eqb (length area / 6) 546 g))
 
-    module _ (g : length area / 6 ≡ 546) where
-      pub short-groups : length groups < 1542 → false ≡ fit d mem rows area groups out
-      unfolding fit
-      short-groups l = sym (rw (sym e ∙ not-false t f, eq-eqb (length area / 6) 546 g, lt-leb 1542 (length groups) l))
-
-      pub by-out : 1542 ≤ length groups → leb 65536 (length out) ≡ fit d mem rows area groups out
-      unfolding fit
-      by-out l = sym (rw (sym e ∙ not-false t f, eq-eqb (length area / 6) 546 g, le-leb 1542 (length groups) l))
+    pub by-groups : length area / 6 ≡ 546 → leb 1542 (length groups) ≡ whole d mem rows area groups
+    unfolding whole
+    by-groups g = sym (rw (sym e ∙ not-false t f, eq-eqb (length area / 6) 546 g))
 
 -- ---- no line has more than 546 items
 
@@ -413,81 +408,94 @@ unfolding heard sound
 few-heard h mem rows s e =
     few-told (hostOf h mem rows) (show-length (h .draft) rows (leb-true (h .draft .count) 64 (and-both (leb 320 (length rows)) _ (and-both (leb size (length mem)) _ e .1) .1))) (lineOf s)
 
+-- ---- whole buffers
+
+module _ (d : RespondersConf) (mem rows area groups : List ℕ) (t : Bool) (e : t ≡ whole d mem rows area groups) (f : not t ≡ false) where
+  is-whole : whole d mem rows area groups ≡ true
+  is-whole = sym e ∙ not-false t f
+
+  pub is-sound : sound d mem rows ≡ true
+  unfolding whole
+  is-sound = and-both (sound d mem rows) _ (and-both (sound d mem rows && eqb (places area) items) _ is-whole .0) .0
+
+  pub has-places : places area ≡ 546
+  unfolding whole
+  has-places = eqb-true (places area) 546 (and-both (sound d mem rows) _ (and-both (sound d mem rows && eqb (places area) items) _ is-whole .0) .1)
+
+  pub has-groups : 1542 ≤ length groups
+  unfolding whole
+  has-groups = leb-true 1542 (length groups) (and-both (sound d mem rows && eqb (places area) items) _ is-whole .1)
+
+module _ (h : code.Host) (mem rows area groups : List ℕ) (line : Bytes) (t : Bool) (a : Acted) (e : t ≡ whole (h .draft) mem rows area groups) where
+  pub unfit : not t ≡ true → a ≡ ways.refused h 2 → Acts (heardIn h mem rows area groups line) h mem rows area a mem rows area
+  unfolding heardIn
+  unfit f g = rw (sym e ∙ not-true t f) (turned-acts 2 (hostOf h mem rows) h mem rows area a (omega arith) g)
+
+  pub fitted : (mem′ rows′ area′ : List ℕ) → not t ≡ false → Acts (heard (hostOf h mem rows) line) h mem rows area a mem′ rows′ area′
+      → Acts (heardIn h mem rows area groups line) h mem rows area a mem′ rows′ area′
+  unfolding heardIn
+  fitted mem′ rows′ area′ f x = rw (is-whole (h .draft) mem rows area groups t e f) x
+
 -- ---- the text
 
+-- few items, and places for as many
+abbrev Fits : List ℕ → told.Answer → Type 0
+Fits area (told.Turned k) = Unit {0}
+Fits area (told.Took m) = (length m ≤ 546) × (places area ≡ 546)
+
 module _ (h : code.Host) (mem rows area groups : List ℕ) (out line : Bytes) where
-  unfit : fit (h .draft) mem rows area groups out ≡ false → due-line h mem rows area groups out line ≡ turned (hostOf h mem rows) 2
-  unfolding due-line
-  unfit e = rw e
-
-  fitted : fit (h .draft) mem rows area groups out ≡ true → due-line h mem rows area groups out line ≡ heard (hostOf h mem rows) line
-  unfolding due-line
-  fitted e = rw e
-
-  small-fit : length out < 65536 → fit (h .draft) mem rows area groups out ≡ false
-  unfolding fit
-  small-fit l = rw (lt-leb 65536 (length out) l, and-false (sound (h .draft) mem rows && eqb (places area) items && leb 1542 (length groups)))
-
-  refused-acts : (a : Acted) → fit (h .draft) mem rows area groups out ≡ false → a ≡ ways.refused h 2 → Acts (due-line h mem rows area groups out line) h mem rows area a mem rows area
-  refused-acts a f e =
-      subst (λ (t : Told). Acts t h mem rows area a mem rows area) (sym (unfit f)) (turned-acts 2 (hostOf h mem rows) h mem rows area a (omega arith) e)
+  small-fit : length out < 65536 → due-line h mem rows area groups out line ≡ turned (hostOf h mem rows) 2
+  unfolding due-line fit
+  small-fit l = rw (lt-leb 65536 (length out) l, and-false (whole (h .draft) mem rows area groups))
 
   pub small-out : (n : ℕ) (a : Acted) → length out < 65536 → a ≡ ways.refused h 2
       → Tells h mem rows area groups n line out (record { acted = a; end = 0 }) mem rows area groups out
   small-out n a l e =
-      record { acts = refused-acts a (small-fit l) e; text = λ m. absurd (omega arith); silent = λ m. (refl, refl); groupsSize = refl }
+      record {
+        acts = subst (λ (t : Told). Acts t h mem rows area a mem rows area) (sym (small-fit l)) (turned-acts 2 (hostOf h mem rows) h mem rows area a (omega arith) e);
+        text = λ m. absurd (omega arith);
+        silent = λ m. (refl, refl);
+        groupsSize = refl;
+      }
 
-  module _ (n : ℕ) (t : Bool) (e : t ≡ fit (h .draft) mem rows area groups out) (l : 65536 ≤ length out) where
-    pub not-fit : (a : Acted) (end : ℕ) (out′ : Bytes) → not t ≡ true → a ≡ ways.refused h 2 → Answered out n 2 0 area end out′
-        → Tells h mem rows area groups n line out (record { acted = a; end = end }) mem rows area groups out′
-    not-fit a end out′ f g w =
-        let u = sym e ∙ not-true t f in
-        let x = w .refused (λ z. omega (arith, z)) in
-        record {
-          acts = refused-acts a u g;
-          text = λ m. rw (unfit u) (record { end = x .end; bytes = x .bytes; short = omega (arith, x .short) });
-          silent = λ m. absurd (omega arith);
-          groupsSize = refl;
-        }
+  module _ (l : 65536 ≤ length out) (a : Acted) (mem′ rows′ area′ : List ℕ) (x : Acts (heardIn h mem rows area groups line) h mem rows area a mem′ rows′ area′) where
+    same-due : heardIn h mem rows area groups line ≡ due-line h mem rows area groups out line
+    unfolding heardIn due-line fit
+    same-due = rw (le-leb 65536 (length out) l, and-true (whole (h .draft) mem rows area groups))
 
-    module _ (f : not t ≡ false) where
-      fits : fit (h .draft) mem rows area groups out ≡ true
-      fits = sym e ∙ not-false t f
+    fits : Fits area (heardIn h mem rows area groups line .answer)
+    unfolding heardIn
+    fits = go (whole (h .draft) mem rows area groups) refl
+      where
+        both : (y : told.Answer) → Few y → places area ≡ 546 → Fits area y
+        both (told.Turned k) p q = tt
+        both (told.Took m) p q = (p, q)
 
-      pub sound-fit : sound (h .draft) mem rows ≡ true
-      unfolding fit
-      sound-fit = and-both _ _ (and-both _ _ (and-both _ (leb 65536 (length out)) fits .0) .0) .0
+        go : (t : Bool) → whole (h .draft) mem rows area groups ≡ t → Fits area ((if t then heard (hostOf h mem rows) line else turned (hostOf h mem rows) 2) .answer)
+        go true g = both (heard (hostOf h mem rows) line .answer) (few-heard h mem rows line (is-sound (h .draft) mem rows area groups true (sym g) refl)) (has-places (h .draft) mem rows area groups true (sym g) refl)
+        go false g = tt
 
-      pub places-fit : places area ≡ 546
-      unfolding fit
-      places-fit = eqb-true (places area) 546 (and-both (sound (h .draft) mem rows) _ (and-both _ _ (and-both _ (leb 65536 (length out)) fits .0) .0) .1)
+    few-of : (next : Host) (y : told.Answer) → Fits area y → ActsBy next y h mem rows area a mem′ rows′ area′ → (a .count ≤ 546) × (a .count * 6 ≤ length area′)
+    few-of next (told.Turned k) p g = (omega (arith, g .count), omega (arith, g .count))
+    few-of next (told.Took m) p g = (omega (arith, p .0, g .count), omega (arith, p .0, p .1, g .count, ap length (g .items) ∙ length-writes area 0 (encode m)))
 
-      pub groups-fit : 1542 ≤ length groups
-      unfolding fit
-      groups-fit = leb-true 1542 (length groups) (and-both (sound (h .draft) mem rows && eqb (places area) items) _ (and-both _ (leb 65536 (length out)) fits .0) .1)
+    pub few-items : (a .count ≤ 546) × (a .count * 6 ≤ length area′)
+    few-items = few-of _ (heardIn h mem rows area groups line .answer) fits x
 
-      module _ (a : Acted) (mem′ rows′ area′ : List ℕ) (x : Acts (heard (hostOf h mem rows) line) h mem rows area a mem′ rows′ area′) where
-        few-of : (next : Host) (y : told.Answer) → Few y → ActsBy next y h mem rows area a mem′ rows′ area′ → a .count ≤ 546
-        few-of next (told.Turned k) p g = omega (arith, g .count)
-        few-of next (told.Took m) p g = omega (arith, p, g .count)
+    module _ (n end : ℕ) (out′ : Bytes) (w : Answered out n (a .number) (a .count) area′ end out′) where
+      wrote : (next : Host) (y : told.Answer) → Fits area y → ActsBy next y h mem rows area a mem′ rows′ area′ → Wrote out 0 (textOf n y) 65536 end out′
+      wrote next (told.Turned k) p g =
+          let v = w .refused (λ z. omega (arith, z, g .number, g .refused)) in
+          subst (λ (i : ℕ). Wrote out 0 (refusedText n i) 65536 end out′) (g .number) (record { end = v .end; bytes = v .bytes; short = omega (arith, v .short) })
+      wrote next (told.Took m) p g =
+          let v = w .taken m (g .number) (holds area area′ m (a .count) (g .count) (omega (arith, p .0, p .1, g .count, ap length (g .items) ∙ length-writes area 0 (encode m))) (g .items)) in
+          record { end = v .end; bytes = v .bytes; short = omega (arith, v .short, p .0, g .count) }
 
-        pub few-items : a .count ≤ 546
-        few-items = few-of (heard (hostOf h mem rows) line .host) (heard (hostOf h mem rows) line .answer) (few-heard h mem rows line sound-fit) x
-
-        module _ (end : ℕ) (out′ : Bytes) (w : Answered out n (a .number) (a .count) area′ end out′) where
-          wrote : (next : Host) (y : told.Answer) → Few y → ActsBy next y h mem rows area a mem′ rows′ area′ → Wrote out 0 (textOf n y) 65536 end out′
-          wrote next (told.Turned k) p g =
-              let v = w .refused (λ z. omega (arith, z, g .number, g .refused)) in
-              subst (λ (i : ℕ). Wrote out 0 (refusedText n i) 65536 end out′) (g .number) (record { end = v .end; bytes = v .bytes; short = omega (arith, v .short) })
-          wrote next (told.Took m) p g =
-              let v = w .taken m (g .number) (holds area area′ m (a .count) (g .count) (omega (arith, p, g .count, places-fit, ap length (g .items) ∙ length-writes area 0 (encode m))) (g .items)) in
-              record { end = v .end; bytes = v .bytes; short = omega (arith, v .short, p, g .count) }
-
-          pub tells : (groups′ : List ℕ) → length groups′ ≡ length groups → Tells h mem rows area groups n line out (record { acted = a; end = end }) mem′ rows′ area′ groups′ out′
-          tells groups′ q =
-              record {
-                acts = subst (λ (y : Told). Acts y h mem rows area a mem′ rows′ area′) (sym (fitted fits)) x;
-                text = λ m. subst (λ (y : Told). Wrote out 0 (textOf n (y .answer)) 65536 end out′) (sym (fitted fits)) (wrote _ (heard (hostOf h mem rows) line .answer) (few-heard h mem rows line sound-fit) x);
-                silent = λ m. absurd (omega arith);
-                groupsSize = q;
-              }
+      pub tells : (groups′ : List ℕ) → length groups′ ≡ length groups → Tells h mem rows area groups n line out (record { acted = a; end = end }) mem′ rows′ area′ groups′ out′
+      tells groups′ q =
+          record {
+            acts = subst (λ (y : Told). Acts y h mem rows area a mem′ rows′ area′) same-due x;
+            text = λ m. subst (λ (y : Told). Wrote out 0 (textOf n (y .answer)) 65536 end out′) same-due (wrote _ (heardIn h mem rows area groups line .answer) fits x);
+            silent = λ m. absurd (omega arith);
+            groupsSize = q;
+          }

@@ -17,12 +17,19 @@ use Rattle.hosts.specs.Acts.{hostOf, sound, Acts}
 use Rattle.events.specs.declared.Heard.{Heard}
 
 -- buffers that are long enough, and an answer area of 546 places
+unfoldable pub whole : RespondersConf → List ℕ → List ℕ → List ℕ → List ℕ → Bool
+whole draft mem rows area groups = sound draft mem rows && eqb (places area) items && leb 1542 (length groups)
+
 unfoldable pub fit : RespondersConf → List ℕ → List ℕ → List ℕ → List ℕ → Bytes → Bool
-fit draft mem rows area groups out = sound draft mem rows && eqb (places area) items && leb 1542 (length groups) && leb 65536 (length out)
+fit draft mem rows area groups out = whole draft mem rows area groups && leb 65536 (length out)
 
 -- what the line comes to; 2 where the lent buffers do not fit
 unfoldable pub due : Host → List ℕ → List ℕ → List ℕ → List ℕ → Bytes → Bytes → Told
 due h mem rows area groups out line = if fit (h .draft) mem rows area groups out then heard (hostOf h mem rows) line else turned (hostOf h mem rows) 2
+
+-- the same where out has room for any text
+unfoldable pub heardIn : Host → List ℕ → List ℕ → List ℕ → List ℕ → Bytes → Told
+heardIn h mem rows area groups line = if whole (h .draft) mem rows area groups then heard (hostOf h mem rows) line else turned (hostOf h mem rows) 2
 
 -- the line done, and its text at the start of out, which has room for any; words of groups are free
 pub record Tells (h : Host) (mem rows area groups : List ℕ) (n : ℕ) (line out : Bytes) (r : Heard) (mem′ rows′ area′ groups′ : List ℕ) (out′ : Bytes) : Type 0 where

@@ -15,10 +15,9 @@ ghost use Rattle.fields.specs.Split.{fieldsFrom};
 ghost use Rattle.items.specs.Item.{places};
 ghost use Rattle.node.specs.View.{ready};
 ghost use Rattle.hosts.specs.Line.{lineBy};
-ghost use Rattle.hosts.specs.Host.{heard};
 ghost use Rattle.hosts.specs.Acts.{hostOf, sound, Acts, toldOf};
 ghost use Rattle.events.specs.Ways as ways;
-ghost use Rattle.events.specs.Tells.{fit, Tells};
+ghost use Rattle.events.specs.Tells.{whole, heardIn, Tells};
 
 // What a line did, and where its text ends.
 pub struct Heard {
@@ -137,31 +136,9 @@ fn act(
     }
 }
 
-// What a line does.
-fn hear(
-    host: Host,
-    mem: &mut [u64],
-    rows: &mut [u64],
-    area: &mut [u64],
-    groups: &mut [u64],
-    line: &[u8],
-) -> Acted
-    requires { ⌜ (sound (host .draft) (now mem) (now rows) ≡ true) × (places (now area) ≡ 546) × (1542 ≤ length (now groups)) ⌝ }
-    ensures { λ r. ⌜ Acts (heard (hostOf host (now (mem .entry)) (now (rows .entry))) (now (line .entry))) host (now (mem .entry)) (now (rows .entry)) (now (area .entry)) r (now (mem .exit)) (now (rows .exit)) (now (area .exit)) ⌝ }
-{
-    if 1024 < line.len() {
-        return refused(host, 1);
-    }
-    let name = reader::field_from(line, 0);
-    let start = name.start;
-    let end = name.end;
-    let kind = fields::kind_of(&line[start..end]);
-    act(host, mem, rows, area, groups, kind, line, name.next)
-}
-
 // Whether the lent buffers are long enough, with 546 places for items.
-fn is_fit(host: Host, mem: &[u64], rows: &[u64], area: &[u64], groups: &[u64], out: &[u8]) -> bool
-    ensures { λ r. ⌜ r ≡ fit (host .draft) (now (mem .entry)) (now (rows .entry)) (now (area .entry)) (now (groups .entry)) (now (out .entry)) ⌝ }
+fn is_fit(host: Host, mem: &[u64], rows: &[u64], area: &[u64], groups: &[u64]) -> bool
+    ensures { λ r. ⌜ r ≡ whole (host .draft) (now (mem .entry)) (now (rows .entry)) (now (area .entry)) (now (groups .entry)) ⌝ }
 {
     let draft = host.draft;
     if !hosts::is_sound(draft, mem, rows) {
@@ -170,10 +147,31 @@ fn is_fit(host: Host, mem: &[u64], rows: &[u64], area: &[u64], groups: &[u64], o
     if area.len() / 6 != 546 {
         return false;
     }
-    if groups.len() < 1542 {
-        return false;
+    1542 <= groups.len()
+}
+
+// What a line does, 2 where the buffers do not fit.
+fn hear(
+    host: Host,
+    mem: &mut [u64],
+    rows: &mut [u64],
+    area: &mut [u64],
+    groups: &mut [u64],
+    line: &[u8],
+) -> Acted
+    ensures { λ r. ⌜ Acts (heardIn host (now (mem .entry)) (now (rows .entry)) (now (area .entry)) (now (groups .entry)) (now (line .entry))) host (now (mem .entry)) (now (rows .entry)) (now (area .entry)) r (now (mem .exit)) (now (rows .exit)) (now (area .exit)) ⌝ }
+{
+    if !is_fit(host, mem, rows, area, groups) {
+        return refused(host, 2);
     }
-    65536 <= out.len()
+    if 1024 < line.len() {
+        return refused(host, 1);
+    }
+    let name = reader::field_from(line, 0);
+    let start = name.start;
+    let end = name.end;
+    let kind = fields::kind_of(&line[start..end]);
+    act(host, mem, rows, area, groups, kind, line, name.next)
 }
 
 // Done, and the text that answers it as the n-th line at the start of out, where that has room for any.
@@ -192,11 +190,6 @@ pub fn event(
     if out.len() < 65536 {
         let acted = refused(host, 2);
         return Heard { acted, end: 0 };
-    }
-    if !is_fit(host, mem, rows, area, groups, out) {
-        let acted = refused(host, 2);
-        let end = answers::put_answer(out, n, 2, 0, area);
-        return Heard { acted, end };
     }
     let acted = hear(host, mem, rows, area, groups, line);
     let end = answers::put_answer(out, n, acted.number, acted.count, area);

@@ -29,7 +29,7 @@ use Rattle.hosts.specs.Line.{Line, NodeLine, EditLine, ShowLine, HeardLine, Cal
 use Rattle.hosts.specs.Host.{Host, freshHost, Answer, Turned, Took, Told, turned, called, edited, lineAt, firstLine, taking, heard, textOf}
 use Rattle.hosts.specs.Acts.{hostOf, sound, ActsBy}
 use Rattle.events.specs.declared.Heard.{Heard}
-use Rattle.events.specs.Tells.{fit, due, Tells}
+use Rattle.events.specs.Tells.{whole, fit, due, Tells}
 use Rattle.pieces.specs.Pieces.{before}
 use Rattle.pieces.specs.Runs.{runs, lastLine, done}
 use Rattle.pieces.proofs.Laws.{line-none, line-below, done-line}
@@ -112,7 +112,7 @@ heard-stays h s = go (lineOf s) refl
 -- ---- a line in the code's buffers
 module _ (h : code.Host) (mem rows area groups : List ℕ) (n : ℕ) (line out : Bytes) (lent : Lent h mem rows area groups) (room : 65536 ≤ length out) where
   fits : fit (h .draft) mem rows area groups out ≡ true
-  unfolding fit
+  unfolding fit whole
   fits = rw (lent .isSound, eq-eqb (places area) items (lent .areaSize), le-leb 1542 (length groups) (lent .groupsSize), le-leb 65536 (length out) room)
 
   is-due : due h mem rows area groups out line ≡ heard (hostOf h mem rows) line

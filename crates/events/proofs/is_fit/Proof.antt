@@ -7,16 +7,13 @@ is-sound-requires : tie.Need-is-sound-requires
 is-sound-requires c κs = search needs
 
 returns : tie.Need-returns
-returns c = law.unsound _ _ _ _ _ _ _ (c .before .is-sound .ensures) (c .if1 .taken)
+returns c = law.unsound _ _ _ _ _ _ (c .before .is-sound .ensures) (c .if1 .taken)
 
 returns-2 : tie.Need-returns-2
-returns-2 c = law.other-places _ _ _ _ _ _ _ (c .before .before .is-sound .ensures) (c .before .if1 .left) (c .if2 .taken)
+returns-2 c = law.other-places _ _ _ _ _ _ (c .before .before .is-sound .ensures) (c .before .if1 .left) (c .if2 .taken)
 
 returns-3 : tie.Need-returns-3
-returns-3 c = law.short-groups _ _ _ _ _ _ _ (c .before .before .before .is-sound .ensures) (c .before .before .if1 .left) (c .before .if2 .left) (c .if3 .taken)
-
-returns-4 : tie.Need-returns-4
-returns-4 c = law.by-out _ _ _ _ _ _ _ (c .before .before .before .is-sound .ensures) (c .before .before .if1 .left) (c .before .if2 .left) (c .if3 .left)
+returns-3 c = law.by-groups _ _ _ _ _ _ (c .before .before .is-sound .ensures) (c .before .if1 .left) (c .if2 .left)
 
 pub is-fit-spec : {M : Type 1} → statement M
-is-fit-spec = tie.close (tie.spec is-sound-requires returns returns-2 returns-3 returns-4)
+is-fit-spec = tie.close (tie.spec is-sound-requires returns returns-2 returns-3)
