@@ -7,7 +7,7 @@ use Prim.Native.Nat.{ℕ, zero, _+_, _-_, _*_, _%_, _≤_, _<_}
 use native.Mathlib.Omega.{arith}
 use lib.Dec.{ltb, leb, eqb}
 use lib.ListN.{length, set, take, drop, replicate, getElem?}
-use borrow.Author.Tests.{lt-ltb, le-ltb, le-leb, lt-leb, eq-eqb, ne-eqb, ltb-false, leb-false}
+use borrow.Author.Tests.{lt-ltb, le-ltb, le-leb, lt-leb, eq-eqb, ne-eqb, ltb-false, leb-false, not-true, not-false}
 use Rattle.words.specs.Choice.{if_then_else_, ifNone_then_else_}
 use Rattle.words.specs.Part.{part, splice, length-part, part-before}
 use Rattle.ids.specs.Leader.{leaderOf}
@@ -30,10 +30,11 @@ use Rattle.refresh.specs.Refresh.{Refreshes}
 use Rattle.slots.specs.Slots.{shortAt, batchAt, readsAt, bookOf, instOf, instIn, instsOf, Puts}
 use Rattle.slots.proofs.Laws.{batch-after, short-after, moved, inst-at, inst-none, length-insts}
 use Rattle.node.specs.declared.Node.{Node}
-use Rattle.node.specs.View.{view, ready, lowest, leadsIt}
-use Rattle.node.proofs.Calls.{Ready, is-ready, made-ready, refused-by, taken-by}
+use Rattle.node.specs.declared.Answered.{Answered}
+use Rattle.node.specs.View.{view, ready, givenOf, lowest, leadsIt}
+use Rattle.node.proofs.Calls.{Ready, is-ready, made-ready, gives-2, refused-by, taken-by}
 use Rattle.node.proofs.Frames.{slots-back, slots-size, written-back, written-size}
-use Rattle.record.specs.Records.{batchRefusal, slotRefusal, ended, freshAcks, keptBook, acceptingShort, seenReads, Pads, acceptingBy, Records}
+use Rattle.record.specs.Records.{batchRefusal, slotRefusal, lateRefusal, ended, freshAcks, keptBook, acceptingShort, seenReads, Pads, acceptingBy, Records, Recorded}
 
 -- ---- 5, 8, 9, and the others after them
 
@@ -282,7 +283,7 @@ accepted {s = s} {t = t} {u = u} {qs = qs} start n slot ballot r leader h p q =
         = rw (ap (λ (j : ℕ). j % 32) e) q in
         moved start r k at a b ∙ ap (set (instsOf start r t) k) (accepting-is leader ballot qs t (slot % 32))
 
--- ---- the call
+-- ---- the node after it
 
 recorded-is : (r : Replica) (slot ballot : ℕ) (qs : List Request) (l : List Instance) (i : Instance) → r .bar .start ≤ slot
     → r .insts ++ replicate (slot + 1 - (r .bar .start + length (r .insts))) nullInstance ≡ l → getElem? l (slot - r .bar .start) ≡ some i
@@ -309,10 +310,7 @@ next n held =
       slots = held;
     }
 
-module _ (n : Node) (m area : List ℕ) (slot ballot : ℕ) (rows text : List ℕ) (t : Bool) (e : t ≡ ready n m) (f : not t ≡ false) where
-  abbrev qs : List Request
-  qs = given rows text
-
+module _ (n : Node) (m : List ℕ) (slot ballot : ℕ) (ok : ready n m ≡ true) where
   abbrev start : ℕ
   start = n .«start_slot» .0
 
@@ -323,7 +321,10 @@ module _ (n : Node) (m area : List ℕ) (slot ballot : ℕ) (rows text : List �
   words = take 7744 (drop 512 m)
 
   r : Ready n m
-  r = is-ready n m t e f
+  r = is-ready n m true (sym ok) refl
+
+  pub long : 10305 ≤ length m
+  long = omega (arith, r .long)
 
   words-long : length words ≡ 7744
   unfolding part
@@ -336,30 +337,142 @@ module _ (n : Node) (m area : List ℕ) (slot ballot : ℕ) (rows text : List �
   pub asked : (start ≤ 281474976710655) × (n .slots ≤ 32) × (7744 ≤ length words)
   asked = (r .start-low, r .window, omega (arith, words-long))
 
-  abbrev current : Bool → ℕ
-  current lead = if lead then n .«bal_prepared» .0 else n .«bal_max_seen» .0
-
   abbrev leader : Bool
   leader = leadsIt (leaderOf (n .«bodega_conf» .leader)) (n .id .0)
+
+  abbrev current : Bool → ℕ
+  current lead = if lead then n .«bal_prepared» .0 else n .«bal_max_seen» .0
 
   abbrev overfull : List Request → Bool
   overfull reqs = ltb 256 (length (refreshHighestSlot slot reqs (writtenOf written)))
 
-  abbrev late : ℕ
-  late = slotRefusal start (instsOf start (n .slots) words) slot ballot (current leader) (overfull qs)
+  pub late-is : (reqs : List Request) (lead : Bool) (cur : ℕ) (full : Bool) (j : ℕ) → lead ≡ leadsIt (leaderOf (n .«bodega_conf» .leader)) (n .id .0)
+      → cur ≡ (if lead then n .«bal_prepared» .0 else n .«bal_max_seen» .0) → ((at : ℕ) → full ≡ ltb 256 (length (refreshHighestSlot at reqs (writtenOf written))))
+      → j ≡ slotRefusal start (instsOf start (n .slots) words) slot ballot cur full → j ≡ lateRefusal n m slot ballot reqs
+  unfolding lateRefusal part
+  late-is reqs lead cur full j b y w v =
+      v ∙ ap (λ (c : ℕ). slotRefusal start (instsOf start (n .slots) words) slot ballot c full) (y ∙ ap current b)
+      ∙ ap (slotRefusal start (instsOf start (n .slots) words) slot ballot (current leader)) (w slot)
 
-  whole : lowest (grounds (view n m) (Record slot ballot qs)) ≡ first (anyLong qs) (far slot) (ltb 8 (length qs)) late
-  unfolding grounds view instAt rosterOf part
+  module _ (reqs : List Request) (z : lateRefusal n m slot ballot reqs ≡ 0) where
+    in-window : Fits start slot (overfull reqs)
+    unfolding lateRefusal part
+    in-window = fits start slot (not (eqb ballot (current leader)) || eqb (current leader) 0) _ (overfull reqs) (sym z)
+
+    pub room : length (refreshHighestSlot slot reqs (writtenOf written)) ≤ 256
+    room = ltb-false 256 (length (refreshHighestSlot slot reqs (writtenOf written))) (in-window .room)
+
+    module _ (w′ : List ℕ) (lw : length w′ ≡ length written) where
+      abbrev m₁ : List ℕ
+      m₁ = splice m 8256 2049 w′
+
+      long-w : length w′ ≡ 2049
+      long-w = lw ∙ written-long
+
+      size₁ : length m₁ ≡ length m
+      size₁ = written-size n m (r .long) w′ long-w
+
+      words-same : take 7744 (drop 512 m₁) ≡ words
+      unfolding part
+      words-same = part-before m 8256 2049 w′ (omega (arith, r .long)) long-w 512 7744 (omega arith)
+
+      pub acceptable : (l : ℕ) → l ≡ 89 → (start ≤ 281474976710655) × (n .slots ≤ 32) × (start ≤ slot) × (slot < start + 32) × (7744 ≤ length (take 7744 (drop 512 m₁))) × (l ≡ 89)
+      acceptable l e = (r .start-low, r .window, in-window .above, in-window .inside, rw words-same (omega (arith, words-long)), e)
+
+      module _ (q : Refreshes slot reqs written w′) (lead : Bool) (b : lead ≡ leadsIt (leaderOf (n .«bodega_conf» .leader)) (n .id .0)) (s′ : List ℕ) (held : ℕ)
+          (p₁ : Records start (n .slots) slot ballot lead reqs (take 7744 (drop 512 m₁)) s′ held) where
+        abbrev d : Node
+        d = next n held
+
+        abbrev m₂ : List ℕ
+        m₂ = splice m₁ 512 7744 s′
+
+        p : Records start (n .slots) slot ballot lead reqs words s′ held
+        p = rw words-same at p₁
+
+        long-s : length s′ ≡ 7744
+        long-s = p .size ∙ words-long
+
+        size₂ : length m₂ ≡ length m
+        size₂ = slots-size d m₁ (rw size₁ (r .long)) s′ long-s ∙ size₁
+
+        abbrev padded : List Instance
+        padded = instsOf start (n .slots) words ++ replicate (slot + 1 - (start + n .slots)) nullInstance
+
+        abbrev after : Instance → Replica
+        after i = withInsts (set padded (slot - start) i) (withHighestSlot (refreshHighestSlot slot reqs (writtenOf written)) (view n m))
+
+        lead-is : lead ≡ isLeader (view n m)
+        unfolding view rosterOf
+        lead-is = b
+
+        view-due : recorded (view n m) slot ballot reqs ≡ after (accepting (view n m) ballot reqs (p .old))
+        unfolding view part
+        view-due =
+            recorded-is (view n m) slot ballot reqs padded (p .old) (in-window .above)
+            (ap (λ (k : ℕ). instsOf start (n .slots) words ++ replicate (slot + 1 - (start + k)) nullInstance) (length-insts start (n .slots) words)) (p .was)
+
+        view-after : view d m₂ ≡ after (acceptingBy lead ballot reqs (p .old))
+        unfolding view part
+        view-after =
+            slots-back d m₁ (rw size₁ (r .long)) s′ long-s
+            ∙ ap (withInsts (instsOf start held s′)) (written-back d m (r .long) w′ long-w)
+            ∙ ap (λ (l : List Instance). withInsts l (withHighestSlot (writtenOf w′) (view n m))) (p .insts)
+            ∙ ap (λ (h : List Highest). withInsts (set padded (slot - start) (acceptingBy lead ballot reqs (p .old))) (withHighestSlot h (view n m))) (q .written)
+
+        view-is : view d m₂ ≡ recorded (view n m) slot ballot reqs
+        view-is = view-after ∙ ap (λ (l : Bool). after (acceptingBy l ballot reqs (p .old))) lead-is ∙ sym view-due
+
+        again : Ready d m₂
+        again =
+            record {
+              long = rw size₂ (r .long);
+              quorate = r .quorate;
+              enough = r .enough;
+              few = r .few;
+              own = r .own;
+              ranges = r .ranges;
+              start-low = r .start-low;
+              start-exec = r .start-exec;
+              exec-commit = r .exec-commit;
+              window = p .few;
+              commit-end = omega (arith, r .commit-end, p .more);
+            }
+
+        pub is-written : Recorded slot ballot reqs n m d m₂
+        is-written = record { replica = view-is; readied = made-ready d m₂ again; size = size₂ }
+
+-- ---- the call
+
+module _ (n : Node) (m area : List ℕ) (slot ballot : ℕ) (rows text : List ℕ) where
+  abbrev qs : List Request
+  qs = given rows text
+
+  whole : lowest (grounds (view n m) (Record slot ballot qs)) ≡ first (anyLong qs) (far slot) (ltb 8 (length qs)) (lateRefusal n m slot ballot qs)
+  unfolding grounds view instAt rosterOf part lateRefusal
   whole = refl
 
-  module _ (k : ℕ) (g : k ≡ batchRefusal qs slot) where
-    pub batch-refused : (k ≡ 0 → ⊥) → Answers ready view (Record slot ballot qs) n m area (record { number = k; count = 0; node = n }) m area
-    batch-refused h =
-        refused-by (Record slot ballot qs) n m area t e f k (first-of (anyLong qs) (far slot) (ltb 8 (length qs)) k late g h ∙ sym whole) h
+  module _ (k : ℕ) (e : k ≡ (if ready n m then batchRefusal qs slot else 2)) where
+    pub early-refused : (a : Answered) → (k ≡ 0 → ⊥) → a ≡ record { number = k; count = 0; node = n } → Answers ready view (Record slot ballot qs) n m area (givenOf a) m area
+    early-refused a h g = rw g (go (ready n m) refl e)
+      where
+        go : (t : Bool) → ready n m ≡ t → k ≡ (if t then batchRefusal qs slot else 2) → Answers ready view (Record slot ballot qs) n m area (record { number = k; count = 0; node = n }) m area
+        go true f x = refused-by (Record slot ballot qs) n m area true (sym f) refl k (first-of (anyLong qs) (far slot) (ltb 8 (length qs)) k (lateRefusal n m slot ballot qs) x h ∙ sym whole) h
+        go false f x = rw x (gives-2 (Record slot ballot qs) n m area false (sym f) refl)
 
     module _ (z : k ≡ 0) where
+      made : (ready n m ≡ true) × (0 ≡ batchRefusal qs slot)
+      made = go (ready n m) refl e
+        where
+          go : (t : Bool) → ready n m ≡ t → k ≡ (if t then batchRefusal qs slot else 2) → (ready n m ≡ true) × (0 ≡ batchRefusal qs slot)
+          go true f x = (f, sym z ∙ x)
+          go false f x = absurd (omega (arith, x))
+
+      pub is-made : ready n m ≡ true
+      is-made = made .0
+
       none-yet : (anyLong qs ≡ false) × (far slot ≡ false) × (ltb 8 (length qs) ≡ false)
-      none-yet = none-of (anyLong qs) (far slot) (ltb 8 (length qs)) (sym z ∙ g)
+      none-yet = none-of (anyLong qs) (far slot) (ltb 8 (length qs)) (made .1)
 
       pub short-keys-all : anyLong qs ≡ false
       short-keys-all = none-yet .0
@@ -367,112 +480,26 @@ module _ (n : Node) (m area : List ℕ) (slot ballot : ℕ) (rows text : List �
       pub few-requests : length qs ≤ 8
       few-requests = ltb-false 8 (length qs) (none-yet .2)
 
-      module _ (reqs : List ℕ) (x : requestsOf reqs ≡ qs) (lead : Bool) (b : lead ≡ leadsIt (leaderOf (n .«bodega_conf» .leader)) (n .id .0))
-          (cur : ℕ) (y : cur ≡ (if lead then n .«bal_prepared» .0 else n .«bal_max_seen» .0))
-          (full : Bool) (w : (at : ℕ) → full ≡ ltb 256 (length (refreshHighestSlot at (requestsOf reqs) (writtenOf written))))
-          (j : ℕ) (v : j ≡ slotRefusal start (instsOf start (n .slots) words) slot ballot cur full) where
-        late-is : slotRefusal start (instsOf start (n .slots) words) slot ballot cur full ≡ late
-        late-is =
-            ap (λ (c : ℕ). slotRefusal start (instsOf start (n .slots) words) slot ballot c full) (y ∙ ap current b)
-            ∙ ap (slotRefusal start (instsOf start (n .slots) words) slot ballot (current leader)) (w slot ∙ ap overfull x)
-
+      module _ (reqs : List Request) (x : reqs ≡ qs) (j : ℕ) (v : j ≡ lateRefusal n m slot ballot reqs) where
         number-is : j ≡ lowest (grounds (view n m) (Record slot ballot qs))
         number-is =
-            v ∙ late-is
-            ∙ sym (whole ∙ ap (λ (p : Bool). first p (far slot) (ltb 8 (length qs)) late) (none-yet .0)
-            ∙ ap (λ (p : Bool). first false p (ltb 8 (length qs)) late) (none-yet .1) ∙ ap (λ (p : Bool). first false false p late) (none-yet .2))
+            v ∙ ap (lateRefusal n m slot ballot) x
+            ∙ sym (whole ∙ ap (λ (p : Bool). first p (far slot) (ltb 8 (length qs)) (lateRefusal n m slot ballot qs)) (none-yet .0)
+            ∙ ap (λ (p : Bool). first false p (ltb 8 (length qs)) (lateRefusal n m slot ballot qs)) (none-yet .1) ∙ ap (λ (p : Bool). first false false p (lateRefusal n m slot ballot qs)) (none-yet .2))
 
-        pub record-refused : (j ≡ 0 → ⊥) → Answers ready view (Record slot ballot qs) n m area (record { number = j; count = 0; node = n }) m area
-        record-refused h = refused-by (Record slot ballot qs) n m area t e f j number-is h
+        pub late-refused : (a : Answered) → (j ≡ 0 → ⊥) → a ≡ record { number = j; count = 0; node = n } → Answers ready view (Record slot ballot qs) n m area (givenOf a) m area
+        late-refused a h g = rw g (refused-by (Record slot ballot qs) n m area true (sym is-made) refl j number-is h)
 
-        module _ (zero : j ≡ 0) where
-          pub in-window : Fits start slot full
-          in-window = fits start slot (not (eqb ballot cur) || eqb cur 0) _ full (sym zero ∙ v)
+        pub is-recorded : j ≡ 0 → (n′ : Node) (m′ : List ℕ) → Recorded slot ballot reqs n m n′ m′ → Answers ready view (Record slot ballot qs) n m area (record { number = 0; count = 0; node = n′ }) m′ area
+        unfolding effect
+        is-recorded y n′ m′ w =
+            taken-by (Record slot ballot qs) n m area true (sym is-made) refl j number-is y (recorded (view n m) slot ballot qs) n′ m′ refl (w .replica ∙ ap (recorded (view n m) slot ballot) x) (w .size)
+            (w .readied)
 
-          pub room : length (refreshHighestSlot slot (requestsOf reqs) (writtenOf written)) ≤ 256
-          room = ltb-false 256 (length (refreshHighestSlot slot (requestsOf reqs) (writtenOf written))) (sym (w slot) ∙ in-window .room)
+-- ---- 2 before the batch
 
-          module _ (w′ : List ℕ) (lw : length w′ ≡ length written) where
-            abbrev m₁ : List ℕ
-            m₁ = splice m 8256 2049 w′
+pub unmade : (t : Bool) (n : Node) (m : List ℕ) (k : ℕ) → t ≡ ready n m → not t ≡ true → 2 ≡ (if ready n m then k else 2)
+unmade t n m k e f = sym (rw (sym e ∙ not-true t f))
 
-            long-w : length w′ ≡ 2049
-            long-w = lw ∙ written-long
-
-            size₁ : length m₁ ≡ length m
-            size₁ = written-size n m (r .long) w′ long-w
-
-            words-same : take 7744 (drop 512 m₁) ≡ words
-            unfolding part
-            words-same = part-before m 8256 2049 w′ (omega (arith, r .long)) long-w 512 7744 (omega arith)
-
-            pub acceptable : length reqs ≡ 89 → (start ≤ 281474976710655) × (n .slots ≤ 32) × (start ≤ slot) × (slot < start + 32) × (7744 ≤ length (take 7744 (drop 512 m₁))) × (length reqs ≡ 89)
-            acceptable l = (r .start-low, r .window, in-window .above, in-window .inside, rw words-same (omega (arith, words-long)), l)
-
-            module _ (q : Refreshes slot (requestsOf reqs) written w′) (s′ : List ℕ) (held : ℕ)
-                (p₁ : Records start (n .slots) slot ballot lead (requestsOf reqs) (take 7744 (drop 512 m₁)) s′ held) where
-              abbrev d : Node
-              d = next n held
-
-              abbrev m₂ : List ℕ
-              m₂ = splice m₁ 512 7744 s′
-
-              p : Records start (n .slots) slot ballot lead qs words s′ held
-              p = rw (words-same, x) at p₁
-
-              long-s : length s′ ≡ 7744
-              long-s = p .size ∙ words-long
-
-              size₂ : length m₂ ≡ length m
-              size₂ = slots-size d m₁ (rw size₁ (r .long)) s′ long-s ∙ size₁
-
-              abbrev padded : List Instance
-              padded = instsOf start (n .slots) words ++ replicate (slot + 1 - (start + n .slots)) nullInstance
-
-              keys-are : writtenOf w′ ≡ refreshHighestSlot slot qs (writtenOf written)
-              keys-are = q .written ∙ ap (λ (z : List Request). refreshHighestSlot slot z (writtenOf written)) x
-
-              abbrev after : Instance → Replica
-              after i = withInsts (set padded (slot - start) i) (withHighestSlot (refreshHighestSlot slot qs (writtenOf written)) (view n m))
-
-              lead-is : lead ≡ isLeader (view n m)
-              unfolding view rosterOf
-              lead-is = b
-
-              view-due : recorded (view n m) slot ballot qs ≡ after (accepting (view n m) ballot qs (p .old))
-              unfolding view part
-              view-due =
-                  recorded-is (view n m) slot ballot qs padded (p .old) (in-window .above)
-                  (ap (λ (k : ℕ). instsOf start (n .slots) words ++ replicate (slot + 1 - (start + k)) nullInstance) (length-insts start (n .slots) words)) (p .was)
-
-              view-after : view d m₂ ≡ after (acceptingBy lead ballot qs (p .old))
-              unfolding view part
-              view-after =
-                  slots-back d m₁ (rw size₁ (r .long)) s′ long-s
-                  ∙ ap (withInsts (instsOf start held s′)) (written-back d m (r .long) w′ long-w)
-                  ∙ ap (λ (l : List Instance). withInsts l (withHighestSlot (writtenOf w′) (view n m))) (p .insts)
-                  ∙ ap (λ (h : List Highest). withInsts (set padded (slot - start) (acceptingBy lead ballot qs (p .old))) (withHighestSlot h (view n m))) keys-are
-
-              view-is : view d m₂ ≡ recorded (view n m) slot ballot qs
-              view-is = view-after ∙ ap (λ (l : Bool). after (acceptingBy l ballot qs (p .old))) lead-is ∙ sym view-due
-
-              again : Ready d m₂
-              again =
-                  record {
-                    long = rw size₂ (r .long);
-                    quorate = r .quorate;
-                    enough = r .enough;
-                    few = r .few;
-                    own = r .own;
-                    ranges = r .ranges;
-                    start-low = r .start-low;
-                    start-exec = r .start-exec;
-                    exec-commit = r .exec-commit;
-                    window = p .few;
-                    commit-end = omega (arith, r .commit-end, p .more);
-                  }
-
-              pub is-recorded : Answers ready view (Record slot ballot qs) n m area (record { number = 0; count = 0; node = d }) m₂ area
-              unfolding effect
-              is-recorded =
-                  taken-by (Record slot ballot qs) n m area t e f j number-is zero (recorded (view n m) slot ballot qs) d m₂ refl view-is size₂ (made-ready d m₂ again)
+pub of-made : (t : Bool) (n : Node) (m : List ℕ) (j k : ℕ) → t ≡ ready n m → not t ≡ false → j ≡ k → j ≡ (if ready n m then k else 2)
+of-made t n m j k e f g = g ∙ sym (rw (sym e ∙ not-false t f))

@@ -1,20 +1,26 @@
 -- What the code of *record* tests, from numbers and the slots held, and what it makes of a place and of the slots. Assumes nothing: these are definitions.
 use mathlib.Core.Path.{_≡_}
-use mathlib.Core.Bool.{Bool, false, _||_, not}
+use mathlib.Core.Bool.{Bool, true, false, _||_, not}
 use mathlib.Core.List.{List, [], _++_}
 use mathlib.Core.Option.{Option, none, some}
 use Prim.Native.Nat.{ℕ, _+_, _-_, _≤_, _<_}
 use lib.Dec.{ltb, leb, eqb}
 use lib.ListN.{length, set, replicate, getElem?}
 use Rattle.words.specs.Choice.{if_then_else_, ifNone_then_else_}
+use Rattle.words.specs.Part.{part}
 use Rattle.ids.specs.Limits.{window, batch}
+use Rattle.ids.specs.Leader.{leaderOf}
 use Rattle.responders.specs.Ground.{Ground, _when_or_}
 use Rattle.bodega.specs.Replica.{Request, ReadReq, Instance, Accepting, newBook, nullInstance, isOpen}
+use Rattle.bodega.specs.Localread.{refreshHighestSlot}
+use Rattle.bodega.specs.Events.{recorded}
 use Rattle.bodega.specs.Grounds.{far}
 use Rattle.cells.specs.Cell.{Notices, Short}
 use Rattle.requests.specs.Given.{anyLong}
+use Rattle.written.specs.Written.{writtenOf}
 use Rattle.slots.specs.Slots.{instsOf}
-use Rattle.node.specs.View.{lowest}
+use Rattle.node.specs.declared.Node.{Node}
+use Rattle.node.specs.View.{view, ready, lowest, leadsIt}
 
 -- ---- the grounds, in two parts
 
@@ -41,6 +47,15 @@ ofSlot start insts slot ballot current full =
 
 abbrev pub slotRefusal : ℕ → List Instance → ℕ → ℕ → ℕ → Bool → ℕ
 slotRefusal start insts slot ballot current full = lowest (ofSlot start insts slot ballot current full)
+
+-- the same at a node
+unfoldable pub lateRefusal : Node → List ℕ → ℕ → ℕ → List Request → ℕ
+lateRefusal n mem slot ballot reqs =
+    let start = n .«start_slot» .0 in
+    let leader = leadsIt (leaderOf (n .«bodega_conf» .leader)) (n .id .0) in
+    let current = if leader then n .«bal_prepared» .0 else n .«bal_max_seen» .0 in
+    let full = ltb 256 (length (refreshHighestSlot slot reqs (writtenOf (part mem 8256 2049)))) in
+    slotRefusal start (instsOf start (n .slots) (part mem 512 7744)) slot ballot current full
 
 -- ---- a place: `accepting` on its three parts
 
@@ -86,3 +101,9 @@ pub record Records (start n slot ballot : ℕ) (leader : Bool) (reqs : List Requ
   pub size : length t ≡ length s
   pub more : n ≤ r
   pub few : r ≤ 32
+
+-- the node and its buffer with the batch recorded
+pub record Recorded (slot ballot : ℕ) (reqs : List Request) (n : Node) (mem : List ℕ) (n′ : Node) (mem′ : List ℕ) : Type 0 where
+  pub replica : view n′ mem′ ≡ recorded (view n mem) slot ballot reqs
+  pub readied : ready n′ mem′ ≡ true
+  pub size : length mem′ ≡ length mem

@@ -10,6 +10,7 @@ use node::Node;
 use node::is_ready;
 use node::leads;
 ghost use mathlib.Core.Path.{_≡_};
+ghost use mathlib.Core.Bool.{true};
 ghost use Prim.Native.Nat.{_+_, _≤_, _<_};
 ghost use lib.ListN.{length};
 ghost use Rattle.words.specs.Choice.{if_then_else_};
@@ -20,7 +21,7 @@ ghost use Rattle.batch.specs.Batch.{requestsOf};
 ghost use Rattle.requests.specs.Given.{given};
 ghost use Rattle.slots.specs.Slots.{shortAt, batchAt, readsAt, instsOf, Puts};
 ghost use Rattle.node.specs.View.{view, ready, givenOf};
-ghost use Rattle.record.specs.Records.{freshAcks, batchRefusal, slotRefusal, ended, keptBook, acceptingShort, seenReads, Pads, Records};
+ghost use Rattle.record.specs.Records.{freshAcks, batchRefusal, slotRefusal, lateRefusal, ended, keptBook, acceptingShort, seenReads, Pads, Records, Recorded};
 
 // 5, 8, 9: the number of the refusal that the batch and the slot's number meet, 0 where there is none.
 fn batch_refusal(rows: &[u64], text: &[u8], slot: u64) -> u64
@@ -182,6 +183,70 @@ fn accept(
     held
 }
 
+// 2, or what the batch and the slot's number meet; 0 where there is none.
+fn early_refusal(node: Node, mem: &[u64], slot: u64, rows: &[u64], text: &[u8]) -> u64
+    ensures { λ r. ⌜ r ≡ (if ready node (now (mem .entry)) then batchRefusal (given (now (rows .entry)) (now (text .entry))) slot else 2) ⌝ }
+{
+    if !is_ready(node, mem) {
+        return 2;
+    }
+    batch_refusal(rows, text, slot)
+}
+
+// What the slot, the ballot and the keys of a batch in 89 words meet at a node.
+fn late_refusal(node: Node, mem: &[u64], slot: u64, ballot: u64, words: &[u64]) -> u64
+    requires { ⌜ (ready node (now mem) ≡ true) × (length (now words) ≡ 89) ⌝ }
+    ensures { λ r. ⌜ r ≡ lateRefusal node (now (mem .entry)) slot ballot (requestsOf (now (words .entry))) ⌝ }
+{
+    let conf = node.bodega_conf;
+    let chosen = conf.leader;
+    let leader = leads(chosen, node.id);
+    let bal = current(leader, node.bal_prepared.0, node.bal_max_seen.0);
+    let full = refresh::overflows(&mem[8256..10305], words);
+    slot_refusal(
+        &mem[512..8256],
+        node.start_slot.0,
+        node.slots,
+        slot,
+        ballot,
+        bal,
+        full,
+    )
+}
+
+// The node after a batch that nothing refuses is recorded.
+fn recorded(node: Node, mem: &mut [u64], slot: Slot, ballot: Ballot, words: &[u64]) -> Node
+    requires { ⌜ (ready node (now mem) ≡ true) × (lateRefusal node (now mem) (slot .0) (ballot .0) (requestsOf (now words)) ≡ 0) × (length (now words) ≡ 89) ⌝ }
+    ensures { λ r. ⌜ Recorded (slot .0) (ballot .0) (requestsOf (now (words .entry))) node (now (mem .entry)) r (now (mem .exit)) ⌝ }
+{
+    let conf = node.bodega_conf;
+    let chosen = conf.leader;
+    let leader = leads(chosen, node.id);
+    refresh::refresh(&mut mem[8256..10305], words, slot);
+    let held = accept(
+        &mut mem[512..8256],
+        node.start_slot.0,
+        node.slots,
+        slot.0,
+        ballot,
+        leader,
+        words,
+    );
+    let mut next = node;
+    next.slots = held;
+    next
+}
+
+fn refused(node: Node, number: u64) -> Answered
+    ensures { λ r. ⌜ r ≡ record { number = number; count = 0; node = node } ⌝ }
+{
+    Answered {
+        number,
+        count: 0,
+        node,
+    }
+}
+
 pub fn record(
     node: Node,
     mem: &mut [u64],
@@ -193,57 +258,17 @@ pub fn record(
 ) -> Answered
     ensures { λ r. ⌜ Answers ready view (Record (slot .0) (ballot .0) (given (now (rows .entry)) (now (text .entry)))) node (now (mem .entry)) (now (area .entry)) (givenOf r) (now (mem .exit)) (now (area .entry)) ⌝ }
 {
-    if !is_ready(node, mem) {
-        return Answered {
-            number: 2,
-            count: 0,
-            node,
-        };
+    let early = early_refusal(node, mem, slot.0, rows, text);
+    if early != 0 {
+        return refused(node, early);
     }
-    let of_batch = batch_refusal(rows, text, slot.0);
-    if of_batch != 0 {
-        return Answered {
-            number: of_batch,
-            count: 0,
-            node,
-        };
+    let mut words = [0u64; 89];
+    requests::load(rows, text, &mut words);
+    let late = late_refusal(node, mem, slot.0, ballot.0, &words);
+    if late != 0 {
+        return refused(node, late);
     }
-    let mut reqs = [0u64; 89];
-    requests::load(rows, text, &mut reqs);
-    let conf = node.bodega_conf;
-    let chosen = conf.leader;
-    let leader = leads(chosen, node.id);
-    let bal = current(leader, node.bal_prepared.0, node.bal_max_seen.0);
-    let full = refresh::overflows(&mem[8256..10305], &reqs);
-    let start = node.start_slot.0;
-    let refusal = slot_refusal(
-        &mem[512..8256],
-        start,
-        node.slots,
-        slot.0,
-        ballot.0,
-        bal,
-        full,
-    );
-    if refusal != 0 {
-        return Answered {
-            number: refusal,
-            count: 0,
-            node,
-        };
-    }
-    refresh::refresh(&mut mem[8256..10305], &reqs, slot);
-    let held = accept(
-        &mut mem[512..8256],
-        start,
-        node.slots,
-        slot.0,
-        ballot,
-        leader,
-        &reqs,
-    );
-    let mut next = node;
-    next.slots = held;
+    let next = recorded(node, mem, slot, ballot, &words);
     Answered {
         number: 0,
         count: 0,
