@@ -326,11 +326,14 @@ module _ (n : Node) (m : List ℕ) (slot ballot : ℕ) (ok : ready n m ≡ true)
   pub long : 10305 ≤ length m
   long = omega (arith, r .long)
 
+  pub long-slots : (l : ℕ) → l ≡ length m → 8256 ≤ l
+  long-slots l e = omega (arith, r .long)
+
   words-long : length words ≡ 7744
   unfolding part
   words-long = length-part m 512 7744 (omega (arith, r))
 
-  pub written-long : length written ≡ 2049
+  written-long : length written ≡ 2049
   unfolding part
   written-long = length-part m 8256 2049 (omega (arith, r))
 
@@ -359,8 +362,11 @@ module _ (n : Node) (m : List ℕ) (slot ballot : ℕ) (ok : ready n m ≡ true)
     unfolding lateRefusal part
     in-window = fits start slot (not (eqb ballot (current leader)) || eqb (current leader) 0) _ (overfull reqs) (sym z)
 
-    pub room : length (refreshHighestSlot slot reqs (writtenOf written)) ≤ 256
+    room : length (refreshHighestSlot slot reqs (writtenOf written)) ≤ 256
     room = ltb-false 256 (length (refreshHighestSlot slot reqs (writtenOf written))) (in-window .room)
+
+    pub refreshable : (l : ℕ) → l ≡ 89 → ((2049 ≤ length written) × (89 ≤ l)) × (length (refreshHighestSlot slot reqs (writtenOf written)) ≤ 256)
+    refreshable l e = ((omega (arith, written-long), omega (arith, e)), room)
 
     module _ (w′ : List ℕ) (lw : length w′ ≡ length written) where
       abbrev m₁ : List ℕ

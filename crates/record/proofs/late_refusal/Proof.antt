@@ -1,5 +1,5 @@
+use mathlib.Core.Path.{refl}
 use Rattle.record.proofs.Laws as law
-use native.Mathlib.Omega.{arith}
 use borrow.Author.Needs.{needs}
 use Rattle.record.proofs.late_refusal.Statement.{statement}
 use Rattle.record.proofs.late_refusal.Tie as tie
@@ -17,7 +17,7 @@ part-overflows-start : tie.Need-part-overflows-start
 part-overflows-start c = search needs
 
 part-overflows-end : tie.Need-part-overflows-end
-part-overflows-end c = omega (arith, law.long _ _ 0 0 (c .before .before .before .before .before .pre .0))
+part-overflows-end c = law.long _ _ 0 0 (c .before .before .before .before .before .pre .0)
 
 overflows-requires : tie.Need-overflows-requires
 overflows-requires c κs = search needs
@@ -29,7 +29,7 @@ part-slot-refusal-start : tie.Need-part-slot-refusal-start
 part-slot-refusal-start c = search needs
 
 part-slot-refusal-end : tie.Need-part-slot-refusal-end
-part-slot-refusal-end c = omega (arith, law.long _ _ 0 0 (c .before .before .before .before .before .before .before .pre .0))
+part-slot-refusal-end c = law.long-slots _ _ 0 0 (c .before .before .before .before .before .before .before .pre .0) _ refl
 
 slot-refusal-requires : tie.Need-slot-refusal-requires
 slot-refusal-requires c κs = law.asked _ _ 0 0 (c .before .before .before .before .before .before .before .before .pre .0)

@@ -1,6 +1,5 @@
 use mathlib.Core.Path.{_∙_}
 use Rattle.record.proofs.Laws as law
-use native.Mathlib.Omega.{arith}
 use borrow.Author.Needs.{needs}
 use Rattle.record.proofs.recorded.Statement.{statement}
 use Rattle.record.proofs.recorded.Tie as tie
@@ -15,10 +14,10 @@ part-refresh-start : tie.Need-part-refresh-start
 part-refresh-start c = search needs
 
 part-refresh-end : tie.Need-part-refresh-end
-part-refresh-end c = omega (arith, law.long _ _ 0 0 (c .before .before .before .before .pre .0))
+part-refresh-end c = law.long _ _ 0 0 (c .before .before .before .before .pre .0)
 
 refresh-requires : tie.Need-refresh-requires
-refresh-requires c κs = let p = c .before .before .before .before .before .pre in ((omega (arith, law.written-long _ _ 0 0 (p .0)), omega (arith, p .2)), law.room _ _ _ _ (p .0) _ (p .1))
+refresh-requires c κs = let p = c .before .before .before .before .before .pre in law.refreshable _ _ _ _ (p .0) _ (p .1) _ (p .2)
 
 sub-accept : tie.Need-sub-accept
 sub-accept c = search needs
@@ -27,7 +26,7 @@ part-accept-start : tie.Need-part-accept-start
 part-accept-start c = search needs
 
 part-accept-end : tie.Need-part-accept-end
-part-accept-end c = omega (arith, law.long _ _ 0 0 (c .before .before .before .before .before .before .before .before .pre .0), c .before .mem .given .1)
+part-accept-end c = law.long-slots _ _ 0 0 (c .before .before .before .before .before .before .before .before .pre .0) _ (c .before .mem .given .1)
 
 accept-requires : tie.Need-accept-requires
 accept-requires c κs = let p = c .before .before .before .before .before .before .before .before .before .pre in law.acceptable _ _ _ _ (p .0) _ (p .1) (c .before .before .before .refresh .last .0) (c .before .before .mem .given .0) _ (p .2)
