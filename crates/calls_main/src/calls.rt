@@ -1,4 +1,6 @@
 // What a line of document 01 does to the node and the draft.
+use fields::CallKind;
+use fields::EditKind;
 use fields::Kind;
 use hosts::Host;
 use node::Answered;
@@ -9,91 +11,115 @@ use roster_show::Shown;
 ghost use Prim.Native.Nat.{_≤_};
 ghost use lib.ListN.{length};
 
-// The node, the draft, and the population that its edits are for.
-pub(crate) struct Subject {
+// What goes from line to line: the node, the draft and the population that its edits are for; how many words of the
+// node's buffer and of the draft's rows are lent; how many lines were read.
+pub(crate) struct State {
     pub node: Node,
     pub draft: RespondersConf,
     pub population: u8,
+    pub words: usize,
+    pub rows: usize,
+    pub lines: u64,
 }
 
 // 0: taken, with this many items; else the number of the refusal.
 pub(crate) struct Done {
     pub number: u64,
     pub count: usize,
-    pub subject: Subject,
+    pub state: State,
 }
 
-fn left(subject: Subject, number: u64, count: usize) -> Done {
+fn ends(state: State, number: u64, count: usize) -> Done {
     Done {
         number,
         count,
-        subject,
+        state,
     }
 }
 
-fn called(subject: Subject, a: Answered) -> Done {
+fn called(from: State, a: Answered) -> Done {
+    let mut state = from;
     let node = a.node;
-    let draft = subject.draft;
-    let next = Subject {
-        node,
-        draft,
-        population: subject.population,
-    };
-    left(next, a.number, a.count)
+    state.node = node;
+    ends(state, a.number, a.count)
 }
 
-// A fresh node has an empty draft.
-fn begun(subject: Subject, a: Answered) -> Done {
+// Makes a fresh node wherever it can, with an empty draft.
+fn begin(from: State, mem: &mut [u64], line: &[u8], at: usize) -> Done {
+    let none = Host::fresh();
+    let a = draft_lines::node_line(none.node, mem, line, at);
     if a.number != 0 {
-        return left(subject, a.number, 0);
+        return ends(from, a.number, 0);
     }
+    let mut state = from;
     let node = a.node;
-    let draft = RespondersConf::empty();
-    let next = Subject {
-        node,
-        draft,
-        population: node.population,
-    };
-    left(next, 0, 0)
+    let draft = none.draft;
+    state.node = node;
+    state.draft = draft;
+    state.population = node.population;
+    ends(state, 0, 0)
 }
 
-fn edited(subject: Subject, e: Edited) -> Done {
+fn edit(from: State, kind: EditKind, rows: &mut [u64], line: &[u8], at: usize) -> Done {
+    let e = draft_lines::edit_line(kind, from.draft, rows, from.population, line, at);
     match e {
         Edited::Taken(draft) => {
-            let node = subject.node;
-            let next = Subject {
-                node,
-                draft,
-                population: subject.population,
-            };
-            left(next, 0, 0)
+            let mut state = from;
+            state.draft = draft;
+            ends(state, 0, 0)
         }
-        Edited::Refused(number) => left(subject, number, 0),
+        Edited::Refused(number) => ends(from, number, 0),
     }
 }
 
-fn shown(subject: Subject, s: Shown) -> Done {
+fn show(state: State, rows: &[u64], area: &mut [u64], line: &[u8], at: usize) -> Done {
+    let s = draft_lines::show_line(state.draft, rows, area, state.population, line, at);
     match s {
-        Shown::Items(count) => left(subject, 0, count),
-        Shown::Refused(number) => left(subject, number, 0),
+        Shown::Items(count) => ends(state, 0, count),
+        Shown::Refused(number) => ends(state, number, 0),
     }
 }
 
-fn record(node: Node, mem: &mut [u64], area: &[u64], line: &[u8], at: usize) -> Answered
+fn hear(
+    state: State,
+    mem: &mut [u64],
+    area: &mut [u64],
+    rows: &[u64],
+    line: &[u8],
+    at: usize,
+) -> Done {
+    called(
+        state,
+        call_lines::heard_line(state.node, mem, area, state.draft, rows, line, at),
+    )
+}
+
+fn record(state: State, mem: &mut [u64], area: &[u64], line: &[u8], at: usize) -> Done
     requires { ⌜ length (now line) ≤ 1024 ⌝ }
 {
     let mut groups = [0u64; 1542];
-    record_lines::record_line(node, mem, area, &mut groups, line, at)
+    called(
+        state,
+        record_lines::record_line(state.node, mem, area, &mut groups, line, at),
+    )
 }
 
-// A node line makes a fresh node wherever it can.
-fn fresh(mem: &mut [u64], line: &[u8], at: usize) -> Answered {
-    let none = Host::fresh();
-    draft_lines::node_line(none.node, mem, line, at)
+fn call(
+    state: State,
+    kind: CallKind,
+    mem: &mut [u64],
+    area: &mut [u64],
+    line: &[u8],
+    at: usize,
+) -> Done {
+    called(
+        state,
+        call_lines::call_line(kind, state.node, mem, area, line, at),
+    )
 }
 
 pub(crate) fn act(
-    subject: Subject,
+    state: State,
     mem: &mut [u64],
     rows: &mut [u64],
     area: &mut [u64],
@@ -103,28 +129,13 @@ pub(crate) fn act(
 ) -> Done
     requires { ⌜ length (now line) ≤ 1024 ⌝ }
 {
-    let node = subject.node;
-    let draft = subject.draft;
-    let population = subject.population;
     match kind {
-        Kind::Node => begun(subject, fresh(mem, line, at)),
-        Kind::Edit(edit) => edited(
-            subject,
-            draft_lines::edit_line(edit, draft, rows, population, line, at),
-        ),
-        Kind::Show => shown(
-            subject,
-            draft_lines::show_line(draft, rows, area, population, line, at),
-        ),
-        Kind::Heard => called(
-            subject,
-            call_lines::heard_line(node, mem, area, draft, rows, line, at),
-        ),
-        Kind::Record => called(subject, record(node, mem, area, line, at)),
-        Kind::Call(call) => called(
-            subject,
-            call_lines::call_line(call, node, mem, area, line, at),
-        ),
-        Kind::Unknown => left(subject, 1, 0),
+        Kind::Node => begin(state, mem, line, at),
+        Kind::Edit(kind) => edit(state, kind, rows, line, at),
+        Kind::Show => show(state, rows, area, line, at),
+        Kind::Heard => hear(state, mem, area, rows, line, at),
+        Kind::Record => record(state, mem, area, line, at),
+        Kind::Call(kind) => call(state, kind, mem, area, line, at),
+        Kind::Unknown => ends(state, 1, 0),
     }
 }

@@ -1,36 +1,22 @@
-// Runs recorded calls on one node. vectors/README.md says what the lines are, what is written for each, and how the recorded ones are made.
+// Runs recorded calls on one node. vectors/README.md says what the lines are, what is written for each, and how the
+// recorded ones are made.
 mod calls;
 
 use calls::Done;
-use calls::Subject;
+use calls::State;
 use fields::Kind;
 use hosts::Host;
 use ids::Slot;
 use node::Node;
 use responders::RespondersConf;
 ghost use mathlib.Core.Path.{_≡_};
-ghost use Prim.Native.Nat.{_*_, _≤_};
+ghost use Prim.Native.Nat.{_≤_};
 ghost use lib.ListN.{length};
-
-// What goes from line to line: how many words of the node's buffer and of the draft's rows are lent, and how many lines were read.
-struct State {
-    subject: Subject,
-    words: usize,
-    rows: usize,
-    lines: u64,
-}
 
 // Where the lines of a piece end.
 struct Place {
     at: usize,
     state: State,
-}
-
-// What goes from piece to piece: how many bytes were kept.
-struct Progress {
-    have: usize,
-    state: State,
-    more: bool,
 }
 
 fn least(a: usize, b: usize) -> usize
@@ -71,103 +57,49 @@ fn say_answer(line: u64, number: u64, count: usize, area: &[u64]) {
 
 // ---- lines
 
-// Where the line's name ends.
-fn name_end(line: &[u8]) -> usize
-    ensures { λ r. ⌜ r ≤ length (now (line .entry)) ⌝ }
-{
-    let name = fields::field_at(line, 0);
-    name.end
+// Begins a draft for a population that need not be the node's.
+fn drafted(from: State, population: u64) -> State {
+    if 255 < population {
+        return from;
+    }
+    let mut s = from;
+    let draft = RespondersConf::empty();
+    s.draft = draft;
+    s.population = population as u8;
+    s
 }
 
 // Start, commit and exec bar at a slot: no list of calls gets there soon.
-fn jumped(node: Node, slot: u64) -> Node {
-    let id = node.id;
-    let conf = node.bodega_conf;
-    let max_seen = node.bal_max_seen;
-    let prep_sent = node.bal_prep_sent;
-    let prepared = node.bal_prepared;
-    let accept = node.accept_bar;
-    let snap = node.snap_bar;
-    let reading = node.peer_accept_max;
+fn jumped(from: State, slot: u64) -> State {
+    let mut node = from.node;
     let bar = Slot(slot);
-    Node {
-        id,
-        population: node.population,
-        quorum: node.quorum,
-        bodega_conf: conf,
-        bal_max_seen: max_seen,
-        bal_prep_sent: prep_sent,
-        bal_prepared: prepared,
-        start_slot: bar,
-        accept_bar: accept,
-        commit_bar: bar,
-        exec_bar: bar,
-        snap_bar: snap,
-        peer_accept_max: reading,
-        slots: node.slots,
-    }
-}
-
-fn with(s: State, subject: Subject) -> State {
-    State {
-        subject,
-        words: s.words,
-        rows: s.rows,
-        lines: s.lines,
-    }
-}
-
-fn lend(s: State, words: u64, rows: u64) -> State {
-    let subject = s.subject;
-    State {
-        subject,
-        words: words as usize,
-        rows: rows as usize,
-        lines: s.lines,
-    }
-}
-
-fn draft(s: State, population: u64) -> State {
-    if 255 < population {
-        return s;
-    }
-    let node = s.subject.node;
-    let draft = RespondersConf::empty();
-    let next = Subject {
-        node,
-        draft,
-        population: population as u8,
-    };
-    with(s, next)
-}
-
-fn jump(s: State, slot: u64) -> State {
-    let node = jumped(s.subject.node, slot);
-    let draft = s.subject.draft;
-    let next = Subject {
-        node,
-        draft,
-        population: s.subject.population,
-    };
-    with(s, next)
-}
-
-// A line that has no answer.
-fn prepare(s: State, line: &[u8]) -> State {
-    let end = name_end(line);
-    let a = fields::number_at(line, end + 1);
-    let b = fields::number_at(line, a.next);
-    let name = &line[0..end];
-    if check::same(name, b"lend") {
-        return lend(s, a.value, b.value);
-    }
-    if check::same(name, b"draft") {
-        return draft(s, a.value);
-    }
-    if check::same(name, b"jump") {
-        return jump(s, a.value);
-    }
+    node.start_slot = bar;
+    node.commit_bar = bar;
+    node.exec_bar = bar;
+    let mut s = from;
+    s.node = node;
     s
+}
+
+// A line that has no answer: `lend`, `draft`, `jump`, or the name of a script.
+fn prepare(from: State, line: &[u8]) -> State {
+    if line.len() == 0 {
+        return from;
+    }
+    let mut s = from;
+    let name = fields::field_at(line, 0);
+    let a = fields::number_at(line, name.next);
+    match line[0] {
+        b'l' => {
+            let b = fields::number_at(line, a.next);
+            s.words = a.value as usize;
+            s.rows = b.value as usize;
+            s
+        }
+        b'd' => drafted(s, a.value),
+        b'j' => jumped(s, a.value),
+        _ => s,
+    }
 }
 
 // Done with what is lent of the buffers.
@@ -187,7 +119,7 @@ fn act(
     let k = least(s.rows, rows.len());
     let room = least(places * 6, area.len());
     calls::act(
-        s.subject,
+        s,
         &mut mem[0..n],
         &mut rows[0..k],
         &mut area[0..room],
@@ -195,6 +127,14 @@ fn act(
         line,
         at,
     )
+}
+
+// Where the line's name ends.
+fn name_end(line: &[u8]) -> usize
+    ensures { λ r. ⌜ r ≤ length (now (line .entry)) ⌝ }
+{
+    let name = fields::field_at(line, 0);
+    name.end
 }
 
 // A line of document 01, with places for so many items.
@@ -206,26 +146,17 @@ fn call(s: State, mem: &mut [u64], rows: &mut [u64], places: usize, line: &[u8])
     let mut area = [0u64; 3276];
     let done = act(s, mem, rows, &mut area, places, kind, line, end + 1);
     say_answer(s.lines, done.number, done.count, &area);
-    let next = done.subject;
+    let next = done.state;
     say_sums(
         node_sum::of_node(next.node, mem),
         node_sum::of_roster(next.draft, rows),
     );
-    with(s, next)
-}
-
-fn counted(s: State) -> State {
-    let subject = s.subject;
-    State {
-        subject,
-        words: s.words,
-        rows: s.rows,
-        lines: std::num::wrapping_add_u64(s.lines, 1),
-    }
+    next
 }
 
 fn take(from: State, mem: &mut [u64], rows: &mut [u64], line: &[u8]) -> State {
-    let s = counted(from);
+    let mut s = from;
+    s.lines = std::num::wrapping_add_u64(s.lines, 1);
     let places = fields::number_at(line, 0);
     if !places.good {
         return prepare(s, line);
@@ -260,61 +191,53 @@ fn drain(piece: &[u8], from: State, mem: &mut [u64], rows: &mut [u64]) -> Place
         if end == piece.len() {
             return Place { at, state };
         }
+        let next = end + 1;
         state = take(state, mem, rows, &piece[at..end]);
-        at = end + 1;
+        at = next;
     }
 }
 
-// Reads a piece behind the bytes that were kept, and takes the lines that end in it.
-fn turn(buf: &mut [u8], have: usize, state: State, mem: &mut [u64], rows: &mut [u64]) -> Progress
-    requires { ⌜ (have ≤ 1024) × (length (now buf) ≡ 65536) ⌝ }
-    ensures { λ r. ⌜ r .have ≤ 1024 ⌝ }
-{
-    let n = io::read_full(0, &mut buf[have..]);
-    if n == 0 {
-        return Progress {
-            have,
-            state,
-            more: false,
-        };
-    }
-    let end = have + n;
-    let place = drain(&buf[0..end], state, mem, rows);
-    let kept = pieces::keep(buf, place.at, end, false);
-    let next = place.state;
-    Progress {
-        have: kept.have,
-        state: next,
-        more: true,
-    }
-}
-
-// A proved loop has to end, and nothing says that the input does: so it counts its turns down, from a number that no run uses up.
-fn run(buf: &mut [u8], mem: &mut [u64], rows: &mut [u64])
-    requires { ⌜ length (now buf) ≡ 65536 ⌝ }
-{
-    let host = Host::fresh();
-    let node = host.node;
-    let draft = host.draft;
-    let subject = Subject {
+// Before the first line.
+fn fresh() -> State {
+    let none = Host::fresh();
+    let node = none.node;
+    let draft = none.draft;
+    State {
         node,
         draft,
         population: 0,
-    };
-    let state = State {
-        subject,
         words: Node::WORDS,
         rows: RespondersConf::WORDS,
         lines: 0,
-    };
-    let mut t = Progress {
-        have: 0,
-        state,
-        more: true,
-    };
+    }
+}
+
+// Reads a piece behind the bytes that were kept, and returns where it ends.
+fn fill(buf: &mut [u8], have: usize) -> usize
+    requires { ⌜ have ≤ length (now buf) ⌝ }
+    ensures { λ r. ⌜ (have ≤ r) × (r ≤ length (now (buf .entry))) ⌝ }
+{
+    have + io::read_full(0, &mut buf[have..])
+}
+
+// Reads pieces, each behind the bytes that were kept, and takes the lines that end in them.
+// A proved loop has to end, and nothing says that the input does: so it counts its turns down, from a number that no
+// run uses up.
+fn run(buf: &mut [u8], mem: &mut [u64], rows: &mut [u64])
+    requires { ⌜ length (now buf) ≡ 65536 ⌝ }
+{
+    let mut state = fresh();
+    let mut have = 0;
     let mut turns = u64::MAX;
-    while turns > 0 && t.more {
-        t = turn(buf, t.have, t.state, mem, rows);
+    while turns > 0 {
+        let end = fill(buf, have);
+        if end == have {
+            return;
+        }
+        let place = drain(&buf[0..end], state, mem, rows);
+        let kept = pieces::keep(buf, place.at, end, false);
+        have = kept.have;
+        state = place.state;
         turns -= 1;
     }
 }

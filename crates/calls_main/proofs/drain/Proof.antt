@@ -26,6 +26,9 @@ same-length-2 c = search needs
 returns : tie.Need-returns Inv-loop μ-loop
 returns c = search needs
 
+add-next : tie.Need-add-next Inv-loop μ-loop
+add-next c = search needs
+
 sub-take : tie.Need-sub-take Inv-loop μ-loop
 sub-take c = search needs
 
@@ -37,9 +40,6 @@ part-take-end c = search needs
 
 take-requires : tie.Need-take-requires Inv-loop μ-loop
 take-requires c κs = search needs
-
-add-at : tie.Need-add-at Inv-loop μ-loop
-add-at c = search needs
 
 loop-less : tie.Need-loop-less Inv-loop μ-loop
 loop-less c = search needs
@@ -58,10 +58,10 @@ drain-spec =
     same-length
     same-length-2
     returns
+    add-next
     sub-take
     part-take-start
     part-take-end
     take-requires
-    add-at
     loop-less
     loop-again)
