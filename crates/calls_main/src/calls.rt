@@ -97,7 +97,7 @@ fn hear(
 fn record(state: State, mem: &mut [u64], area: &[u64], line: &[u8], at: usize) -> Done
     requires { ⌜ length (now line) ≤ 1024 ⌝ }
 {
-    let mut groups = [0u64; 1542];
+    let mut groups = line_buffers::group_words();
     called(
         state,
         record_lines::record_line(state.node, mem, area, &mut groups, line, at),

@@ -143,7 +143,7 @@ fn call(s: State, mem: &mut [u64], rows: &mut [u64], places: usize, line: &[u8])
 {
     let end = name_end(line);
     let kind = fields::kind_of(&line[0..end]);
-    let mut area = [0u64; 3276];
+    let mut area = line_buffers::item_area();
     let done = act(s, mem, rows, &mut area, places, kind, line, end + 1);
     say_answer(s.lines, done.number, done.count, &area);
     let next = done.state;
@@ -244,7 +244,7 @@ fn run(buf: &mut [u8], mem: &mut [u64], rows: &mut [u64])
 
 fn main() {
     let mut buf = io::large_buffer();
-    let mut mem = [0u64; 10305];
-    let mut rows = [0u64; 320];
+    let mut mem = line_buffers::node_words();
+    let mut rows = line_buffers::draft_rows();
     run(&mut buf, &mut mem, &mut rows);
 }
