@@ -18,18 +18,49 @@ ROOT = os.path.dirname(os.path.dirname(os.path.abspath(__file__)))
 ORACLE = os.path.join(ROOT, "oracle", "target", "release", "oracle")
 PER_FILE = 60
 
-HEAD = """use mathlib.Core.Bool.{true, false}
+HEAD = """use Prim.Native.Nat.{ℕ}
+use mathlib.Core.Bool.{true, false}
 use mathlib.Core.List.{List, [], _∷_, map}
 use mathlib.Core.Option.{none, some}
 use mathlib.Core.Path.{_≡_, refl}
-use Rattle.items.specs.Item.{Value, Absent, Store, Pass, Hold, Retry, Resend, Commit, Lead, Prelog, Prepare}
+use Rattle.items.specs.Item.{Item, Value, Absent, Store, Pass, Hold, Retry, Resend, Commit, Lead, Prelog, Prepare}
 use Rattle.responders.specs.Conf.{empty, setLeader, setFull, intoFiltered, resetFull}
 use Rattle.responders.specs.Edit.{edit, SetResponders}
-use Rattle.bodega.specs.Replica.{fresh, Heartbeat, Guard, Prepared, Record, Reply, Notice, CommitNotice, Bars, Read, Release}
+use Rattle.bodega.specs.Replica.{Request, ReadReq, Put, Get, Replica, fresh, Call, Heartbeat, Guard, Prepared, Record, Reply, Notice, CommitNotice, Bars, Read, Release}
+use Rattle.bodega.specs.Step.{Step, Refused, Taken, answers}
 use Rattle.bodega.specs.Text.{bytes}
-use Rattle.bodega.specs.Worked.{items, refused, put, got, wants}
-use Rattle.bodega.specs.Scripts.{Script, from, _gives_then_, Plays}
 use Rattle.bodega.proofs.Computes.{computes}
+
+-- the items of a step, or the number of its refusal
+data Line : Type 0 where
+  items : List Item → Line
+  refused : ℕ → Line
+
+abbrev lineOf : Step → Line
+lineOf (Refused n) = refused n
+lineOf (Taken r l) = items l
+
+abbrev put : ℕ → ℕ → List ℕ → ℕ → Request
+put c n key v = record { client = c; request = n; key = key; command = Put v }
+
+abbrev got : ℕ → ℕ → List ℕ → Request
+got c n key = record { client = c; request = n; key = key; command = Get }
+
+abbrev wants : ℕ → ℕ → List ℕ → ReadReq
+wants c n key = record { client = c; request = n; key = key }
+
+-- a call and what it is answered
+record Told : Type 0 where
+  call : Call
+  line : Line
+
+infixr 4 _gives_then_
+abbrev _gives_then_ : Call → Line → List Told → List Told
+c gives l then ts = record { call = c; line = l } ∷ ts
+
+-- the replica answers each call so
+abbrev Plays : Replica → List Told → Type 0
+Plays r ts = map lineOf (answers r (map (λ (t : Told). record { call = t .call; places = 546 }) ts)) ≡ map (λ (t : Told). t .line) ts
 
 """
 
@@ -136,7 +167,7 @@ def main():
         name = f"s{len(texts)}"
         sizes[name] = len(pairs)
         body = "\n    ".join(f"({c}) gives ({a}) then" for c, a in pairs)
-        texts.append(f"abbrev {name} : Script\n{name} =\n    from (fresh {node})\n    ({body}\n    [])\n\nplays-{name} : Plays {name}\nunfolding computes edit\nplays-{name} = refl\n\n")
+        texts.append(f"abbrev {name} : List Told\n{name} =\n    ({body}\n    [])\n\nplays-{name} : Plays (fresh {node}) {name}\nunfolding computes edit\nplays-{name} = refl\n\n")
     repo = os.path.join(work, "repo")
     shutil.copytree(os.path.join(ROOT, "crates"), os.path.join(repo, "crates"), ignore=shutil.ignore_patterns("must-fail", "inty_keys", "inty_lines", "exports"))
     with open(os.path.join(ROOT, "crates.txt"), encoding="utf-8") as f:

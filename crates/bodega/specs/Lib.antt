@@ -9,6 +9,4 @@ pub mod Grounds
 pub mod Step
 pub mod Text
 pub mod Marked
-pub mod Worked
-pub mod Scripts
 pub mod Answers

@@ -1,22 +1,19 @@
 -- A stream of event lines in pieces is answered as its lines are, one after the other. Assumes nothing.
 use mathlib.Core.Path.{_≡_, refl, sym, ap, _∙_}
 use mathlib.Core.Bool.{Bool, true, false}
-use mathlib.Core.List.{List, [], _∷_, _++_, map, append-assoc, append-nil}
+use mathlib.Core.List.{List, [], _∷_, _++_, append-assoc, append-nil}
 use Prim.Native.Nat.{ℕ, suc, _+_, _-_, _^_, _≤_, _<_}
 use native.Mathlib.Omega.{arith}
 use lib.ListN.{length}
-use lib.Dec.{ltb, eqb, lit<}
+use lib.Dec.{ltb, eqb}
 use borrow.Author.Tests.{lt-ltb}
-use Rattle.bodega.specs.Text.{bytes}
 use Rattle.fields.specs.Split.{Bytes}
 use Rattle.hosts.specs.Line.{lineOf}
 use Rattle.hosts.specs.Host.{Host, freshHost, Told, heard, heardAll, textOf}
-use Rattle.hosts.specs.Worked.{input, written}
-use Rattle.hosts.proofs.Worked.{worked-example}
 use Rattle.pieces.specs.Pieces.{Begun, fresh, concat}
 use Rattle.pieces.specs.Runs.{Said, prepend, runs, lastLine, total, LongAlike}
 use Rattle.pieces.proofs.Stream as pieces
-use Rattle.lines.specs.Lines.{State, start, bumped, told, says, linesFrom, linesOf, PiecesAsWhole, WorkedStream}
+use Rattle.lines.specs.Lines.{State, start, bumped, told, says, linesFrom, PiecesAsWhole}
 
 -- a line of more than 1,024 bytes is refused alike, whatever its bytes are
 told-long : (h : Host) (b : Begun) (l : Bytes) → 1024 < length (b .line) → told h b ≡ told h (record { long = true; line = l })
@@ -53,12 +50,3 @@ numbered h n acc (c ∷ s) k = go (eqb c 10) refl (numbered (heard h acc .host) 
 
 pub pieces-as-whole : PiecesAsWhole
 pieces-as-whole ps h = pieces.whole says alike start ps ∙ numbered freshHost 1 [] (concat ps) (omega arith)
-
-worked-lines : linesOf (written input) ≡ map bytes input
-unfolding linesFrom
-worked-lines = refl
-
-pub worked-stream : WorkedStream
-worked-stream ps e =
-    let l : linesOf (concat ps) ≡ map bytes input = ap linesOf e ∙ worked-lines in
-    pieces-as-whole ps (rw l (lit< tt)) ∙ (ap (heardAll freshHost 1) l ∙ worked-example)

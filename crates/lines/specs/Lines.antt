@@ -8,7 +8,6 @@ use lib.ListN.{length}
 use Rattle.words.specs.Choice.{if_then_else_}
 use Rattle.fields.specs.Split.{Bytes}
 use Rattle.hosts.specs.Host.{Host, freshHost, Told, turned, heard, heardAll, textOf}
-use Rattle.hosts.specs.Worked.{input, output, written}
 use Rattle.pieces.specs.Pieces.{Begun, fresh, concat}
 use Rattle.pieces.specs.Runs.{Said, piecewise}
 
@@ -49,7 +48,3 @@ linesOf s = linesFrom [] s
 -- a stream of fewer lines than the number can count, in whatever pieces it comes, is answered as its lines are one after the other
 abbrev pub PiecesAsWhole : Type 0
 PiecesAsWhole = (ps : List Bytes) → length (linesOf (concat ps)) < 2 ^ 64 - 1 → piecewise says start fresh ps ≡ heardAll freshHost 1 (linesOf (concat ps))
-
--- document 01's worked example as a stream, in whatever pieces it comes
-abbrev pub WorkedStream : Type 0
-WorkedStream = (ps : List Bytes) → concat ps ≡ written input → piecewise says start fresh ps ≡ written output
