@@ -478,6 +478,18 @@ fn heartbeats() {
         |ours, _| ours.heard(0, BALLOT, None, [0; 3]),
         |theirs, _, ()| theirs.heard(0, BALLOT, None, [0; 3]),
     );
+    // rosters that no edits make: refused 2, and the node stays
+    for ranges in [
+        vec![(5, 3, 6)],
+        vec![(0, 9, 6), (10, 19, 6)],
+        vec![(10, 19, 6), (0, 9, 6)],
+        vec![(0, 9, 6), (9, 19, 4)],
+    ] {
+        let mut ours = Ours::fresh(1, 5, 3);
+        let before = ours.clone();
+        assert_eq!(ours.heard(0, BALLOT, Some(&Conf::of(0, &ranges)), [0; 3]).number, 2);
+        assert_eq!((ours.node, &ours.mem[..]), (before.node, &before.mem[..]));
+    }
     // of the follower itself, who leads then
     let ballot = BALLOT + 257;
     let (conf, roster) = (Conf::of(1, &WHOLE), Roster::of(5, 1, &WHOLE));

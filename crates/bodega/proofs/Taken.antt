@@ -5,11 +5,11 @@ use mathlib.Core.List.{List, [], _∷_, _++_}
 use mathlib.Core.Option.{Option, none, some}
 use mathlib.Core.Path.{_≡_, refl, sym, _∙_}
 use native.Mathlib.Omega.{arith}
-use Rattle.responders.specs.Ground.{Ground, Ascends, Applies, refusal}
+use Rattle.responders.specs.Ground.{Ground, Ascends, refusal}
 use Rattle.responders.proofs.Grounds.{zero-one, lowest, NoneApply, none-apply, none-before, Positive, not-0}
 use Rattle.bodega.specs.Replica.{Replica, Call, Heartbeat, Guard, Prepared, Record, Reply, Notice, CommitNotice, Bars, Read, Release, Done}
 use Rattle.bodega.specs.Grounds.{grounds}
-use Rattle.bodega.specs.Step.{effect, allGrounds, turnedAway, step, stepBy, isTaken}
+use Rattle.bodega.specs.Step.{effect, allGrounds, turnedAway, LowestFirst, step, stepBy, isTaken}
 
 is-none : (o : Option ℕ) (d : Done) → isTaken (stepBy o d) ≡ true → o ≡ none
 is-none none d h = refl
@@ -22,7 +22,7 @@ taken-none r c places h = none-before (grounds r c) _ (none-apply (allGrounds r 
 -- the numbers ascend
 ascends : (r : Replica) (c : Call) (places : ℕ) → Ascends (allGrounds r c places)
 unfolding grounds
-ascends r (Heartbeat peer ballot conf commit exec snap) places = (omega arith, (omega arith, (omega arith, (omega arith, (omega arith, (tt, tt))))))
+ascends r (Heartbeat peer ballot conf commit exec snap) places = (omega arith, (omega arith, (omega arith, (omega arith, (omega arith, (omega arith, (tt, tt)))))))
 ascends r (Guard peer number bar) places = (omega arith, (omega arith, (omega arith, (tt, tt))))
 ascends r (Prepared ballot) places = (omega arith, (tt, tt))
 ascends r (Record slot ballot reqs) places = (omega arith, (omega arith, (omega arith, (omega arith, (omega arith, (omega arith, (omega arith, (tt, tt))))))))
@@ -34,14 +34,14 @@ ascends r (Read leases q) places = (omega arith, (omega arith, (tt, tt)))
 ascends r (Release slot) places = (omega arith, (omega arith, (tt, tt)))
 
 -- the number of a refusal is the lowest that applies
-pub lowest-first : (r : Replica) (c : Call) (places n : ℕ) → turnedAway r c places ≡ some n → Applies n (allGrounds r c places) × ((k : ℕ) → Applies k (allGrounds r c places) → n ≤ k)
+pub lowest-first : LowestFirst
 unfolding turnedAway
 lowest-first r c places n e = lowest (allGrounds r c places) n (ascends r c places) e
 
 -- no ground has the number 0
 pub positive : (r : Replica) (c : Call) → Positive (grounds r c)
 unfolding grounds
-positive r (Heartbeat peer ballot conf commit exec snap) = (omega arith, (omega arith, (omega arith, (omega arith, (omega arith, tt)))))
+positive r (Heartbeat peer ballot conf commit exec snap) = (omega arith, (omega arith, (omega arith, (omega arith, (omega arith, (omega arith, tt))))))
 positive r (Guard peer number bar) = (omega arith, (omega arith, (omega arith, tt)))
 positive r (Prepared ballot) = (omega arith, tt)
 positive r (Record slot ballot reqs) = (omega arith, (omega arith, (omega arith, (omega arith, (omega arith, (omega arith, (omega arith, tt)))))))

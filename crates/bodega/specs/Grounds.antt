@@ -1,4 +1,4 @@
--- Document 01, "Why a call is turned away": for each call the grounds that it can meet, by number. Those of lines and of the lent buffer (1, 2) and of roster edits (6, 7, 17)
+-- Document 01, "Why a call is turned away": for each call the grounds that it can meet, by number. Those of lines (1), of lent buffers (2) and of roster edits (6, 7, 17)
 -- are not among them. Assumes nothing: these are definitions.
 use Prim.Native.Nat.{ℕ, _+_, _-_}
 use mathlib.Core.Bool.{Bool, true, false, _&&_, _||_, not}
@@ -13,6 +13,7 @@ use Rattle.words.specs.Choice.{if_then_else_, ifNone_then_else_}
 use Rattle.ids.specs.Limits.{window, hold, keys, batch, top}
 use Rattle.bitmap.specs.Bitmap.{fits}
 use Rattle.responders.specs.Conf.{Conf, leads}
+use Rattle.responders.specs.Run.{isGood}
 use Rattle.bodega.specs.Replica.{Request, Instance, Replica, Call, Heartbeat, Guard, Prepared, Record, Reply, Notice, CommitNotice, Bars, Read, Release, isOpen, isLeader, end, instAt}
 use Rattle.bodega.specs.Localread.{refreshHighestSlot, Answer, Found, Missing, FromStore, Consensus, HeldBy, Again}
 use Rattle.bodega.specs.Request.{readAnswer}
@@ -25,7 +26,10 @@ any f (x ∷ xs) = f x || any f xs
 
 -- ---- tests
 
--- 3, 4: of a heartbeat's roster
+-- 2, 3, 4: of a heartbeat's roster. 2: one that no edits make, more than 64 ranges or ranges that do not ascend, disjoint and joined; the Rust can hold none
+abbrev pub unformed : Option Conf → Bool
+unformed conf = ifNone conf then false else λ c. not (isGood c)
+
 abbrev pub foreignLeader : ℕ → Option Conf → Bool
 foreignLeader population conf = ifNone conf then false else λ c. ifNone c .leader then false else λ l. leb population l
 
@@ -89,6 +93,7 @@ overfills r Again = false
 
 unfoldable pub grounds : Replica → Call → List Ground
 grounds r (Heartbeat peer ballot conf commit exec snap) =
+    2 when unformed conf or
     3 when leb (r .me .population) peer || foreignLeader (r .me .population) conf or
     4 when foreignMask (r .me .population) conf or
     8 when far commit || far exec || far snap or

@@ -1,8 +1,9 @@
 -- A call at a replica, and a list of calls. Assumes nothing: these are definitions.
-use Prim.Native.Nat.{ℕ}
+use Prim.Native.Nat.{ℕ, _≤_}
 use mathlib.Core.Bool.{Bool, true, false}
 use mathlib.Core.List.{List, [], _∷_, _++_}
 use mathlib.Core.Option.{Option, none, some}
+use mathlib.Core.Path.{_≡_}
 use lib.Dec.{ltb}
 use lib.ListN.{length}
 use Rattle.items.specs.Item.{Item}
@@ -13,7 +14,7 @@ use Rattle.bodega.specs.Conflease.{guardAcceptBar}
 use Rattle.bodega.specs.Heartbeat.{heardHeartbeat, heardCommitNotice}
 use Rattle.bodega.specs.Messages.{handleMsgAcceptReply, handleMsgAcceptNotice}
 use Rattle.bodega.specs.Events.{prepared, recorded, bars}
-use Rattle.responders.specs.Ground.{Ground, _when_or_, refusal}
+use Rattle.responders.specs.Ground.{Ground, _when_or_, refusal, Applies}
 use Rattle.bodega.specs.Grounds.{grounds}
 
 -- what a call does where nothing turns it away
@@ -35,6 +36,11 @@ allGrounds r c places = grounds r c ++ (20 when ltb places (length (effect r c .
 
 unfoldable pub turnedAway : Replica → Call → ℕ → Option ℕ
 turnedAway r c places = refusal (allGrounds r c places)
+
+-- "the lowest refusal number that applies"
+abbrev pub LowestFirst : Type 0
+LowestFirst = (r : Replica) (c : Call) (places n : ℕ) → turnedAway r c places ≡ some n
+    → Applies n (allGrounds r c places) × ((k : ℕ) → Applies k (allGrounds r c places) → n ≤ k)
 
 pub data Step : Type 0 where
   Refused : ℕ → Step

@@ -18,7 +18,7 @@ use Rattle.responders.specs.declared.RespondersConf.{RespondersConf}
 use Rattle.bodega.specs.Replica as machine
 use Rattle.bodega.specs.Conflease.{anyOpen}
 use Rattle.bodega.specs.Heartbeat.{fromProposer, installs}
-use Rattle.bodega.specs.Grounds.{any, far, foreignLeader, foreignMask, appends, noRoom, grounds}
+use Rattle.bodega.specs.Grounds.{any, far, unformed, foreignLeader, foreignMask, appends, noRoom, grounds}
 use Rattle.slots.specs.Slots.{instsOf}
 use Rattle.slots.proofs.Laws.{length-insts}
 use Rattle.node.specs.declared.Node.{Node}
@@ -76,7 +76,17 @@ module _ (t : Bool) (i : Bool) where
   pub this-installed : not t ≡ false → (u : Bool) → u ≡ i → u ≡ t && i
   this-installed f u e = e ∙ sym (ap (λ (b : Bool). b && i) (not-false t f))
 
--- ---- 3, 4
+-- ---- 2, 3, 4
+
+pub rows-there : (t : Bool) (count : ℕ) (rows : List ℕ) → fitting t count rows ≡ true → not t ≡ false → (count ≤ 64) × (320 ≤ length rows)
+rows-there t count rows e f = few-ranges count rows (whole-if t count rows e f)
+
+module _ (t : Bool) (c : Conf) where
+  pub no-rows : not t ≡ true → false ≡ unformed (carried t c)
+  no-rows f = sym (simp (not-true t f))
+
+  pub rows-are : not t ≡ false → (u : Bool) → u ≡ unformed (some c) → u ≡ unformed (carried t c)
+  rows-are f u e = e ∙ sym (simp (not-false t f))
 
 module _ (population peer : ℕ) (t : Bool) (c : RespondersConf) where
   abbrev Foreign : Bool → Type 0
@@ -173,15 +183,20 @@ module _ (n : Node) (m : List ℕ) (peer ballot : ℕ) (t i : Bool) (c : Respond
       u ∙ ap (λ (b : Bool). appending (view n m) ballot b (leaderOf (c .leader)) && noRoom (view n m)) e
       ∙ ap (λ (b : Bool). b && noRoom (view n m)) (appends-is (view n m) peer ballot t (rosterOf c rows))
 
-  pub number-is : (a b d f g : Bool)
-      → ((x : List ℕ) → a ≡ leb (n .population) peer || foreignLeader (n .population) (carried t (rosterOf c x)))
-      → b ≡ foreignMask (n .population) (carried t (rosterOf c rows))
-      → d ≡ far commit || far exec || far snap
-      → f ≡ lacksRoster (n .«bal_max_seen» .0) ballot t
-      → g ≡ appending (view n m) ballot i (leaderOf (c .leader)) && noRoom (view n m)
-      → (k : ℕ) → k ≡ lowest (3 when a or 4 when b or 8 when d or 12 when f or 15 when g or [])
-      → k ≡ lowest (grounds (view n m) (machine.Heartbeat peer ballot (carried t (rosterOf c rows)) commit exec snap))
-  unfolding grounds view
-  number-is a b d f g p q r s u k v =
-      v ∙ ap (λ (z : Bool). lowest (3 when z or 4 when b or 8 when d or 12 when f or 15 when g or [])) (p rows)
-      ∙ rw (q, r, s ∙ lacks-is (n .«bal_max_seen» .0) ballot t (rosterOf c rows), slot-is g u)
+  module _ (w : Bool) (y : w ≡ unformed (carried t (rosterOf c rows))) where
+    pub number-2 : w ≡ true → 2 ≡ lowest (grounds (view n m) (machine.Heartbeat peer ballot (carried t (rosterOf c rows)) commit exec snap))
+    unfolding grounds
+    number-2 z = sym (rw (sym y ∙ z))
+
+    pub number-is : w ≡ false → (a b d f g : Bool)
+        → ((x : List ℕ) → a ≡ leb (n .population) peer || foreignLeader (n .population) (carried t (rosterOf c x)))
+        → b ≡ foreignMask (n .population) (carried t (rosterOf c rows))
+        → d ≡ far commit || far exec || far snap
+        → f ≡ lacksRoster (n .«bal_max_seen» .0) ballot t
+        → g ≡ appending (view n m) ballot i (leaderOf (c .leader)) && noRoom (view n m)
+        → (k : ℕ) → k ≡ lowest (3 when a or 4 when b or 8 when d or 12 when f or 15 when g or [])
+        → k ≡ lowest (grounds (view n m) (machine.Heartbeat peer ballot (carried t (rosterOf c rows)) commit exec snap))
+    unfolding grounds view
+    number-is z a b d f g p q r s u k v =
+        v ∙ ap (λ (z : Bool). lowest (3 when z or 4 when b or 8 when d or 12 when f or 15 when g or [])) (p rows)
+        ∙ rw (sym y ∙ z, q, r, s ∙ lacks-is (n .«bal_max_seen» .0) ballot t (rosterOf c rows), slot-is g u)

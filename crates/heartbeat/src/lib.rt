@@ -18,7 +18,7 @@ ghost use Rattle.responders.specs.Edits.{view as rosterOf};
 ghost use Rattle.bodega.specs.Replica.{Heartbeat};
 ghost use Rattle.bodega.specs.Answers.{Answers};
 ghost use Rattle.bodega.specs.Heartbeat.{installs, heardBars};
-ghost use Rattle.bodega.specs.Grounds.{far, foreignLeader, foreignMask, noRoom, grounds};
+ghost use Rattle.bodega.specs.Grounds.{far, unformed, foreignLeader, foreignMask, noRoom, grounds};
 ghost use Rattle.node.specs.View.{view, ready, givenOf, lowest};
 ghost use Rattle.adoption.specs.Does.{Does, whole};
 ghost use Rattle.heartbeat.specs.Heartbeat.{fitting, carried, lacksRoster, appending, confBy, heardBy, Installable};
@@ -152,6 +152,17 @@ fn is_installing(
 
 // ---- refusals
 
+// 2.
+fn is_unformed(attached: bool, conf: RespondersConf, rows: &[u64]) -> bool
+    requires { ⌜ fitting attached (conf .count) (now rows) ≡ true ⌝ }
+    ensures { λ r. ⌜ r ≡ unformed (carried attached (rosterOf conf (now (rows .entry)))) ⌝ }
+{
+    if !attached {
+        return false;
+    }
+    rosters::is_unformed(conf, rows)
+}
+
 // 3.
 fn is_foreign(population: u8, peer: Replica, attached: bool, conf: RespondersConf) -> bool
     ensures { λ r. ⌜ ((rows : List ℕ) → r ≡ leb population (peer .0) || foreignLeader population (carried attached (rosterOf conf rows))) ⌝ }
@@ -253,7 +264,7 @@ fn first_of(three: bool, four: bool, eight: bool, twelve: bool, fifteen: bool) -
     0
 }
 
-// The number of the refusal but 2 and 20, 0 where there is none.
+// The number of the refusal, 0 where there is none; 20 and what 2 says of buffers are not among them.
 fn heartbeat_refusal(
     node: Node,
     mem: &[u64],
@@ -270,6 +281,9 @@ fn heartbeat_refusal(
     requires { ⌜ (ready node (now mem) ≡ true) × (fitting attached (conf .count) (now rows) ≡ true) × (installing ≡ attached && installs (view node (now mem)) (peer .0) (ballot .0) (rosterOf conf (now rows))) ⌝ }
     ensures { λ r. ⌜ r ≡ lowest (grounds (view node (now (mem .entry))) (Heartbeat (peer .0) (ballot .0) (carried attached (rosterOf conf (now (rows .entry)))) (commit .0) (exec .0) (snap .0))) ⌝ }
 {
+    if is_unformed(attached, conf, rows) {
+        return 2;
+    }
     let three = is_foreign(node.population, peer, attached, conf);
     let four = is_misfit(node.population, attached, conf, rows);
     let eight = is_far(commit, exec, snap);

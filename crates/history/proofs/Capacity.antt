@@ -7,11 +7,11 @@ use mathlib.Core.Path.{_≡_, refl}
 use native.Mathlib.Omega.{arith}
 use lib.Dec.{ltb, leb, eqb}
 use lib.ListN.{length, getD, drop, set, replicate, length-append}
-use borrow.Author.Tests.{ltb-false, leb-false}
+use borrow.Author.Tests.{ltb-false, leb-false, not-false}
 use Rattle.words.specs.Choice.{ifNone_then_else_}
 use Rattle.bitmap.specs.Bitmap.{get, mark, count}
 use Rattle.responders.specs.Conf.{Conf, leads}
-use Rattle.responders.specs.Run.{Good}
+use Rattle.responders.specs.Run.{Good, isGood}
 use Rattle.items.specs.Item.{Item}
 use Rattle.ids.specs.Limits.{hold, keys, batch}
 use Rattle.bodega.specs.Replica.{Status, Committed, Executed, isOpen, isAccepting, Book, newBook, ReadReq, Request, Instance, nullInstance, Replica, fresh, freshPair, pair, Call, Heartbeat, Guard, Prepared, Record, Reply, Notice, CommitNotice, Bars, Read, Release, Done, isLeader, end, instAt, setInst, pad, withStatus, withLeaderBk, withReplicaBk, withHolding, withHighestSlot, withPeerExecBar}
@@ -21,14 +21,14 @@ use Rattle.bodega.specs.Conflease.{updatePeerAcceptMax, guardAcceptBar, newer, 
 use Rattle.bodega.specs.Heartbeat.{checkBallot, walk, advanceCommitBar, heardCommitNotice, heardConf, installs, heardExecBar, passed, heardBars, heardHeartbeat}
 use Rattle.bodega.specs.Messages.{takeAck, takeNotice, handleMsgAcceptReply, noticed, handleMsgAcceptNotice}
 use Rattle.bodega.specs.Events.{prepared, accepting, recorded, executed, bars}
-use Rattle.bodega.specs.Grounds.{grounds, full, overfills}
+use Rattle.bodega.specs.Grounds.{grounds, unformed, full, overfills}
 use Rattle.bodega.specs.Step.{Event, effect, turnedAway, step, stepBy, stepOf, after, isTaken, run}
 use Rattle.history.specs.Invariant.{EachSlot}
 use Rattle.history.specs.Table.{Table, alters, adopts, adopting, raises, hear}
-use Rattle.history.specs.Capacity.{heldReads, SlotSmall, Each, Small, Capacity, GoodOrNone, BringsGood, AllBringGood, RosterStaysGood}
-use Rattle.bodega.proofs.Choices.{of-if, of-none, by-none}
+use Rattle.history.specs.Capacity.{heldReads, SlotSmall, Each, Small, Capacity, RosterStaysGood}
+use Rattle.bodega.proofs.Choices.{of-if, of-none, by-if, by-none}
 use Rattle.responders.proofs.Grounds.{NoneApply}
-use Rattle.responders.proofs.Rosters.{good-filtered}
+use Rattle.responders.proofs.Rosters.{good-filtered, good-true}
 use Rattle.bodega.proofs.Taken.{taken-none}
 use Rattle.history.proofs.Keeps.{release-keeps, from-keeps}
 use Rattle.history.proofs.Reach.{appended}
@@ -322,30 +322,30 @@ capacity id population quorum es = run-small (fresh id population quorum) es (fr
 abbrev RosterGood : Table → Type 0
 RosterGood t = Good (t .roster)
 
-hear-good : (t : Table) (c : Call) → BringsGood c → RosterGood t → RosterGood (hear t c)
-unfolding hear
-hear-good t (Heartbeat peer ballot conf commit exec snap) b g = of-if RosterGood (adopts t peer ballot conf) (go conf b) g
+hear-good : (r : Replica) (t : Table) (c : Call) → NoneApply (grounds r c) → RosterGood t → RosterGood (hear t c)
+unfolding hear grounds
+hear-good r t (Heartbeat peer ballot conf commit exec snap) n g = of-if RosterGood (adopts t peer ballot conf) (go conf (n .0)) g
   where
-    go : (o : Option Conf) → GoodOrNone o → RosterGood (adopting ballot o t)
-    go none b = g
-    go (some c) b = b
-hear-good t (Guard peer number bar) b g = of-if RosterGood (alters t peer (pair number bar)) g g
-hear-good t (Prepared ballot) b g = g
-hear-good t (Record slot ballot reqs) b g = g
-hear-good t (Reply peer slot ballot) b g = g
-hear-good t (Notice peer slot ballot) b g = of-if RosterGood (raises t slot ballot) (good-filtered (t .own) (t .roster) g) g
-hear-good t (CommitNotice peer ballot bar) b g = g
-hear-good t (Bars start accept commit exec) b g = g
-hear-good t (Read leases q) b g = g
-hear-good t (Release slot) b g = g
+    go : (o : Option Conf) → unformed o ≡ false → RosterGood (adopting ballot o t)
+    go none f = g
+    go (some c) f = good-true c (not-false (isGood c) f)
+hear-good r t (Guard peer number bar) n g = of-if RosterGood (alters t peer (pair number bar)) g g
+hear-good r t (Prepared ballot) n g = g
+hear-good r t (Record slot ballot reqs) n g = g
+hear-good r t (Reply peer slot ballot) n g = g
+hear-good r t (Notice peer slot ballot) n g = of-if RosterGood (raises t slot ballot) (good-filtered (t .own) (t .roster) g) g
+hear-good r t (CommitNotice peer ballot bar) n g = g
+hear-good r t (Bars start accept commit exec) n g = g
+hear-good r t (Read leases q) n g = g
+hear-good r t (Release slot) n g = g
 
-run-good : (r : Replica) (es : List Event) → AllBringGood es → RosterGood (view r) → RosterGood (view (run r es))
+run-good : (r : Replica) (es : List Event) → RosterGood (view r) → RosterGood (view (run r es))
 unfolding run
-run-good r [] b g = g
-run-good r (e ∷ es) b g =
-    run-good (after r (stepOf r e)) es (b .1)
-    (rw (step-view r e) (of-if RosterGood (isTaken (stepOf r e)) (hear-good (view r) (e .call) (b .0) g) g))
+run-good r [] g = g
+run-good r (e ∷ es) g =
+    run-good (after r (stepOf r e)) es
+    (rw (step-view r e) (by-if RosterGood (isTaken (stepOf r e)) (λ h. hear-good r (view r) (e .call) (taken-none r (e .call) (e .places) h) g) (λ h. g)))
 
 pub roster-stays-good : RosterStaysGood
 unfolding view fresh
-roster-stays-good id population quorum es b = run-good (fresh id population quorum) es b (tt, omega arith)
+roster-stays-good id population quorum es = run-good (fresh id population quorum) es (tt, omega arith)

@@ -339,7 +339,7 @@ module _ (r : Replica) (start accept commit exec : ℕ) (s : Sound (core r))
 
 effect-sound : (r : Replica) (c : Call) → Sound (core r) → NoneApply (grounds r c) → Sound (core (effect r c .replica))
 unfolding effect grounds
-effect-sound r (Heartbeat peer ballot conf commit exec snap) s n = heartbeat-sound r peer ballot conf commit exec snap s (n .1 .1 .1 .1 .0)
+effect-sound r (Heartbeat peer ballot conf commit exec snap) s n = heartbeat-sound r peer ballot conf commit exec snap s (n .1 .1 .1 .1 .1 .0)
 effect-sound r (Guard peer number bar) s n = rw (guard-core r peer number bar) s
 effect-sound r (Prepared ballot) s n = prepared-sound r ballot s (eqb-true ballot (r .bal .prepSent) (not-false _ (or-both (not (isLeader r) || eqb ballot 0) _ (n .0) .1)))
 effect-sound r (Record slot ballot reqs) s n = recorded-sound r slot ballot reqs s (leb-false (r .bar .start + window) slot (n .1 .1 .1 .1 .1 .0))

@@ -1,15 +1,14 @@
 -- Document 01, "What a node holds, and how much", and refusal 20: what no list of calls exceeds. Assumes nothing: these are definitions.
 use Prim.Native.Nat.{ℕ, _≤_}
-use mathlib.Core.List.{List, [], _∷_}
-use mathlib.Core.Option.{Option, none, some}
+use mathlib.Core.List.{List}
+use mathlib.Core.Option.{Option}
 use mathlib.Core.Path.{_≡_}
 use lib.ListN.{length}
 use Rattle.words.specs.Choice.{ifNone_then_else_}
-use Rattle.responders.specs.Conf.{Conf}
 use Rattle.responders.specs.Ground.{refusal}
 use Rattle.responders.specs.Run.{Good}
 use Rattle.ids.specs.Limits.{hold, keys, batch, items}
-use Rattle.bodega.specs.Replica.{Book, Instance, Replica, fresh, Call, Heartbeat, Guard, Prepared, Record, Reply, Notice, CommitNotice, Bars, Read, Release}
+use Rattle.bodega.specs.Replica.{Book, Instance, Replica, fresh, Call}
 use Rattle.bodega.specs.Grounds.{grounds}
 use Rattle.bodega.specs.Step.{Event, effect, turnedAway, run}
 use Rattle.history.specs.Invariant.{EachSlot}
@@ -36,30 +35,9 @@ Capacity = (id population quorum : ℕ) (es : List Event) → Small (run (fresh 
 
 -- ---- "at most 64 stored ranges"
 
--- a roster that edits can make, or none
-abbrev pub GoodOrNone : Option Conf → Type 0
-GoodOrNone none = Unit {0}
-GoodOrNone (some c) = Good c
-
-abbrev pub BringsGood : Call → Type 0
-BringsGood (Heartbeat peer ballot conf commit exec snap) = GoodOrNone conf
-BringsGood (Guard peer number bar) = Unit {0}
-BringsGood (Prepared ballot) = Unit {0}
-BringsGood (Record slot ballot reqs) = Unit {0}
-BringsGood (Reply peer slot ballot) = Unit {0}
-BringsGood (Notice peer slot ballot) = Unit {0}
-BringsGood (CommitNotice peer ballot bar) = Unit {0}
-BringsGood (Bars start accept commit exec) = Unit {0}
-BringsGood (Read leases q) = Unit {0}
-BringsGood (Release slot) = Unit {0}
-
-abbrev pub AllBringGood : List Event → Type 0
-AllBringGood [] = Unit {0}
-AllBringGood (e ∷ es) = BringsGood (e .call) × AllBringGood es
-
--- Where the rosters of all heartbeats are good, the replica's own roster is.
+-- Every roster that calls reach is one that edits make: ascending, disjoint and joined, at most 64 ranges.
 abbrev pub RosterStaysGood : Type 0
-RosterStaysGood = (id population quorum : ℕ) (es : List Event) → AllBringGood es → Good (run (fresh id population quorum) es .conf)
+RosterStaysGood = (id population quorum : ℕ) (es : List Event) → Good (run (fresh id population quorum) es .conf)
 
 -- ---- "fewer places than the call has items (at most 546)"
 

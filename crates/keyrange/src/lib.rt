@@ -10,7 +10,7 @@ ghost use Rattle.words.specs.Writes.{writes};
 ghost use Rattle.inty.specs.Value.{valueOf};
 ghost use Rattle.ranges.specs.Range.{inside, at, maskAt, goesOn, joined, push as pushed, pushAll, cutBelow, cutAbove, below, above, each, overwrite, remask, remasked};
 ghost use Rattle.bitmap.specs.Bitmap.{setTo};
-ghost use Rattle.keyrange.specs.Rows.{rangeOf, rowWords, rangeAt, rangesOf, maskIn, extendsLast, kept, Stores, Untouched};
+ghost use Rattle.keyrange.specs.Rows.{rangeOf, rowWords, rangeAt, rangesOf, maskIn, extendsLast, kept, Stores};
 
 pub struct Row {
     pub start: Inty,
@@ -129,7 +129,8 @@ pub fn get(rows: &[u64], count: usize, default: u64, n: Inty) -> u64
     mask
 }
 
-fn goes_on(x: Row, r: Row) -> bool
+// Whether r goes on from x with the same mask.
+pub fn goes_on(x: Row, r: Row) -> bool
     ensures { λ t. ⌜ t ≡ goesOn (rangeOf x) (rangeOf r) ⌝ }
 {
     if x.mask == r.mask {

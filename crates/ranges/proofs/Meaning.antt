@@ -1,7 +1,7 @@
 -- What writing a range over a canonical table means: at each number in the range its mask, at any other what the table said; and the result is canonical. Two canonical tables that say the same are the same.
 -- Assumes nothing.
 use mathlib.Core.Path.{_≡_, refl, sym, ap, _∙_}
-use mathlib.Core.Bool.{Bool, true, false, _&&_}
+use mathlib.Core.Bool.{Bool, true, false, _&&_, not}
 use mathlib.Core.Option.{Option, none, some}
 use Rattle.words.specs.Choice.{if_then_else_}
 use Rattle.words.proofs.Tests.{and-both}
@@ -11,9 +11,9 @@ use native.Mathlib.Nat.{le-refl, le-trans, lt-of-lt-of-le}
 use native.Mathlib.Omega.{arith}
 use lib.ListN.{length}
 use lib.Dec.{ltb, leb, eqb}
-use borrow.Author.Tests.{lt-ltb, le-ltb, le-leb, lt-leb, ltb-true, ltb-false, eqb-true, eq-eqb}
+use borrow.Author.Tests.{lt-ltb, le-ltb, le-leb, lt-leb, ltb-true, ltb-false, leb-true, eqb-true, eq-eqb, not-true}
 use Rattle.ranges.specs.Range.{Range, inside, at, goesOn, joined, push, pushAll, cutBelow, cutAbove, below, above, each, pieces, overwrite, remask, remasked}
-use Rattle.ranges.specs.Canon.{Starts, Sorted, Apart, Canon, Same, Says, mapped}
+use Rattle.ranges.specs.Canon.{Starts, Sorted, Apart, Canon, follows, heads, isCanon, Same, Says, mapped}
 
 -- ---- tests
 
@@ -440,3 +440,30 @@ module _ (g : ℕ → ℕ) where
       same-length : (l : List Range) → length (changed l) ≡ length l
       same-length [] = refl
       same-length (r ∷ l) = ap suc (same-length l)
+
+-- ---- whether a table is canonical, by a test
+
+follows-true : (r : Range) (l : List Range) → follows r l ≡ true → Starts l (r .to + 1) × Apart r l
+follows-true r [] e = (tt, tt)
+follows-true r (s ∷ l) e =
+    let b = and-both (ltb (r .to) (s .from)) (not (goesOn r s)) e in
+    let h : r .to < s .from = ltb-true (r .to) (s .from) (b .0) in
+    (omega arith, not-true (goesOn r s) (b .1))
+
+true-follows : (r : Range) (l : List Range) → Starts l (r .to + 1) → Apart r l → follows r l ≡ true
+true-follows r [] h a = refl
+true-follows r (s ∷ l) h a = rw (lt-ltb (r .to) (s .from) (omega arith), a)
+
+pub canon-true : (l : List Range) → isCanon l ≡ true → Canon l
+unfolding isCanon
+canon-true [] e = tt
+canon-true (r ∷ l) e =
+    let b = and-both (heads r l) (isCanon l) e in
+    let c = and-both (leb (r .from) (r .to)) (follows r l) (b .0) in
+    let f = follows-true r l (c .1) in
+    (leb-true (r .from) (r .to) (c .0), f .0, f .1, canon-true l (b .1))
+
+pub true-canon : (l : List Range) → Canon l → isCanon l ≡ true
+unfolding isCanon
+true-canon [] c = refl
+true-canon (r ∷ l) c = rw (le-leb (r .from) (r .to) (c .0), true-follows r l (c .1) (c .2), true-canon l (c .3))

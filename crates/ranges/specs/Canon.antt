@@ -1,9 +1,10 @@
 -- When a table is the one list for what it stores: ascending, disjoint, and touching ranges with equal masks are one. Assumes nothing: these are definitions.
 use Prim.Native.Nat.{ℕ, _+_, _≤_}
 use mathlib.Core.Path.{_≡_}
-use mathlib.Core.Bool.{false}
+use mathlib.Core.Bool.{Bool, true, false, _&&_, not}
 use mathlib.Core.List.{List, [], _∷_}
 use mathlib.Core.Option.{Option, none, some}
+use lib.Dec.{ltb, leb}
 use Rattle.words.specs.Choice.{if_then_else_, ifNone_then_else_}
 use Rattle.ranges.specs.Range.{Range, inside, at, goesOn}
 
@@ -25,6 +26,18 @@ Apart r (s ∷ l) = goesOn r s ≡ false
 abbrev pub Canon : List Range → Type 0
 Canon [] = Unit {0}
 Canon (r ∷ l) = (r .from ≤ r .to) × Starts l (r .to + 1) × Apart r l × Canon l
+
+-- the same as a test: r is a range, and the first one does not touch it
+abbrev pub follows : Range → List Range → Bool
+follows r [] = true
+follows r (s ∷ l) = ltb (r .to) (s .from) && not (goesOn r s)
+
+abbrev pub heads : Range → List Range → Bool
+heads r l = leb (r .from) (r .to) && follows r l
+
+unfoldable pub isCanon : List Range → Bool
+isCanon [] = true
+isCanon (r ∷ l) = heads r l && isCanon l
 
 -- m stores what l does, at every key; a stored mask 0 is not an unstored key
 abbrev pub Same : List Range → List Range → Type 0

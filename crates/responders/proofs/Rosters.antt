@@ -6,19 +6,20 @@ use mathlib.Core.Option.{Option, none, some}
 use Prim.Native.Nat.{ℕ, _≤_, _<_}
 use native.Mathlib.Nat.{le-trans}
 use native.Mathlib.Omega.{arith}
-use lib.Dec.{ltb, lit≤}
+use lib.Dec.{ltb, leb, lit≤}
 use lib.ListN.{length}
-use borrow.Author.Tests.{lt-ltb, ltb-true, ltb-false}
+use borrow.Author.Tests.{lt-ltb, ltb-true, ltb-false, le-leb, leb-true}
 use Rattle.bitmap.specs.Bitmap.{setTo}
 use Rattle.keys.specs.Read.{readKey}
 use Rattle.ranges.specs.Range.{Range, at, overwrite}
-use Rattle.ranges.specs.Canon.{Canon, Says, Sorted, mapped}
-use Rattle.ranges.proofs.Meaning.{overwrite-canon, overwrite-at, remasked-canon, remasked-at, remasked-length, canon-sorted, too-many, not-too-many}
+use Rattle.words.proofs.Tests.{and-both}
+use Rattle.ranges.specs.Canon.{Canon, isCanon, Says, Sorted, mapped}
+use Rattle.ranges.proofs.Meaning.{overwrite-canon, overwrite-at, remasked-canon, remasked-at, remasked-length, canon-sorted, canon-true, true-canon, too-many, not-too-many}
 use Rattle.responders.proofs.Grounds.{zero-one, none-apply}
 use Rattle.responders.specs.Conf.{Conf, empty, setResponders, setFull, intoFiltered}
 use Rattle.responders.specs.Ground.{refusal, Ascends}
 use Rattle.responders.specs.Edit.{Edit, SetLeader, SetResponders, SetFull, IntoFiltered, ResetFull, edit, grounds, crossed, tooMany, Answer, refused, taken, answer}
-use Rattle.responders.specs.Run.{left, run, Good}
+use Rattle.responders.specs.Run.{left, run, Good, isGood, EditsMakeGood}
 
 -- ---- the grounds ascend, so that the first that applies is the lowest
 
@@ -130,3 +131,14 @@ good-run p c (e ∷ es) h = good-run p (left c (answer p c e)) es (good-left p c
 -- whatever the edits from the fresh node's roster
 pub reachable : (p : ℕ) (es : List Edit) → Good (run p empty es)
 reachable p es = good-run p empty es (tt, omega arith)
+
+pub good-true : (c : Conf) → isGood c ≡ true → Good c
+good-true c e =
+    let b = and-both (isCanon (c .ranges)) (leb (length (c .ranges)) 64) e in
+    (canon-true (c .ranges) (b .0), leb-true (length (c .ranges)) 64 (b .1))
+
+pub true-good : (c : Conf) → Good c → isGood c ≡ true
+true-good c g = rw (true-canon (c .ranges) (g .0), le-leb (length (c .ranges)) 64 (g .1))
+
+pub edits-make-good : EditsMakeGood
+edits-make-good p es = true-good (run p empty es) (reachable p es)

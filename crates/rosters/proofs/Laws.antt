@@ -1,26 +1,27 @@
 -- What the proofs of this crate share: two rosters compared part by part, a mask that does not fit found row by row, rows copied. Assumes nothing.
 use mathlib.Core.Path.{_≡_, refl, sym, ap, _∙_}
-use mathlib.Core.Bool.{Bool, true, false, not, _&&_, _||_, and-false}
+use mathlib.Core.Bool.{Bool, true, false, not, _&&_, _||_, and-false, and-true}
 use mathlib.Core.List.{List, _∷_, []}
 use mathlib.Core.Option.{some}
 use Prim.Native.Nat.{ℕ, suc, _+_, _*_, _≤_, _<_}
 use native.Mathlib.Omega.{arith}
-use lib.Dec.{leb, eqb}
+use lib.Dec.{ltb, leb, eqb}
 use lib.ListN.{length, take}
-use borrow.Author.Tests.{not-true, not-false}
+use borrow.Author.Tests.{ltb-true, ltb-false, le-leb, lt-leb, not-true, not-false}
 use Rattle.words.specs.Writes.{writes}
 use Rattle.ids.specs.declared.Replica.{Replica}
 use Rattle.ids.specs.declared.Leader.{Leader}
 use Rattle.ids.specs.declared.Leader.the-variants.{None, Some}
 use Rattle.ids.specs.Leader.{leaderOf}
 use Rattle.bitmap.specs.Bitmap.{fits}
-use Rattle.ranges.specs.Range.{Range}
+use Rattle.ranges.specs.Range.{Range, goesOn}
+use Rattle.ranges.specs.Canon.{heads, isCanon}
 use Rattle.keyrange.specs.Rows.{rangeAt, rangesOf}
 use Rattle.keyrange.proofs.Laws.{rowsFrom, from-first, from-none, from-all, length-ranges, rows-same}
 use Rattle.responders.specs.declared.RespondersConf.{RespondersConf}
 use Rattle.responders.specs.Conf.{same, sameLeader, sameRange, sameRanges}
 use Rattle.responders.specs.Edits.{view}
-use Rattle.bodega.specs.Grounds.{any, foreignLeader, foreignMask}
+use Rattle.bodega.specs.Grounds.{any, unformed, foreignLeader, foreignMask}
 
 -- ---- the leaders
 
@@ -87,6 +88,62 @@ module _ (c d : RespondersConf) (s u : List ℕ) (t : Bool) (e : t ≡ sameLeade
     pub same-default : not v ≡ false → eqb (c .default) (d .default) ≡ same (view c s) (view d u)
     unfolding same view
     same-default h = sym (simp (sym e ∙ not-false t f, sym g ∙ not-false v h))
+
+-- ---- rows that no edits make: p and q are what was read, x and y the ranges
+
+module _ (a b t : Bool) (e : t ≡ a) where
+  pub touches : not t ≡ true → false ≡ a && not b
+  touches f = sym (simp (sym e ∙ not-true t f))
+
+  pub apart : (u : Bool) → not t ≡ false → u ≡ b → not u ≡ a && not b
+  apart u f g = ap not g ∙ sym (simp (sym e ∙ not-false t f))
+
+module _ (p x : Range) (t : Bool) (e : p ≡ x) (f : t ≡ ltb (p .to) (p .from)) where
+  pub no-range : t ≡ true → (l : List Range) → false ≡ heads x l
+  no-range g l = rw (← e) (sym (simp (lt-leb (p .from) (p .to) (ltb-true (p .to) (p .from) (sym f ∙ g)))))
+
+  module _ (g : t ≡ false) where
+    is-range : leb (p .from) (p .to) ≡ true
+    is-range = le-leb (p .from) (p .to) (ltb-false (p .to) (p .from) (sym f ∙ g))
+
+    pub last-range : true ≡ heads x []
+    last-range = rw (← e) (sym (simp is-range))
+
+    pub heads-next : (q y : Range) (u : Bool) → q ≡ y → u ≡ (ltb (p .to) (q .from) && not (goesOn p q)) → u ≡ heads x (y ∷ [])
+    heads-next q y u h k = rw (← e, ← h) (k ∙ sym (simp is-range))
+
+pub canon-start : (s : List ℕ) (n : ℕ) → isCanon (rowsFrom s 0 n) ≡ isCanon (rangesOf s n)
+canon-start s n = rw (from-all s n)
+
+module _ (s : List ℕ) (n i : ℕ) (m : Bool) where
+  abbrev this : Range
+  this = rangeAt s (i * 5)
+
+  module _ (t : Bool) (h : i < n) (e : (n ≤ i + 1 → t ≡ heads this []) × (i + 1 < n → t ≡ heads this (rangeAt s ((i + 1) * 5) ∷ []))) (g : isCanon (rowsFrom s i n) ≡ m) where
+    heads-rest : t ≡ heads this (rowsFrom s (i + 1) n)
+    heads-rest = go (ltb (i + 1) n) refl
+      where
+        go : (b : Bool) → ltb (i + 1) n ≡ b → t ≡ heads this (rowsFrom s (i + 1) n)
+        go true k = let l = ltb-true (i + 1) n k in e .1 l ∙ sym (ap (heads this) (from-first s (i + 1) n l))
+        go false k = let l = ltb-false (i + 1) n k in e .0 l ∙ sym (ap (heads this) (from-none s (i + 1) n l))
+
+    rest-too : t && isCanon (rowsFrom s (i + 1) n) ≡ m
+    unfolding isCanon
+    rest-too = ap (λ (b : Bool). b && isCanon (rowsFrom s (i + 1) n)) heads-rest ∙ sym (ap isCanon (from-first s i n h)) ∙ g
+
+    pub row-touches : not t ≡ true → false ≡ m
+    row-touches f = sym (ap (λ (b : Bool). b && isCanon (rowsFrom s (i + 1) n)) (not-true t f)) ∙ rest-too
+
+    pub row-heads : not t ≡ false → isCanon (rowsFrom s (i + 1) n) ≡ m
+    row-heads f = sym (ap (λ (b : Bool). b && isCanon (rowsFrom s (i + 1) n)) (not-false t f)) ∙ rest-too
+
+  pub canon-end : n ≤ i → isCanon (rowsFrom s i n) ≡ m → true ≡ m
+  unfolding isCanon
+  canon-end h g = sym (ap isCanon (from-none s i n h)) ∙ g
+
+pub unformed-is : (c : RespondersConf) (s : List ℕ) (t : Bool) → c .count ≤ 64 → t ≡ isCanon (rangesOf s (c .count)) → not t ≡ unformed (some (view c s))
+unfolding view
+unformed-is c s t h e = rw (length-ranges s (c .count), le-leb (c .count) 64 h, ← e) (ap not (sym (and-true t)))
 
 -- ---- who is not there
 

@@ -2,21 +2,24 @@
 use ids::Ballot;
 use ids::Leader;
 use ids::Replica;
+use keyrange::Row;
 use responders::RespondersConf;
 ghost use mathlib.Core.Path.{_≡_};
-ghost use mathlib.Core.Bool.{not};
-ghost use mathlib.Core.List.{List};
+ghost use mathlib.Core.Bool.{_&&_, not};
+ghost use mathlib.Core.List.{List, [], _∷_};
 ghost use mathlib.Core.Option.{none, some};
-ghost use Prim.Native.Nat.{ℕ, _+_, _*_, _≤_};
+ghost use Prim.Native.Nat.{ℕ, _+_, _*_, _≤_, _<_};
+ghost use lib.Dec.{ltb};
 ghost use lib.ListN.{length, take};
 ghost use Rattle.words.specs.Writes.{writes};
 ghost use Rattle.ids.specs.Leader.{leaderOf};
 ghost use Rattle.bitmap.specs.Bitmap.{fits};
-ghost use Rattle.ranges.specs.Range.{Range};
-ghost use Rattle.keyrange.specs.Rows.{rangeAt, rangesOf};
+ghost use Rattle.ranges.specs.Range.{Range, goesOn};
+ghost use Rattle.ranges.specs.Canon.{follows, heads, isCanon};
+ghost use Rattle.keyrange.specs.Rows.{rangeOf, rangeAt, rangesOf};
 ghost use Rattle.responders.specs.Conf.{same, sameLeader, sameRange, sameRanges};
 ghost use Rattle.responders.specs.Edits.{view as rosterOf};
-ghost use Rattle.bodega.specs.Grounds.{any, foreignLeader, foreignMask};
+ghost use Rattle.bodega.specs.Grounds.{any, unformed, foreignLeader, foreignMask};
 ghost use Rattle.bodega.specs.Heartbeat.{fromProposer};
 
 fn is_none(leader: Leader) -> bool
@@ -92,6 +95,54 @@ pub fn same(c: RespondersConf, crows: &[u64], d: RespondersConf, drows: &[u64]) 
         return false;
     }
     c.default == d.default
+}
+
+// Whether y begins after x ends, and does not go on from it.
+fn is_apart(x: Row, y: Row) -> bool
+    ensures { λ r. ⌜ r ≡ ltb (rangeOf x .to) (rangeOf y .from) && not (goesOn (rangeOf x) (rangeOf y)) ⌝ }
+{
+    if !inty::lt(x.end, y.start) {
+        return false;
+    }
+    !keyrange::goes_on(x, y)
+}
+
+// Whether row i of n is a range that the next one does not touch.
+fn heads(rows: &[u64], i: usize, n: usize) -> bool
+    requires { ⌜ (i < n) × (n * 5 ≤ length (now rows)) ⌝ }
+    ensures { λ r. ⌜ (n ≤ i + 1 → r ≡ heads (rangeAt (now (rows .entry)) (i * 5)) []) × (i + 1 < n → r ≡ heads (rangeAt (now (rows .entry)) (i * 5)) (rangeAt (now (rows .entry)) ((i + 1) * 5) ∷ [])) ⌝ }
+{
+    let row = keyrange::get_row(rows, i);
+    if inty::lt(row.end, row.start) {
+        return false;
+    }
+    let next = i + 1;
+    if n <= next {
+        return true;
+    }
+    is_apart(row, keyrange::get_row(rows, next))
+}
+
+fn is_canon(rows: &[u64], n: usize) -> bool
+    requires { ⌜ n * 5 ≤ length (now rows) ⌝ }
+    ensures { λ r. ⌜ r ≡ isCanon (rangesOf (now (rows .entry)) n) ⌝ }
+{
+    let mut i = 0;
+    while i < n {
+        if !heads(rows, i, n) {
+            return false;
+        }
+        i += 1;
+    }
+    true
+}
+
+// Whether no edits make such rows.
+pub fn is_unformed(c: RespondersConf, rows: &[u64]) -> bool
+    requires { ⌜ (c .count ≤ 64) × (320 ≤ length (now rows)) ⌝ }
+    ensures { λ r. ⌜ r ≡ unformed (some (rosterOf c (now (rows .entry)))) ⌝ }
+{
+    !is_canon(rows, c.count)
 }
 
 // The leader is not below the population.

@@ -3,6 +3,15 @@ use borrow.Author.Needs.{needs}
 use Rattle.heartbeat.proofs.heartbeat_refusal.Statement.{statement}
 use Rattle.heartbeat.proofs.heartbeat_refusal.Tie as tie
 
+is-unformed-requires : tie.Need-is-unformed-requires
+is-unformed-requires c κs = search needs
+
+returns : tie.Need-returns
+returns c =
+    let q = c .before .before .before .before in
+    let a = q .args in
+    law.number-2 (a .node) (a .mem .now) (a .peer .0) (a .ballot .0) (a .attached) (a .installing) (a .conf) (a .rows .now) (a .commit .0) (a .exec .0) (a .snap .0) (q .pre .2) _ (c .before .is-unformed .ensures) (c .if1 .taken)
+
 is-foreign-requires : tie.Need-is-foreign-requires
 is-foreign-requires c κs = search needs
 
@@ -21,11 +30,12 @@ lacks-slot-requires c κs = search needs
 first-of-requires : tie.Need-first-of-requires
 first-of-requires c κs = search needs
 
-returns : tie.Need-returns
-returns c =
-    let q = c .before .before .before .before .before .before .before .before .before in
+returns-2 : tie.Need-returns-2
+returns-2 c =
+    let w = c .before .before .before .before .before .before .before in
+    let q = w .before .before .before .before in
     let a = q .args in
-    law.number-is (a .node) (a .mem .now) (a .peer .0) (a .ballot .0) (a .attached) (a .installing) (a .conf) (a .rows .now) (a .commit .0) (a .exec .0) (a .snap .0) (q .pre .2) _ _ _ _ _ (c .before .before .before .before .before .before .is-foreign .ensures) (c .before .before .before .before .before .is-misfit .ensures) (c .before .before .before .before .is-far .ensures) (c .before .before .lacks-roster .ensures) (c .before .lacks-slot .ensures) _ (c .first-of .ensures)
+    law.number-is (a .node) (a .mem .now) (a .peer .0) (a .ballot .0) (a .attached) (a .installing) (a .conf) (a .rows .now) (a .commit .0) (a .exec .0) (a .snap .0) (q .pre .2) _ (w .before .is-unformed .ensures) (w .if1 .left) _ _ _ _ _ (c .before .before .before .before .before .before .is-foreign .ensures) (c .before .before .before .before .before .is-misfit .ensures) (c .before .before .before .before .is-far .ensures) (c .before .before .lacks-roster .ensures) (c .before .lacks-slot .ensures) _ (c .first-of .ensures)
 
 pub heartbeat-refusal-spec : {M : Type 1} → statement M
-heartbeat-refusal-spec = tie.close (tie.spec is-foreign-requires is-misfit-requires is-far-requires lacks-roster-requires lacks-slot-requires first-of-requires returns)
+heartbeat-refusal-spec = tie.close (tie.spec is-unformed-requires returns is-foreign-requires is-misfit-requires is-far-requires lacks-roster-requires lacks-slot-requires first-of-requires returns-2)

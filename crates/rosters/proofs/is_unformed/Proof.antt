@@ -1,0 +1,14 @@
+use Rattle.rosters.proofs.Laws as law
+use native.Mathlib.Omega.{arith}
+use borrow.Author.Needs.{needs}
+use Rattle.rosters.proofs.is_unformed.Statement.{statement}
+use Rattle.rosters.proofs.is_unformed.Tie as tie
+
+is-canon-requires : tie.Need-is-canon-requires
+is-canon-requires c κs = search needs
+
+returns : tie.Need-returns
+returns c = search (needs, law.unformed-is)
+
+pub is-unformed-spec : {M : Type 1} → statement M
+is-unformed-spec = tie.close (tie.spec is-canon-requires returns)
