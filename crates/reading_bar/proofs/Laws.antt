@@ -1,14 +1,11 @@
 -- Demand 3 of the code, from the theorems of history. Assumes nothing.
 use mathlib.Core.Path.{_≡_, ap, _∙_}
 use mathlib.Core.Bool.{Bool, true, false, _&&_}
-use mathlib.Core.List.{List}
+use mathlib.Core.List.{List, _∷_}
 use Prim.Native.Nat.{ℕ}
 use lib.Dec.{leb}
 use lib.ListN.{length}
 use Rattle.ids.specs.declared.Slot.{Slot}
-use Rattle.responders.specs.Edits.{view as rosterOf}
-use Rattle.requests.specs.Given.{given}
-use Rattle.bodega.specs.Replica.{Heartbeat, Guard, Prepared, Record, Reply, Notice, CommitNotice, Bars, Read, Release}
 use Rattle.history.specs.Table.{Fed}
 use Rattle.history.specs.Made.{Lived}
 use Rattle.history.specs.Made as history
@@ -17,23 +14,33 @@ use Rattle.node.specs.declared.Node.{Node}
 use Rattle.node.specs.declared.Fresh.the-variants.{Made}
 use Rattle.node.specs.View.{size, view, ready, inRange, givenOf}
 use Rattle.node.specs.Begins.{Stands, Gives}
-use Rattle.heartbeat.specs.Heartbeat.{fitting, carried}
+use Rattle.node.specs.declared.Answered.{Answered}
+use Rattle.bodega.specs.Answers.{Answers}
+use Rattle.heartbeat.specs.Heartbeat.{fitting}
+use Rattle.apply.specs.declared.Call.{Call}
+use Rattle.apply.specs.declared.Call.the-variants as call
+use Rattle.apply.specs.Call.{callOf, readyFor}
 use Rattle.reading_bar.specs.Called as calls
-use Rattle.reading_bar.specs.Called.{Called, Lives, ReadingBarStands, ReadingBarOrderFree}
+use Rattle.reading_bar.specs.Called.{Called, fed, Lives, ReadingBarStands, ReadingBarOrderFree}
+
+-- one call, whichever it is
+made-by : (c : Call) (rows text : List ℕ) {node last : Node} {mem mem′ end : List ℕ} {fs : List Fed} (area area′ : List ℕ) (r : Answered)
+    → Answers (readyFor c rows) view (callOf c rows text) node mem area (givenOf r) mem′ area′ → history.Made ready view (r .node) mem′ fs last end
+    → history.Made ready view node mem (fed (callOf c rows text) r ∷ fs) last end
+made-by (call.Heartbeat peer ballot attached conf commit exec snap) rows text area area′ r a m = history.callWith (fitting attached (conf .count) rows) (callOf (call.Heartbeat peer ballot attached conf commit exec snap) rows text) area area′ (givenOf r) a m
+made-by (call.Guard peer number bar) rows text area area′ r a m = history.call (callOf (call.Guard peer number bar) rows text) area area′ (givenOf r) a m
+made-by (call.Prepared ballot) rows text area area′ r a m = history.call (callOf (call.Prepared ballot) rows text) area area′ (givenOf r) a m
+made-by (call.Record slot ballot) rows text area area′ r a m = history.call (callOf (call.Record slot ballot) rows text) area area′ (givenOf r) a m
+made-by (call.Reply peer slot ballot) rows text area area′ r a m = history.call (callOf (call.Reply peer slot ballot) rows text) area area′ (givenOf r) a m
+made-by (call.Notice peer slot ballot) rows text area area′ r a m = history.call (callOf (call.Notice peer slot ballot) rows text) area area′ (givenOf r) a m
+made-by (call.Commit peer ballot bar) rows text area area′ r a m = history.call (callOf (call.Commit peer ballot bar) rows text) area area′ (givenOf r) a m
+made-by (call.Bars start accept commit exec) rows text area area′ r a m = history.call (callOf (call.Bars start accept commit exec) rows text) area area′ (givenOf r) a m
+made-by (call.Read client request leases) rows text area area′ r a m = history.call (callOf (call.Read client request leases) rows text) area area′ (givenOf r) a m
+made-by (call.Release slot) rows text area area′ r a m = history.call (callOf (call.Release slot) rows text) area area′ (givenOf r) a m
 
 made : {node last : Node} {mem end : List ℕ} {fs : List Fed} → Called node mem fs last end → history.Made ready view node mem fs last end
 made calls.none = history.none
-made (calls.heartbeat peer ballot attached conf rows commit exec snap area area′ r a c) =
-    history.callWith (fitting attached (conf .count) rows) (Heartbeat (peer .0) (ballot .0) (carried attached (rosterOf conf rows)) (commit .0) (exec .0) (snap .0)) area area′ (givenOf r) a (made c)
-made (calls.guard peer number bar area area′ r a c) = history.call (Guard (peer .0) (number .0) (bar .0)) area area′ (givenOf r) a (made c)
-made (calls.prepared ballot area area′ r a c) = history.call (Prepared (ballot .0)) area area′ (givenOf r) a (made c)
-made (calls.«record» slot ballot rows text area area′ r a c) = history.call (Record (slot .0) (ballot .0) (given rows text)) area area′ (givenOf r) a (made c)
-made (calls.reply peer slot ballot area area′ r a c) = history.call (Reply (peer .0) (slot .0) (ballot .0)) area area′ (givenOf r) a (made c)
-made (calls.notice peer slot ballot area area′ r a c) = history.call (Notice (peer .0) (slot .0) (ballot .0)) area area′ (givenOf r) a (made c)
-made (calls.commit peer ballot bar area area′ r a c) = history.call (CommitNotice (peer .0) (ballot .0) (bar .0)) area area′ (givenOf r) a (made c)
-made (calls.bars start accept commit exec area area′ r a c) = history.call (Bars (start .0) (accept .0) (commit .0) (exec .0)) area area′ (givenOf r) a (made c)
-made (calls.read client request leases key area area′ r a c) = history.call (Read leases (record { client = client; request = request; key = key })) area area′ (givenOf r) a (made c)
-made (calls.release slot area area′ r a c) = history.call (Release (slot .0)) area area′ (givenOf r) a (made c)
+made (calls.applied c rows text area area′ mem′ r a k) = made-by c rows text area area′ r a (made k)
 
 -- what `Node::fresh` ensures where it makes a node
 stands : (b : Bool) (id population quorum : ℕ) (before : List ℕ) (n : Node) (after : List ℕ) → Gives b id population quorum before (Made n) after → Stands id population quorum before n after
