@@ -11,7 +11,8 @@ use lib.ListN.{length, getD, set, take, drop, replicate, getD-replicate}
 use borrow.Author.Tests.{leb-true, not-true, not-false}
 use Rattle.words.specs.Choice.{if_then_else_}
 use Rattle.words.specs.Tab.{tab, run, tab-ext}
-use Rattle.words.specs.Part.{part, splice, part-before, length-part}
+use Rattle.words.specs.Part.{part, splice, Untouched, part-before, length-part}
+use Rattle.ids.specs.Limits.{nodeWords}
 use Rattle.words.specs.Writes.{writes, length-writes, writes-same}
 use Rattle.ids.specs.Leader.{leaderOf}
 use Rattle.ids.specs.declared.Ballot.{Ballot}
@@ -33,7 +34,7 @@ use Rattle.node.specs.declared.Node.{Node}
 use Rattle.node.specs.View.{view, ready, leadsIt}
 use Rattle.words.proofs.Tests.{and-both}
 use Rattle.node.proofs.Calls.{Ready, is-ready, made-ready}
-use Rattle.node.proofs.Frames.{rows-back, rows-size, pairs-back, pairs-size, execs-back, execs-size, slots-back, slots-size}
+use Rattle.node.proofs.Frames.{rows-back, rows-size, rows-beyond, pairs-back, pairs-size, pairs-beyond, execs-back, execs-size, execs-beyond, slots-back, slots-size, slots-beyond}
 use Rattle.adoption.specs.Does.{Does, whole}
 use Rattle.adoption.specs.Forgets.{Forgets}
 use Rattle.adoption.proofs.Machine.{heard-following, heard-leading, heard-count}
@@ -136,8 +137,8 @@ module _ (n : Node) (m : List ℕ) (e : ready n m ≡ true) (b : Ballot) (c : Re
           commit-end = r .commit-end;
         })
 
-    pub adopts : (view d m₂ ≡ adopted (view n m) (b .0) (rosterOf c rows)) × (length m₂ ≡ length m) × (ready d m₂ ≡ true)
-    adopts = (adopts-view, adopts-size, adopts-ready)
+    pub adopts : (view d m₂ ≡ adopted (view n m) (b .0) (rosterOf c rows)) × (length m₂ ≡ length m) × (ready d m₂ ≡ true) × Untouched nodeWords m m₂
+    adopts = (adopts-view, adopts-size, adopts-ready, λ j l. pairs-beyond n m₁ roster-there p long j l ∙ rows-beyond n m (r .long) x copied j l)
 
 -- ---- the exec bars forgotten
 
@@ -252,6 +253,9 @@ module _ (n : Node) (m area : List ℕ) (e : ready n m ≡ true) where
         pub step-up-size : length mem′ ≡ length m
         step-up-size = execs-size n with-slots step-up-there f size-execs ∙ slots-size n m (ok .long) s size-slots
 
+        step-up-beyond : Untouched nodeWords m mem′
+        step-up-beyond j l = execs-beyond n with-slots step-up-there f size-execs j l ∙ slots-beyond n m (ok .long) s size-slots j l
+
         step-up-view : (z : Ballot) → z .0 ≡ 0 → view (leading n z k) mem′ ≡ led
         unfolding view
         step-up-view z i =
@@ -278,7 +282,7 @@ module _ (n : Node) (m area : List ℕ) (e : ready n m ≡ true) where
             })
 
         pub becomes : (z : Ballot) → z .0 ≡ 0 → Does (becomeALeader (view n m)) 0 m area (record { number = 0; count = count; node = leading n z k }) mem′ area′
-        becomes z i = rw steps-up (record { number = refl; count = x .count; next = step-up-view z i; items = x .items; size = step-up-size; readyAgain = step-up-ready z })
+        becomes z i = rw steps-up (record { number = refl; count = x .count; next = step-up-view z i; items = x .items; size = step-up-size; beyond = step-up-beyond; readyAgain = step-up-ready z })
 
 -- ---- the whole
 
@@ -291,12 +295,12 @@ module _ (n : Node) (m area : List ℕ) (b : Ballot) (c : RespondersConf) (rows 
   unfolding view
   leads-by u f = leads-is c rows (n .id .0) ∙ sym e ∙ f
 
-  module _ (d : Node) (m′ : List ℕ) (a : (view d m′ ≡ adopted (view n m) (b .0) (rosterOf c rows)) × (length m′ ≡ length m) × (ready d m′ ≡ true)) where
+  module _ (d : Node) (m′ : List ℕ) (a : (view d m′ ≡ adopted (view n m) (b .0) (rosterOf c rows)) × (length m′ ≡ length m) × (ready d m′ ≡ true) × Untouched nodeWords m m′) where
     pub follows : not t ≡ true → Does (heardNewConf (view n m) (b .0) (rosterOf c rows)) 0 m area (record { number = 0; count = 0; node = d }) m′ area
     unfolding encode
     follows f =
         rw (heard-following (view n m) (b .0) (rosterOf c rows) (leads-by false (not-true t f)))
-        (record { number = refl; count = refl; next = a .0; items = refl; size = a .1; readyAgain = a .2 })
+        (record { number = refl; count = refl; next = a .0; items = refl; size = a .1; beyond = a .3; readyAgain = a .2 })
 
     module _ (f : not t ≡ false) where
       is-leading : heardNewConf (view n m) (b .0) (rosterOf c rows) ≡ becomeALeader (view d m′)
@@ -326,7 +330,7 @@ module _ (n : Node) (m area : List ℕ) (b : Ballot) (c : RespondersConf) (rows 
       pub leads-then : (g : Given Node) (m″ area′ : List ℕ) → Does (becomeALeader (view d m′)) 0 m′ area g m″ area′ → Does (heardNewConf (view n m) (b .0) (rosterOf c rows)) 0 m area g m″ area′
       leads-then g m″ area′ x =
           rw is-leading
-          (record { number = x .number; count = x .count; next = x .next; items = x .items; size = x .size ∙ a .1; readyAgain = x .readyAgain })
+          (record { number = x .number; count = x .count; next = x .next; items = x .items; size = x .size ∙ a .1; beyond = λ j l. x .beyond j l ∙ a .3 j l; readyAgain = x .readyAgain })
 
 -- how many items
 module _ (n : Node) (m : List ℕ) (c : RespondersConf) (t : Bool) (e : t ≡ leadsIt (leaderOf (c .leader)) (n .id .0)) where

@@ -5,6 +5,8 @@ use mathlib.Core.List.{List}
 use Prim.Native.Nat.{ℕ, _*_}
 use lib.ListN.{length}
 use Rattle.words.specs.Writes.{writes}
+use Rattle.words.specs.Part.{Untouched}
+use Rattle.ids.specs.Limits.{nodeWords}
 use Rattle.items.specs.Item.{encode}
 use Rattle.bodega.specs.Replica.{Done}
 use Rattle.bodega.specs.Answers.{Given}
@@ -18,6 +20,7 @@ pub record Does (d : Done) (place : ℕ) (mem area : List ℕ) (g : Given Node) 
   pub next : view (g .node) mem′ ≡ d .replica
   pub items : area′ ≡ writes area (place * 6) (encode (d .items))
   pub size : length mem′ ≡ length mem
+  pub beyond : Untouched nodeWords mem mem′
   pub readyAgain : ready (g .node) mem′ ≡ true
 
 -- a roster that can stand in a node: at most 64 ranges, in rows that are all there

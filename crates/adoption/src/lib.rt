@@ -10,6 +10,8 @@ ghost use mathlib.Core.Bool.{true};
 ghost use mathlib.Core.List.{List};
 ghost use Prim.Native.Nat.{ℕ, _≤_, _<_};
 ghost use lib.ListN.{length, set};
+ghost use Rattle.words.specs.Part.{Untouched};
+ghost use Rattle.ids.specs.Limits.{nodeWords};
 ghost use Rattle.items.specs.Item.{places};
 ghost use Rattle.responders.specs.Conf.{leads};
 ghost use Rattle.responders.specs.Edits.{view as rosterOf};
@@ -40,7 +42,7 @@ fn guard_itself(
 // The roster and the ballot, and the guards that they make anew.
 fn adopt(node: Node, mem: &mut [u64], ballot: Ballot, conf: RespondersConf, rows: &[u64]) -> Node
     requires { ⌜ (ready node (now mem) ≡ true) × (whole (conf .count) (now rows) ≡ true) ⌝ }
-    ensures { λ r. ⌜ (view r (now (mem .exit)) ≡ adopted (view node (now (mem .entry))) (ballot .0) (rosterOf conf (now (rows .entry)))) × (length (now (mem .exit)) ≡ length (now (mem .entry))) × (ready r (now (mem .exit)) ≡ true) ⌝ }
+    ensures { λ r. ⌜ (view r (now (mem .exit)) ≡ adopted (view node (now (mem .entry))) (ballot .0) (rosterOf conf (now (rows .entry)))) × (length (now (mem .exit)) ≡ length (now (mem .entry))) × (ready r (now (mem .exit)) ≡ true) × Untouched nodeWords (now (mem .entry)) (now (mem .exit)) ⌝ }
 {
     rosters::copy(conf, rows, &mut mem[192..512]);
     let accept = node.accept_bar;

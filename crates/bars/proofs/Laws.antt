@@ -24,7 +24,7 @@ use Rattle.node.specs.declared.Node.{Node}
 use Rattle.node.specs.View.{view, ready}
 use Rattle.words.proofs.Tests.{and-both, or-both}
 use Rattle.node.proofs.Calls.{Ready, is-ready, made-ready, refused-by, taken-by, none-applies}
-use Rattle.node.proofs.Frames.{slots-back, slots-size}
+use Rattle.node.proofs.Frames.{slots-back, slots-size, slots-beyond}
 use Rattle.bars.specs.Moves.{anyFar, lowered, inOrder, openBelow, holdsBelow, broken, barsRefusal, Executes}
 
 -- ---- a test after another
@@ -294,4 +294,4 @@ module _ (n : Node) (m area : List ℕ) (start accept commit exec : Slot) (t : B
         unfolding effect grounds view part
         bars-moved =
             taken-by (Bars (start .0) (accept .0) (commit .0) (exec .0)) n m area t e f k g z (bars (view n m) (start .0) (accept .0) (commit .0) (exec .0)) d m′ refl
-            view-is same-size (made-ready d m′ again)
+            view-is same-size (slots-beyond d m (r .long) s′ long) (made-ready d m′ again)

@@ -20,7 +20,7 @@ use Rattle.advance.proofs.Laws.{advance-is}
 use Rattle.node.specs.declared.Node.{Node}
 use Rattle.node.specs.View.{view, ready}
 use Rattle.node.proofs.Calls.{Ready, is-ready, refused-by, few-places, taken-by, taken-with}
-use Rattle.node.proofs.Frames.{slots-back, slots-size, slots-ready}
+use Rattle.node.proofs.Frames.{slots-back, slots-size, slots-beyond, slots-ready}
 use Rattle.commit.specs.Commit.{commitRefusal}
 
 module _ (n : Node) (m area : List ℕ) (peer ballot bar : ℕ) (t : Bool) (e : t ≡ ready n m) (f : not t ≡ false) where
@@ -51,7 +51,7 @@ module _ (n : Node) (m area : List ℕ) (peer ballot bar : ℕ) (t : Bool) (e : 
     module _ (z : k ≡ 0) where
       pub other-ballot : (ballot ≡ n .«bal_max_seen» .0 → ⊥) → Answers ready view call n m area (record { number = 0; count = 0; node = n }) m area
       unfolding effect heardCommitNotice grounds view
-      other-ballot h = taken-by call n m area t e f k g z (view n m) n m (rw (ne-eqb ballot (n .«bal_max_seen» .0) h)) refl refl (sym e ∙ not-false t f)
+      other-ballot h = taken-by call n m area t e f k g z (view n m) n m (rw (ne-eqb ballot (n .«bal_max_seen» .0) h)) refl refl (λ j l. refl) (sym e ∙ not-false t f)
 
       module _ (b : ballot ≡ n .«bal_max_seen» .0) (c : ℕ) (q : c ≡ length items) where
         walks : effect (view n m) call ≡ advanceCommitBar (view n m) ballot bar
@@ -74,4 +74,4 @@ module _ (n : Node) (m area : List ℕ) (peer ballot bar : ℕ) (t : Bool) (e : 
             rw q
             (taken-with call n m area t e f k g z (machine.withInsts (instsOf (n .«start_slot» .0) (n .slots) s′) (view n m)) items n (splice m 512 7744 s′) area′
             (walks ∙ advance-is (view n m) refl refl refl a) (rw (← q) h) (slots-back n m (r .long) s′ long) (a .items)
-            (slots-size n m (r .long) s′ long) (slots-ready n m (r .long) s′ long ∙ sym e ∙ not-false t f))
+            (slots-size n m (r .long) s′ long) (slots-beyond n m (r .long) s′ long) (slots-ready n m (r .long) s′ long ∙ sym e ∙ not-false t f))

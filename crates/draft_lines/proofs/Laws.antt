@@ -162,7 +162,7 @@ module _ (id population quorum : ℕ) where
     made m a e l g = go (node.inRange id population quorum) (rw e at by-range)
       where
         go : (t : Bool) → begins.Gives t id population quorum mem (begun.Made m) mem′ → BeginsBy t id population quorum n mem a mem′
-        go true h = rw g (record { number = refl; count = refl; replica = h .replica; readied = h .readied; size = l })
+        go true h = rw g (record { number = refl; count = refl; replica = h .replica; readied = h .readied; size = l; beyond = h .beyond })
         go false h = absurd h
 
     pub unmade : (k : ℕ) (a : Answered) → f ≡ begun.Refused k → a ≡ record { number = 2; count = 0; node = n }

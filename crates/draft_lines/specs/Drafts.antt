@@ -4,6 +4,8 @@ use mathlib.Core.Bool.{Bool, true, false}
 use mathlib.Core.List.{List, []}
 use Prim.Native.Nat.{ℕ, _≤_}
 use lib.ListN.{length, getD}
+use Rattle.words.specs.Part.{Untouched}
+use Rattle.ids.specs.Limits.{nodeWords}
 use Rattle.fields.specs.Split.{Bytes, fieldsFrom}
 use Rattle.fields.specs.Number.{numberAt}
 use Rattle.fields.specs.Reads.{between}
@@ -52,6 +54,7 @@ pub record Makes (id population quorum : ℕ) (mem : List ℕ) (a : Answered) (m
   pub replica : view (a .node) mem′ ≡ fresh id population quorum
   pub readied : ready (a .node) mem′ ≡ true
   pub size : length mem′ ≡ length mem
+  pub beyond : Untouched nodeWords mem mem′
 
 -- by whether population, quorum and own number are in range
 abbrev pub BeginsBy : Bool → ℕ → ℕ → ℕ → Node → List ℕ → Answered → List ℕ → Type 0

@@ -102,6 +102,8 @@ module _ (h : code.Host) (mem rows area mem′ area′ : List ℕ) (a : code-ans
           items = t .items;
           memSize = t .size;
           rowsSize = refl;
+          beyondMem = t .beyond;
+          beyondRows = λ j b. refl;
           soundAgain = long-again (t .size);
         })
 
@@ -180,6 +182,8 @@ module _ (h : code.Host) (mem rows area rows′ : List ℕ) (d : Edited) (r : Ac
         items = refl;
         memSize = refl;
         rowsSize = l;
+        beyondMem = λ j b. refl;
+        beyondRows = g .beyond;
         soundAgain = rw (m .0, l, and-both (leb 320 (length rows)) (leb (h .draft .count) 64) (m .1) .0, le-leb (k .count) 64 (g .few));
       })
 
@@ -235,6 +239,8 @@ module _ (h : code.Host) (mem rows area area′ : List ℕ) (d : Shown) (r : Act
         items = ap (λ (x : Listing). x .area) g;
         memSize = refl;
         rowsSize = refl;
+        beyondMem = λ j b. refl;
+        beyondRows = λ j b. refl;
         soundAgain = s;
       })
 
@@ -268,6 +274,8 @@ module _ (h : code.Host) (mem rows area mem′ : List ℕ) (a : code-answered.An
         items = refl;
         memSize = f .size;
         rowsSize = refl;
+        beyondMem = f .beyond;
+        beyondRows = λ j b. refl;
         soundAgain = long-again h mem rows area mem′ area a r e s (f .size);
       })
   begins false f = node-refused 2 (omega arith) f

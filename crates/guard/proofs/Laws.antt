@@ -17,7 +17,7 @@ use Rattle.peers.proofs.Laws.{guards}
 use Rattle.node.specs.declared.Node.{Node}
 use Rattle.node.specs.View.{view, ready}
 use Rattle.node.proofs.Calls.{Ready, is-ready, refused-by, taken-by, none-applies}
-use Rattle.node.proofs.Frames.{pairs-back, pairs-size, pairs-ready}
+use Rattle.node.proofs.Frames.{pairs-back, pairs-size, pairs-beyond, pairs-ready}
 use Rattle.guard.specs.Guard.{guardRefusal}
 
 module _ (n : Node) (m area : List ℕ) (peer num bar : ℕ) (t : Bool) (e : t ≡ ready n m) (f : not t ≡ false)
@@ -50,4 +50,4 @@ module _ (n : Node) (m area : List ℕ) (peer num bar : ℕ) (t : Bool) (e : t �
           taken-by (Guard peer num bar) n m area t e f k g z (guardAcceptBar (view n m) peer num bar) d m′ refl
           (v ∙ ap (λ (a : Replica). withPeerAccept (record { bar = a .peerAccept .bar; max = max }) a) (pairs-back n m (r .long) p long)
           ∙ ap (λ (a : PeerAccept). withPeerAccept a (view n m)) x ∙ sym (guards (view n m) peer num bar))
-          (pairs-size n m (r .long) p long) (y ∙ pairs-ready n m (r .long) p long ∙ sym e ∙ not-false t f)
+          (pairs-size n m (r .long) p long) (pairs-beyond n m (r .long) p long) (y ∙ pairs-ready n m (r .long) p long ∙ sym e ∙ not-false t f)

@@ -24,7 +24,7 @@ use Rattle.execs.proofs.Laws.{heard-peer}
 use Rattle.node.specs.declared.Node.{Node}
 use Rattle.node.specs.View.{view, ready}
 use Rattle.node.proofs.Calls.{Ready}
-use Rattle.node.proofs.Frames.{slots-back, slots-size, slots-ready, execs-back, execs-size, execs-ready}
+use Rattle.node.proofs.Frames.{slots-back, slots-size, slots-beyond, slots-ready, execs-back, execs-size, execs-beyond, execs-ready}
 use Rattle.adoption.specs.Does.{Does}
 use Rattle.adoption.proofs.Laws.{readied}
 
@@ -92,7 +92,7 @@ module _ (n : Node) (m : List ℕ) (y : ready n m ≡ true) (ballot commit exec 
     unfolding encode
     low-does h =
         let e = low-is peer snap h in
-        rw e (record { number = refl; count = refl; next = refl; items = refl; size = refl; readyAgain = y })
+        rw e (record { number = refl; count = refl; next = refl; items = refl; size = refl; beyond = λ j l. refl; readyAgain = y })
 
     module _ (h : n .«exec_bar» .0 ≤ exec) (o : place + length (due .items) ≤ places area) where
       pub room : (n .«start_slot» .0 ≤ n .«commit_bar» .0) × (n .«commit_bar» .0 ≤ n .«start_slot» .0 + n .slots) × (n .«start_slot» .0 ≤ 281474976710655) × (n .slots ≤ 32) × (7744 ≤ length words) × (place + length items ≤ places area)
@@ -165,5 +165,6 @@ module _ (n : Node) (m : List ℕ) (y : ready n m ≡ true) (ballot commit exec 
                 next = next-is ∙ bars-are;
                 items = a .items ∙ sym (ap (λ (z : List Item). writes area (place * 6) (encode z)) (items-are h peer snap));
                 size = execs-size n m₁ size-1 e′ short ∙ size₁;
+                beyond = λ j l. execs-beyond n m₁ size-1 e′ short j l ∙ slots-beyond n m (r .long) s′ long j l;
                 readyAgain = again;
               }

@@ -61,7 +61,7 @@ module _ (n : Node) (m : List ℕ) (ballot commit exec : ℕ) (i : Bool) (c : Re
 module _ (n : Node) (m area : List ℕ) (y : ready n m ≡ true) (ballot : ℕ) (i : Bool) (c : RespondersConf) (rows : List ℕ) where
   pub conf-same : not i ≡ true → Does (confBy i (rosterOf c rows) ballot (view n m)) 0 m area (record { number = 0; count = 0; node = n }) m area
   unfolding encode
-  conf-same f = rw (not-true i f) (record { number = refl; count = refl; next = refl; items = refl; size = refl; readyAgain = y })
+  conf-same f = rw (not-true i f) (record { number = refl; count = refl; next = refl; items = refl; size = refl; beyond = λ j l. refl; readyAgain = y })
 
   module _ (f : not i ≡ false) where
     pub conf-room : Installable i n m c rows → length (confBy i (rosterOf c rows) ballot (view n m) .items) ≤ places area
@@ -84,6 +84,7 @@ does-then {d = d} f {area = area} {g = g} a b =
       next = b .next ∙ ap (λ (r : machine.Replica). f r .replica) (a .next);
       items = b .items ∙ rw (a .items, a .next) (items-then area 0 (g .count) (d .items) (f (d .replica) .items) (let z = a .count in omega (arith, z)));
       size = b .size ∙ a .size;
+      beyond = λ j l. b .beyond j l ∙ a .beyond j l;
       readyAgain = b .readyAgain;
     }
 
@@ -144,7 +145,7 @@ module _ (call : machine.Call) (n : Node) (m area : List ℕ) (b : Bool) where
     follow : (s : Step) (g : Given Node) (m′ area′ : List ℕ) → Follows ready view s n m area g m′ area′ → Follows both view s n m area g m′ area′
     follow (Refused k) g m′ area′ h = record { number = h .number; count = h .count; sameNode = h .sameNode; sameMem = h .sameMem; sameArea = h .sameArea }
     follow (Taken r l) g m′ area′ h =
-        record { number = h .number; count = h .count; next = h .next; items = h .items; size = h .size; readyAgain = both-is (g .node) m′ ∙ h .readyAgain }
+        record { number = h .number; count = h .count; next = h .next; items = h .items; size = h .size; beyond = h .beyond; readyAgain = both-is (g .node) m′ ∙ h .readyAgain }
 
     same-due : due both view call n m area ≡ due ready view call n m area
     unfolding due
@@ -208,7 +209,7 @@ module _ (n : Node) (m area : List ℕ) (peer ballot : ℕ) (b : Bool) (c : Resp
           unfolding view
           lower-taken h =
               answers-both beat n m area fits fine (record { number = 0; count = 0; node = n }) m area
-              (taken-by beat n m area t e f k g z (view n m) n m (effect-is (view n m) peer ballot b (rosterOf c rows) commit exec snap ∙ rw (lt-ltb ballot (n .«bal_max_seen» .0) h)) refl refl y)
+              (taken-by beat n m area t e f k g z (view n m) n m (effect-is (view n m) peer ballot b (rosterOf c rows) commit exec snap ∙ rw (lt-ltb ballot (n .«bal_max_seen» .0) h)) refl refl (λ j l. refl) y)
 
           module _ (h : n .«bal_max_seen» .0 ≤ ballot) where
             abbrev heard : machine.Done
@@ -220,11 +221,11 @@ module _ (n : Node) (m area : List ℕ) (peer ballot : ℕ) (b : Bool) (c : Resp
 
             pub below : peer < n .population
             unfolding grounds view
-            below = leb-false (n .population) peer (or-left (leb (n .population) peer) (foreignLeader (n .population) (carried b (rosterOf c rows))) (none-applies beat n m k g z .0))
+            below = leb-false (n .population) peer (or-left (leb (n .population) peer) (foreignLeader (n .population) (carried b (rosterOf c rows))) (none-applies beat n m k g z .1 .0))
 
             not-15 : appends (view n m) peer ballot (carried b (rosterOf c rows)) && noRoom (view n m) ≡ false
             unfolding grounds
-            not-15 = none-applies beat n m k g z .1 .1 .1 .1 .0
+            not-15 = none-applies beat n m k g z .1 .1 .1 .1 .1 .0
 
             held : length (view n m .insts) ≡ n .slots
             unfolding view
@@ -264,4 +265,4 @@ module _ (n : Node) (m area : List ℕ) (peer ballot : ℕ) (b : Bool) (c : Resp
                 beat-taken r m′ area′ d =
                     answers-both beat n m area fits fine r m′ area′
                     (rw (d .number, d .count)
-                    (taken-with beat n m area t e f k g z (heard .replica) (heard .items) (r .node) m′ area′ heard-is (rw (← counted) o) (d .next) (d .items) (d .size) (d .readyAgain)))
+                    (taken-with beat n m area t e f k g z (heard .replica) (heard .items) (r .node) m′ area′ heard-is (rw (← counted) o) (d .next) (d .items) (d .size) (d .beyond) (d .readyAgain)))

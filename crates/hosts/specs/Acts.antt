@@ -3,11 +3,13 @@ use mathlib.Core.Path.{_≡_}
 use mathlib.Core.Bool.{Bool, true, false, _&&_}
 use mathlib.Core.List.{List}
 use mathlib.Core.Option.{Option, none, some}
-use Prim.Native.Nat.{ℕ, _<_}
+use Prim.Native.Nat.{ℕ, _*_, _<_}
 use lib.Dec.{leb, ltb}
 use lib.ListN.{length}
 use Rattle.words.specs.Choice.{if_then_else_, ifNone_then_else_}
 use Rattle.words.specs.Writes.{writes}
+use Rattle.words.specs.Part.{Untouched}
+use Rattle.ids.specs.Limits.{ranges}
 use Rattle.items.specs.Item.{Item, encode}
 use Rattle.responders.specs.declared.RespondersConf.{RespondersConf}
 use Rattle.responders.specs.declared.Edited.{Edited}
@@ -35,7 +37,7 @@ sound draft mem rows = leb size (length mem) && holdsRows (length rows) (draft .
 
 -- ---- what a line comes to
 
--- after a refusal all is as it was; else the items stand at the start of the area
+-- after a refusal all is as it was; else the items stand at the start of the area, and the words past the node's and the draft's are as they were
 pub record ActsTurned (n : ℕ) (h : code.Host) (mem rows area : List ℕ) (a : Acted) (mem′ rows′ area′ : List ℕ) : Type 0 where
   pub refused : 0 < n
   pub number : a .number ≡ n
@@ -52,6 +54,8 @@ pub record ActsTook (next : Host) (l : List Item) (h : code.Host) (mem rows area
   pub items : area′ ≡ writes area 0 (encode l)
   pub memSize : length mem′ ≡ length mem
   pub rowsSize : length rows′ ≡ length rows
+  pub beyondMem : Untouched size mem mem′
+  pub beyondRows : Untouched (ranges * 5) rows rows′
   pub soundAgain : sound (a .host .draft) mem′ rows′ ≡ true
 
 abbrev pub ActsBy : Host → Answer → code.Host → List ℕ → List ℕ → List ℕ → Acted → List ℕ → List ℕ → List ℕ → Type 0

@@ -8,6 +8,7 @@ use lib.ListN.{getD, length}
 use lib.Dec.{leb}
 use Rattle.words.specs.Choice.{if_then_else_}
 use Rattle.words.specs.Tab.{tab}
+use Rattle.words.specs.Part.{Untouched}
 use Rattle.ids.specs.Limits.{ranges}
 use Rattle.inty.specs.Value.{valueOf}
 use Rattle.bitmap.specs.Bitmap.{setTo}
@@ -66,13 +67,9 @@ abbrev pub size : Stored → ℕ
 size (Rows n) = n
 size Full = 0
 
--- what lies past the rows is not touched
-abbrev pub Untouched : List ℕ → List ℕ → Type 0
-Untouched s t = (j : ℕ) → ranges * 5 ≤ j → getD t j 0 ≡ getD s j 0
-
 -- what storing l in the words s comes to: the words t, and how many rows they are, where there are not too many
 pub record Stores (l : List Range) (s t : List ℕ) (r : Stored) : Type 0 where
   pub outcome : shown r t ≡ capped l
   pub refused : r ≡ Full → t ≡ s
   pub few : size r ≤ ranges
-  pub beyond : Untouched s t
+  pub beyond : Untouched (ranges * 5) s t

@@ -15,6 +15,8 @@ use Rattle.ids.specs.declared.Leader.the-variants.{Some}
 use Rattle.ids.specs.declared.Replica.{Replica}
 use Rattle.items.specs.Item.{Item, places, encode}
 use Rattle.words.specs.Writes.{writes}
+use Rattle.words.specs.Part.{Untouched}
+use Rattle.ids.specs.Limits.{nodeWords}
 use Rattle.responders.specs.Ground.{Ground, _when_or_, refusal}
 use Rattle.responders.proofs.Grounds.{NoneApply, Positive}
 use Rattle.bodega.specs.Replica as machine
@@ -186,14 +188,14 @@ module _ (c : machine.Call) (n : Node) (m : List ℕ) where
       few-places h = refused c n m area t e f 20 (last-ground ∙ ap (λ (x : Bool). if x then some 20 else none) (lt-ltb (places area) (length (effect (view n m) c .items)) h))
 
       pub taken-with : (r : machine.Replica) (l : List Item) (d : Node) (m′ area′ : List ℕ) → effect (view n m) c ≡ machine.done r l → length l ≤ places area → view d m′ ≡ r
-          → area′ ≡ writes area 0 (encode l) → length m′ ≡ length m → ready d m′ ≡ true
+          → area′ ≡ writes area 0 (encode l) → length m′ ≡ length m → Untouched nodeWords m m′ → ready d m′ ≡ true
           → Answers ready view c n m area (record { number = 0; count = length l; node = d }) m′ area′
       unfolding due step
-      taken-with r l d m′ area′ x p v w s y =
-          rw (sym e ∙ not-false t f, last-ground, x, le-ltb (places area) (length l) p) (record { number = refl; count = refl; next = v; items = w; size = s; readyAgain = y })
+      taken-with r l d m′ area′ x p v w s u y =
+          rw (sym e ∙ not-false t f, last-ground, x, le-ltb (places area) (length l) p) (record { number = refl; count = refl; next = v; items = w; size = s; beyond = u; readyAgain = y })
 
       -- a call without items
-      pub taken-by : (r : machine.Replica) (d : Node) (m′ : List ℕ) → effect (view n m) c ≡ machine.done r [] → view d m′ ≡ r → length m′ ≡ length m → ready d m′ ≡ true
+      pub taken-by : (r : machine.Replica) (d : Node) (m′ : List ℕ) → effect (view n m) c ≡ machine.done r [] → view d m′ ≡ r → length m′ ≡ length m → Untouched nodeWords m m′ → ready d m′ ≡ true
           → Answers ready view c n m area (record { number = 0; count = 0; node = d }) m′ area
       unfolding encode
-      taken-by r d m′ x v s y = taken-with r [] d m′ area x (omega arith) v refl s y
+      taken-by r d m′ x v s u y = taken-with r [] d m′ area x (omega arith) v refl s u y

@@ -5,7 +5,7 @@ use Prim.Native.Nat.{ℕ, _≤_}
 use native.Mathlib.Omega.{arith}
 use lib.ListN.{length}
 use Rattle.words.specs.Tab.{run}
-use Rattle.words.specs.Part.{splice, part-here, part-before, part-after, length-splice}
+use Rattle.words.specs.Part.{splice, Untouched, splice-untouched, part-here, part-before, part-after, length-splice}
 use Rattle.bodega.specs.Replica as machine
 use Rattle.responders.specs.Edits.{view as rosterOf}
 use Rattle.peers.specs.Pairs.{pairsOf}
@@ -30,6 +30,9 @@ module _ (n : Node) (m : List ℕ) (h : 10305 ≤ length m) (s : List ℕ) where
     pub pairs-size : length (splice m 0 128 s) ≡ length m
     pairs-size = length-splice m 0 128 s (omega arith) l
 
+    pub pairs-beyond : Untouched 10305 m (splice m 0 128 s)
+    pairs-beyond = splice-untouched m 0 128 s (omega arith) l 10305 (omega arith)
+
     pub pairs-ready : ready n (splice m 0 128 s) ≡ ready n m
     unfolding ready
     pairs-ready = rw pairs-size
@@ -48,6 +51,9 @@ module _ (n : Node) (m : List ℕ) (h : 10305 ≤ length m) (s : List ℕ) where
 
     pub execs-size : length (splice m 128 64 s) ≡ length m
     execs-size = length-splice m 128 64 s (omega arith) l
+
+    pub execs-beyond : Untouched 10305 m (splice m 128 64 s)
+    execs-beyond = splice-untouched m 128 64 s (omega arith) l 10305 (omega arith)
 
     pub execs-ready : ready n (splice m 128 64 s) ≡ ready n m
     unfolding ready
@@ -68,6 +74,9 @@ module _ (n : Node) (m : List ℕ) (h : 10305 ≤ length m) (s : List ℕ) where
     pub rows-size : length (splice m 192 320 s) ≡ length m
     rows-size = length-splice m 192 320 s (omega arith) l
 
+    pub rows-beyond : Untouched 10305 m (splice m 192 320 s)
+    rows-beyond = splice-untouched m 192 320 s (omega arith) l 10305 (omega arith)
+
     pub rows-ready : ready n (splice m 192 320 s) ≡ ready n m
     unfolding ready
     rows-ready = rw rows-size
@@ -87,6 +96,9 @@ module _ (n : Node) (m : List ℕ) (h : 10305 ≤ length m) (s : List ℕ) where
     pub slots-size : length (splice m 512 7744 s) ≡ length m
     slots-size = length-splice m 512 7744 s (omega arith) l
 
+    pub slots-beyond : Untouched 10305 m (splice m 512 7744 s)
+    slots-beyond = splice-untouched m 512 7744 s (omega arith) l 10305 (omega arith)
+
     pub slots-ready : ready n (splice m 512 7744 s) ≡ ready n m
     unfolding ready
     slots-ready = rw slots-size
@@ -105,6 +117,9 @@ module _ (n : Node) (m : List ℕ) (h : 10305 ≤ length m) (s : List ℕ) where
 
     pub written-size : length (splice m 8256 2049 s) ≡ length m
     written-size = length-splice m 8256 2049 s (omega arith) l
+
+    pub written-beyond : Untouched 10305 m (splice m 8256 2049 s)
+    written-beyond = splice-untouched m 8256 2049 s (omega arith) l 10305 (omega arith)
 
     pub written-ready : ready n (splice m 8256 2049 s) ≡ ready n m
     unfolding ready

@@ -10,7 +10,7 @@ use lib.Dec.{ltb, leb}
 use lib.ListN.{length, getD, set, take, drop, replicate, getD-replicate}
 use lib.Seq.{drop-set-add, take-set-le, take-set-lt, getD-take, getD-drop, getD-set-other, take-suc-set, take-length, length-take-le}
 use borrow.Author.Tests.{lt-ltb, le-ltb, le-leb, lt-leb, leb-true, not-true, not-false}
-use Rattle.words.specs.Part.{part, splice, part-here, part-before, part-after, length-splice, length-part, part-set-above, part-set-first, getD-part}
+use Rattle.words.specs.Part.{part, splice, part-here, part-before, part-after, length-splice, length-part, part-set-above, part-set-first, getD-part, Untouched, splice-untouched}
 use Rattle.words.specs.Counted.{counted, counted-clear}
 use Rattle.ids.specs.Limits.{keys}
 use Rattle.written.specs.Written.{highestAt, writtenOf}
@@ -63,10 +63,6 @@ fill-end l i n v f g k e =
     let z : i ≡ length l = omega arith in
     sym (take-length l) ∙ ap (λ (j : ℕ). take j l) (sym z) ∙ e ∙ ap (λ (j : ℕ). replicate j v) (z ∙ k)
 
-word-at : (m : List ℕ) (j : ℕ) → getD (part m j 1) 0 0 ≡ getD m j 0
-unfolding part
-word-at m j = let e : j + 0 ≡ j = omega arith in getD-take 1 (drop j m) 0 0 (omega arith) ∙ getD-drop j m 0 0 ∙ ap (λ (k : ℕ). getD m k 0) e
-
 -- ---- three parts filled, and one word cleared
 
 module _ (m x y z : List ℕ) (h : 10305 ≤ length m) (lx : length x ≡ 64) (ly : length y ≡ 64) (lz : length z ≡ 64) where
@@ -110,11 +106,10 @@ module _ (m x y z : List ℕ) (h : 10305 ≤ length m) (lx : length x ≡ 64) (l
       ap (counted highestAt 8 keys) (part-set-first m₃ 8256 2049 0 (omega arith))
       ∙ counted-clear highestAt 8 keys (part m₃ 8256 2049) (rw (length-part m₃ 8256 2049 (rw length-filled (omega arith))) (omega arith))
 
-  rest : (j : ℕ) → 10305 ≤ j → getD m₄ j 0 ≡ getD m j 0
+  rest : Untouched 10305 m m₄
   rest j f =
-      getD-set-other m₃ 8256 j 0 0 (omega arith) ∙ sym (word-at m₃ j) ∙ ap (λ (l : List ℕ). getD l 0 0)
-      (part-after m₂ 128 64 z (rw l₂ (omega arith)) lz j 1 (omega arith) ∙ part-after m₁ 64 64 y (rw l₁ (omega arith)) ly j 1 (omega arith) ∙ part-after m 0 64 x (omega arith) lx j 1 (omega arith))
-      ∙ word-at m j
+      getD-set-other m₃ 8256 j 0 0 (omega arith) ∙ splice-untouched m₂ 128 64 z (rw l₂ (omega arith)) lz 10305 (omega arith) j f
+      ∙ splice-untouched m₁ 64 64 y (rw l₁ (omega arith)) ly 10305 (omega arith) j f ∙ splice-untouched m 0 64 x (omega arith) lx 10305 (omega arith) j f
 
   pub resets : x ≡ replicate 64 0 → y ≡ replicate 64 18446744073709551615 → z ≡ replicate 64 0 → Reset m m₄
   resets e f g = record { nums = first ∙ e; bars = second ∙ f; execs = third ∙ g; written = keys-none; rest = rest }
@@ -225,7 +220,7 @@ module _ (id population quorum : ℕ) (s : List ℕ) (t : Bool) (e : t ≡ leb s
       pub begun : (n : Node) → Zero n → ((rows : List ℕ) → rosterOf (n .«bodega_conf») rows ≡ empty) × (n .«bodega_conf» .count ≤ 64)
           → Gives (leb size (length s) && inRange id population quorum) id population quorum s (Made n) s′
       unfolding view fresh ready instsOf
-      begun n z c = rw (sym e ∙ not-false t f) (record { replica = replica; readied = readied; untouched = r .rest })
+      begun n z c = rw (sym e ∙ not-false t f) (record { replica = replica; readied = readied; beyond = r .rest })
         where
           replica : view n s′ ≡ fresh id population quorum
           replica =

@@ -2,10 +2,10 @@
 use mathlib.Core.Path.{_≡_}
 use mathlib.Core.Bool.{Bool, true, false, _&&_}
 use mathlib.Core.List.{List, []}
-use Prim.Native.Nat.{ℕ, _≤_}
+use Prim.Native.Nat.{ℕ}
 use lib.Dec.{leb}
-use lib.ListN.{length, getD, replicate}
-use Rattle.words.specs.Part.{part}
+use lib.ListN.{length, replicate}
+use Rattle.words.specs.Part.{part, Untouched}
 use Rattle.ids.specs.Limits.{beyond}
 use Rattle.written.specs.Written.{writtenOf}
 use Rattle.bodega.specs.Replica.{fresh}
@@ -20,13 +20,13 @@ pub record Reset (before after : List ℕ) : Type 0 where
   pub bars : part after 64 64 ≡ replicate 64 beyond
   pub execs : part after 128 64 ≡ replicate 64 0
   pub written : writtenOf (part after 8256 2049) ≡ []
-  pub rest : (j : ℕ) → size ≤ j → getD after j 0 ≡ getD before j 0
+  pub rest : Untouched size before after
 
 -- the node and the buffer stand for a fresh replica; what lies past the buffer's tables is as it was
 pub record Stands (id population quorum : ℕ) (before : List ℕ) (n : Node) (after : List ℕ) : Type 0 where
   pub replica : view n after ≡ fresh id population quorum
   pub readied : ready n after ≡ true
-  pub untouched : (j : ℕ) → size ≤ j → getD after j 0 ≡ getD before j 0
+  pub beyond : Untouched size before after
 
 abbrev pub Gives : Bool → ℕ → ℕ → ℕ → List ℕ → Fresh → List ℕ → Type 0
 Gives true id population quorum before (Made n) after = Stands id population quorum before n after

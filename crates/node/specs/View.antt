@@ -9,7 +9,7 @@ use lib.ListN.{length}
 use Rattle.words.specs.Choice.{if_then_else_, ifNone_then_else_}
 use Rattle.words.specs.Tab.{run}
 use Rattle.words.specs.Part.{part}
-use Rattle.ids.specs.Limits.{window, ranges, replicas, top}
+use Rattle.ids.specs.Limits.{window, ranges, replicas, top, nodeWords}
 use Rattle.responders.specs.Edits.{view as rosterOf}
 use Rattle.responders.specs.Ground.{Ground}
 use Rattle.bodega.specs.Replica as machine
@@ -21,7 +21,7 @@ use Rattle.node.specs.declared.Node.{Node}
 use Rattle.node.specs.declared.Answered.{Answered}
 
 abbrev pub size : ℕ
-size = 10305
+size = nodeWords
 
 -- ---- the replica
 

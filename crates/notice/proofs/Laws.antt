@@ -36,7 +36,7 @@ use Rattle.notices.proofs.Machine.{noticed-is}
 use Rattle.node.specs.declared.Node.{Node}
 use Rattle.node.specs.View.{view, ready, lowest, leadsIt}
 use Rattle.node.proofs.Calls.{Ready, is-ready, made-ready, refused-by, few-places, taken-with, taken-by, none-applies}
-use Rattle.node.proofs.Frames.{rows-back, rows-size, slots-back, slots-size}
+use Rattle.node.proofs.Frames.{rows-back, rows-size, rows-beyond, slots-back, slots-size, slots-beyond}
 use Rattle.notice.specs.Notice.{noticeRefusal, stepDown, StepsDown}
 
 -- ---- the tests
@@ -205,7 +205,7 @@ module _ (n : Node) (m area : List ℕ) (peer slot : ℕ) (b : Ballot) (t : Bool
     below-is h = rw (lt-ltb slot start h)
 
     pub below-start : slot < start → Answers ready view call n m area (record { number = 0; count = 0; node = n }) m area
-    below-start h = taken-by call n m area t e f k number-is z (view n m) n m (below-is h) refl refl again
+    below-start h = taken-by call n m area t e f k number-is z (view n m) n m (below-is h) refl refl (λ j l. refl) again
 
     module _ (h : start ≤ slot) where
       -- a higher ballot
@@ -257,7 +257,7 @@ module _ (n : Node) (m area : List ℕ) (peer slot : ℕ) (b : Ballot) (t : Bool
               let yes : u ≡ true = not-false u q in
               rw l
               (taken-with call n m area t e f k number-is z demoted (stepDown led) d (splice m 192 320 rows) area′ higher-is
-              (leb-true (length (stepDown led)) (places area) (sym (w .room) ∙ yes)) roster-back (w .taken yes) (rows-size n m (r .long) rows long) ready-d)
+              (leb-true (length (stepDown led)) (places area) (sym (w .room) ∙ yes)) roster-back (w .taken yes) (rows-size n m (r .long) rows long) (rows-beyond n m (r .long) rows long) ready-d)
 
       -- none higher
       module _ (a : b .0 ≤ seen) where
@@ -270,7 +270,7 @@ module _ (n : Node) (m area : List ℕ) (peer slot : ℕ) (b : Ballot) (t : Bool
         pub other-taken : not cur ≡ true → Answers ready view call n m area (record { number = 0; count = 0; node = n }) m area
         other-taken q =
             taken-by call n m area t e f k number-is z (view n m) n m
-            (handled-by ∙ ap (λ (c : Bool). if c then noticed (machine.pad slot (view n m)) peer slot (b .0) else machine.done (view n m) []) (not-true cur q)) refl refl again
+            (handled-by ∙ ap (λ (c : Bool). if c then noticed (machine.pad slot (view n m)) peer slot (b .0) else machine.done (view n m) []) (not-true cur q)) refl refl (λ j l. refl) again
 
         module _ (q : not cur ≡ false) where
           abbrev i : ℕ
@@ -341,4 +341,4 @@ module _ (n : Node) (m area : List ℕ) (peer slot : ℕ) (b : Ballot) (t : Bool
                 notice-taken =
                     rw (x .count)
                     (taken-with call n m area t e f k number-is z (machine.withInsts (due .insts) (view n m)) (due .items) d′ (splice m 512 7744 s′) area′ noticed-here
-                    room slots-here (x .items) (slots-size n m (r .long) s′ long′) ready-d′)
+                    room slots-here (x .items) (slots-size n m (r .long) s′ long′) (slots-beyond n m (r .long) s′ long′) ready-d′)

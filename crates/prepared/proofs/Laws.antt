@@ -54,4 +54,4 @@ module _ (n : Node) (m area : List ℕ) (b : ℕ) (t p : Bool) (e : t ≡ ready 
   unfolding effect
   prepared-taken d h v w =
       taken-by (machine.Prepared b) n m area t e f 0 (sym (ap (λ (x : Bool). if x then 0 else 13) (not-false p h)) ∙ number-is) refl (prepared (view n m) b) d m
-      refl v refl (w ∙ sym e ∙ not-false t f)
+      refl v refl (λ j l. refl) (w ∙ sym e ∙ not-false t f)

@@ -12,7 +12,8 @@ use borrow.Author.Tests.{lt-ltb, le-ltb, le-leb, lt-leb, ltb-true, ltb-false, le
 use lib.Dec.{ltb, leb}
 use lib.ListN.{length}
 use Rattle.words.specs.Choice.{if_then_else_, ifNone_then_else_}
-use Rattle.words.specs.Part.{part, splice, length-part}
+use Rattle.words.specs.Part.{part, splice, Untouched, length-part}
+use Rattle.ids.specs.Limits.{nodeWords}
 use Rattle.words.specs.Writes.{writes}
 use Rattle.ids.specs.declared.Slot.{Slot}
 use Rattle.packed.specs.Key.{bytesOf, keyIn, atMost48}
@@ -38,7 +39,7 @@ use Rattle.inspect.specs.declared.Answer.the-variants.{HeldBy}
 use Rattle.inspect.proofs.Answer.{the-type}
 use Rattle.inspect.proofs.Laws.{Waiting, waiting, holds-none}
 use Rattle.node.proofs.Calls.{Ready, is-ready, refused-by, few-places, taken-with}
-use Rattle.node.proofs.Frames.{slots-back, slots-size, slots-ready}
+use Rattle.node.proofs.Frames.{slots-back, slots-size, slots-beyond, slots-ready}
 use Rattle.node.proofs.Slots.{not-below, not-past, held-at, set-at}
 use Rattle.node.specs.View.{view, ready, lowest}
 use Rattle.node.specs.declared.Node.{Node}
@@ -222,6 +223,9 @@ module _ (n : Node) (m : List ℕ) (slot : ℕ) (w : Waiting (view n m) slot) wh
     pub hold-size : length (splice m 512 7744 t) ≡ length m
     hold-size = slots-size n m (r .long) t long
 
+    pub hold-beyond : Untouched nodeWords m (splice m 512 7744 t)
+    hold-beyond = slots-beyond n m (r .long) t long
+
     pub hold-ready : ready n (splice m 512 7744 t) ≡ ready n m
     hold-ready = slots-ready n m (r .long) t long
 
@@ -292,16 +296,16 @@ module _ (n : Node) (m area : List ℕ) (client request leases : ℕ) (key : Lis
                   none-left d = let h = ltb-false 0 (places area) d in omega arith
 
               module _ (v : not r ≡ false) where
-                taken : (m′ : List ℕ) → view n m′ ≡ answered (view n m) q (answerIn a) .replica → length m′ ≡ length m → ready n m′ ≡ ready n m
+                taken : (m′ : List ℕ) → view n m′ ≡ answered (view n m) q (answerIn a) .replica → length m′ ≡ length m → Untouched nodeWords m m′ → ready n m′ ≡ ready n m
                     → Answers ready view call n m area (record { number = 0; count = 1; node = n }) m′ area′
-                taken m′ x₁ x₂ x₃ =
+                taken m′ x₁ x₂ x₃ x₄ =
                     let d : ltb 0 (places area) ≡ true = sym placed ∙ not-false r v in
                     let h : 0 < places area = ltb-true 0 (places area) d in
                     taken-with call n m area t e f 0 number-0 refl (answered (view n m) q (answerIn a) .replica) (itemOf x ∷ []) n m′ area′ effect-is (omega arith) x₁
-                    (ap (λ (o : Put). o .area) z ∙ put-area area (itemOf x) d) x₂ (x₃ ∙ sym e ∙ not-false t f)
+                    (ap (λ (o : Put). o .area) z ∙ put-area area (itemOf x) d) x₂ x₃ (x₄ ∙ sym e ∙ not-false t f)
 
                 pub served : OneOf (0 ∷ 1 ∷ 2 ∷ 3 ∷ 5 ∷ []) (tagOf the-type a) → Answers ready view call n m area (record { number = 0; count = 1; node = n }) m area′
-                served o = taken m (sym (holds-none (view n m) q a o)) refl refl
+                served o = taken m (sym (holds-none (view n m) q a o)) refl (λ j l. refl) refl
 
                 module _ (slot : Slot) (o : a ≡ HeldBy slot) where
                   waits : Waiting (view n m) (slot .0)
@@ -320,4 +324,4 @@ module _ (n : Node) (m area : List ℕ) (client request leases : ℕ) (key : Lis
                       let b′ : Ready n m = is-ready n m t e f in
                       taken (splice m 512 7744 s)
                       (hold-view n m (slot .0) waits b′ q s d′ ∙ ap (λ (y : Answer). answered (view n m) q (answerIn y) .replica) (sym o))
-                      (hold-size n m (slot .0) waits b′ q s d′) (hold-ready n m (slot .0) waits b′ q s d′)
+                      (hold-size n m (slot .0) waits b′ q s d′) (hold-beyond n m (slot .0) waits b′ q s d′) (hold-ready n m (slot .0) waits b′ q s d′)

@@ -9,7 +9,8 @@ use lib.Dec.{ltb, leb, eqb}
 use lib.ListN.{length, set, take, drop, replicate, getElem?}
 use borrow.Author.Tests.{lt-ltb, le-ltb, le-leb, lt-leb, eq-eqb, ne-eqb, ltb-false, leb-false, not-true, not-false}
 use Rattle.words.specs.Choice.{if_then_else_, ifNone_then_else_}
-use Rattle.words.specs.Part.{part, splice, length-part, part-before}
+use Rattle.words.specs.Part.{part, splice, Untouched, length-part, part-before}
+use Rattle.ids.specs.Limits.{nodeWords}
 use Rattle.ids.specs.Leader.{leaderOf}
 use Rattle.responders.specs.Edits.{view as rosterOf}
 use Rattle.cells.specs.Cell.{Notices, Short, cellAt, hasBook, bookOf as noticesOf}
@@ -33,7 +34,7 @@ use Rattle.node.specs.declared.Node.{Node}
 use Rattle.node.specs.declared.Answered.{Answered}
 use Rattle.node.specs.View.{view, ready, givenOf, lowest, leadsIt}
 use Rattle.node.proofs.Calls.{Ready, is-ready, made-ready, gives-2, refused-by, taken-by}
-use Rattle.node.proofs.Frames.{slots-back, slots-size, written-back, written-size}
+use Rattle.node.proofs.Frames.{slots-back, slots-size, slots-beyond, written-back, written-size, written-beyond}
 use Rattle.record.specs.Records.{batchRefusal, slotRefusal, lateRefusal, ended, freshAcks, keptBook, acceptingShort, seenReads, Pads, acceptingBy, Records, Recorded}
 
 -- ---- 5, 8, 9, and the others after them
@@ -402,6 +403,9 @@ module _ (n : Node) (m : List ℕ) (slot ballot : ℕ) (ok : ready n m ≡ true)
         size₂ : length m₂ ≡ length m
         size₂ = slots-size d m₁ (rw size₁ (r .long)) s′ long-s ∙ size₁
 
+        beyond₂ : Untouched nodeWords m m₂
+        beyond₂ j l = slots-beyond d m₁ (rw size₁ (r .long)) s′ long-s j l ∙ written-beyond d m (r .long) w′ long-w j l
+
         abbrev padded : List Instance
         padded = instsOf start (n .slots) words ++ replicate (slot + 1 - (start + n .slots)) nullInstance
 
@@ -446,7 +450,7 @@ module _ (n : Node) (m : List ℕ) (slot ballot : ℕ) (ok : ready n m ≡ true)
             }
 
         pub is-written : Recorded slot ballot reqs n m d m₂
-        is-written = record { replica = view-is; readied = made-ready d m₂ again; size = size₂ }
+        is-written = record { replica = view-is; readied = made-ready d m₂ again; size = size₂; beyond = beyond₂ }
 
 -- ---- the call
 
@@ -499,7 +503,7 @@ module _ (n : Node) (m area : List ℕ) (slot ballot : ℕ) (rows text : List �
         pub is-recorded : j ≡ 0 → (n′ : Node) (m′ : List ℕ) → Recorded slot ballot reqs n m n′ m′ → Answers ready view (Record slot ballot qs) n m area (record { number = 0; count = 0; node = n′ }) m′ area
         unfolding effect
         is-recorded y n′ m′ w =
-            taken-by (Record slot ballot qs) n m area true (sym is-made) refl j number-is y (recorded (view n m) slot ballot qs) n′ m′ refl (w .replica ∙ ap (recorded (view n m) slot ballot) x) (w .size)
+            taken-by (Record slot ballot qs) n m area true (sym is-made) refl j number-is y (recorded (view n m) slot ballot qs) n′ m′ refl (w .replica ∙ ap (recorded (view n m) slot ballot) x) (w .size) (w .beyond)
             (w .readied)
 
 -- ---- 2 before the batch

@@ -7,8 +7,8 @@ use Prim.Native.Nat.{ℕ, _+_, _-_, _≤_, _<_}
 use lib.Dec.{ltb, leb, eqb}
 use lib.ListN.{length, set, replicate, getElem?}
 use Rattle.words.specs.Choice.{if_then_else_, ifNone_then_else_}
-use Rattle.words.specs.Part.{part}
-use Rattle.ids.specs.Limits.{window, batch}
+use Rattle.words.specs.Part.{part, Untouched}
+use Rattle.ids.specs.Limits.{window, batch, nodeWords}
 use Rattle.ids.specs.Leader.{leaderOf}
 use Rattle.responders.specs.Ground.{Ground, _when_or_}
 use Rattle.bodega.specs.Replica.{Request, ReadReq, Instance, Accepting, newBook, nullInstance, isOpen}
@@ -107,3 +107,4 @@ pub record Recorded (slot ballot : ℕ) (reqs : List Request) (n : Node) (mem : 
   pub replica : view n′ mem′ ≡ recorded (view n mem) slot ballot reqs
   pub readied : ready n′ mem′ ≡ true
   pub size : length mem′ ≡ length mem
+  pub beyond : Untouched nodeWords mem mem′

@@ -27,7 +27,7 @@ use Rattle.localread.proofs.Machine.{release-is, emptied-is}
 use Rattle.node.specs.declared.Node.{Node}
 use Rattle.node.specs.View.{view, ready, lowest}
 use Rattle.node.proofs.Calls.{Ready, is-ready, refused-by, few-places, taken-with, none-applies}
-use Rattle.node.proofs.Frames.{slots-back, slots-size, slots-ready}
+use Rattle.node.proofs.Frames.{slots-back, slots-size, slots-beyond, slots-ready}
 use Rattle.node.proofs.Slots.{not-below, not-past, held-at, set-at}
 use Rattle.release.specs.Release.{releaseRefusal}
 
@@ -120,4 +120,4 @@ module _ (n : Node) (m area : List ℕ) (slot : ℕ) (t : Bool) (e : t ≡ ready
             (taken-with (machine.Release slot) n m area t e f k number-is z (machine.setInst slot (emptied inst) (view n m)) items n (splice m 512 7744 s′) area′
             effect-is (rw many q)
             (slots-back n m (r .long) s′ l ∙ set-at n m slot (in-window .0) (in-window .1) (r .window) (x .emptied) ∙ ap (λ (i : machine.Instance). machine.setInst slot i (view n m)) (emptied-is s (slot % 32)))
-            (x .items) (slots-size n m (r .long) s′ l) (slots-ready n m (r .long) s′ l ∙ sym e ∙ not-false t f))
+            (x .items) (slots-size n m (r .long) s′ l) (slots-beyond n m (r .long) s′ l) (slots-ready n m (r .long) s′ l ∙ sym e ∙ not-false t f))

@@ -28,7 +28,7 @@ use Rattle.node.specs.declared.Node.{Node}
 use Rattle.node.specs.View.{view, ready, lowest, leadsIt}
 use Rattle.words.proofs.Tests.{and-both}
 use Rattle.node.proofs.Calls.{Ready, is-ready, refused-by, none-applies, few-places, taken-with, taken-by}
-use Rattle.node.proofs.Frames.{slots-back, slots-size, slots-ready}
+use Rattle.node.proofs.Frames.{slots-back, slots-size, slots-beyond, slots-ready}
 use Rattle.node.proofs.Slots.{not-past, held-at, set-at}
 use Rattle.reply.specs.declared.Missed.the-variants.{Skip, Stop, Send}
 use Rattle.reply.specs.declared.Ack.{Ack}
@@ -285,7 +285,7 @@ module _ (n : Node) (m area : List ℕ) (peer slot ballot : ℕ) (t : Bool) (e :
       not-awaited v =
           taken-by call n m area t e f k g′ z (view n m) n m
           (handled-at n m peer slot ballot ∙ ap (λ (b : Bool). if b then takeAck (view n m) peer slot ballot (resent n m peer slot ballot) else machine.done (view n m) []) (sym w ∙ not-true u v))
-          refl refl (sym e ∙ not-false t f)
+          refl refl (λ j l. refl) (sym e ∙ not-false t f)
 
       module _ (v : not u ≡ false) where
         is-awaited : (not (ltb slot (n .«start_slot» .0)) ≡ true) × (eqb ballot (n .«bal_prepared» .0) && leadsIt (leaderOf (n .«bodega_conf» .leader)) (n .id .0) ≡ true)
@@ -362,4 +362,4 @@ module _ (n : Node) (m area : List ℕ) (peer slot ballot : ℕ) (t : Bool) (e :
                 let long : length s′ ≡ 7744 = acts-size a words s′ (slot % 32) (x .3) ∙ words-long in
                 subst (λ (c : ℕ). Answers ready view call n m area (record { number = 0; count = c; node = n }) (splice m 512 7744 s′) area′) (sym (x .0))
                 (taken-with call n m area t e f k g′ z (after a slot here (view n m)) items n (splice m 512 7744 s′) area′ effect-is (x .1)
-                (slots-back n m (r .long) s′ long ∙ after-is a s′ (x .3)) (x .2) (slots-size n m (r .long) s′ long) (slots-ready n m (r .long) s′ long ∙ sym e ∙ not-false t f))
+                (slots-back n m (r .long) s′ long ∙ after-is a s′ (x .3)) (x .2) (slots-size n m (r .long) s′ long) (slots-beyond n m (r .long) s′ long) (slots-ready n m (r .long) s′ long ∙ sym e ∙ not-false t f))

@@ -9,7 +9,8 @@ use lib.ListN.{length}
 use Rattle.words.specs.Choice.{if_then_else_}
 use Rattle.ids.specs.Leader.{leaderOf}
 use Rattle.ids.specs.Limits.{ranges, replicas}
-use Rattle.keyrange.specs.Rows.{rangesOf, Untouched}
+use Rattle.words.specs.Part.{Untouched}
+use Rattle.keyrange.specs.Rows.{rangesOf}
 use Rattle.responders.specs.declared.RespondersConf.{RespondersConf}
 use Rattle.responders.specs.declared.Edited.{Edited}
 use Rattle.responders.specs.declared.Edited.the-variants.{Taken, Refused}
@@ -37,7 +38,7 @@ due population c rows e = if holdsRows (length rows) (c .count) && inRange popul
 pub record Leaves (c : Conf) (before : List ℕ) (d : RespondersConf) (after : List ℕ) : Type 0 where
   pub roster : view d after ≡ c
   pub few : d .count ≤ ranges
-  pub beyond : Untouched before after
+  pub beyond : Untouched (ranges * 5) before after
 
 -- a refusal gives the number, and the words stay as they were
 abbrev pub Gives : Answer → Edited → List ℕ → List ℕ → Type 0
