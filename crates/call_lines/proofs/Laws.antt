@@ -1,6 +1,6 @@
 -- A line's fields as a call's arguments. Assumes nothing.
 use mathlib.Core.Path.{_≡_, refl, sym, ap, subst, _∙_, fun-ext}
-use mathlib.Core.Bool.{Bool, true, false, not, _&&_, and-true, and-false}
+use mathlib.Core.Bool.{Bool, true, false, not, _&&_, and-true, and-false, true≢false}
 use mathlib.Core.List.{List, [], _∷_, _++_}
 use mathlib.Core.Option.{Option, none, some}
 use Prim.Native.Nat.{ℕ, _<_, _≤_}
@@ -10,75 +10,101 @@ use lib.ListN.{length, getD}
 use borrow.Author.Tests.{le-leb, lt-ltb, le-ltb, ltb-true, ltb-false, ne-eqb, eq-eqb, not-true, not-false}
 use Rattle.words.specs.Choice.{if_then_else_}
 use Rattle.items.specs.Item.{places}
-use Rattle.responders.specs.Edits.{holdsRows}
+use Rattle.ids.specs.declared.Replica.{Replica}
+use Rattle.responders.specs.declared.RespondersConf.{RespondersConf}
+use Rattle.responders.specs.Edits.{view as rosterOf, holdsRows}
 use Rattle.responders.specs.Conf.{Conf}
-use Rattle.bodega.specs.Replica.{Call, Heartbeat, Guard, Reply, Notice, CommitNotice, Read}
-use Rattle.bodega.specs.Grounds.{grounds}
+use Rattle.bodega.specs.Replica as machine
+use Rattle.bodega.specs.Replica.{Call, Heartbeat, Guard, Reply, Notice, CommitNotice}
+use Rattle.bodega.specs.Grounds.{grounds, unformed}
 use Rattle.bodega.specs.Step.{Step, Refused, step, turnedAway}
 use Rattle.bodega.specs.Answers.{due, Follows, Answers}
 use Rattle.node.specs.declared.Node.{Node}
 use Rattle.node.specs.declared.Answered.{Answered}
 use Rattle.node.specs.View.{view, ready, givenOf}
 use Rattle.node.proofs.Calls.{is-ready}
+use Rattle.apply.specs.declared.Call as code
+use Rattle.apply.specs.declared.Call.the-variants as call
+use Rattle.apply.specs.Call.{callOf as applied, readyFor}
 use Rattle.fields.specs.Split.{Bytes, fieldsFrom}
 use Rattle.fields.specs.Number.{isNumber, valueOf, numbers, numberAt}
-use Rattle.fields.specs.Reads.{noneLeft, between, ReadsField, ReadsNumberAt}
+use Rattle.fields.specs.Reads.{noneLeft, between, ReadsField, ReadsNumberAt, ReadsNumbers}
 use Rattle.fields.specs.declared.Field.{Field}
 use Rattle.fields.specs.declared.NumberAt.{NumberAt}
 use Rattle.fields.proofs.Laws.{all-read, none-left}
-use Rattle.reader.specs.declared.NumberFields.{NumberFields}
-use Rattle.reader.specs.Takes.{valuesOf, ReadsAs}
 use Rattle.heartbeat.specs.Heartbeat.{carried, fitting}
 use Rattle.fields.specs.declared.CallKind.{CallKind}
+use Rattle.fields.specs.declared.CallKind.the-variants as kinds
 use Rattle.hosts.specs.Line.{isHeard, isRead, isCall, callOf}
 use Rattle.hosts.specs.Acts.{AnswersLine, asByte}
 use Rattle.hosts.proofs.Laws.{not-both, some-left}
 use Rattle.call_lines.specs.declared.ReadFields.{ReadFields}
+use Rattle.call_lines.specs.declared.Asked.{Asked}
+use Rattle.call_lines.specs.declared.HeardFields.{HeardFields}
 use Rattle.call_lines.specs.ReadsRead.{ReadsRead}
+use Rattle.call_lines.specs.Asks.{inByte, width, callBy, noCall, AsksNumbers, Asks, heardBy, ReadsHeard}
 
--- ---- a replica number that no byte has
+-- ---- a replica number that no byte has: from 255 on the number of the refusal is the same
 
 module _ (n : Node) (m : List ℕ) (places : ℕ) where
   past : (peer : ℕ) → 255 ≤ peer → ready n m ≡ true → leb (n .population) peer ≡ true
   past peer h e = le-leb (n .population) peer (omega (arith, is-ready n m true (sym e) refl))
 
-  pub guard-3 : (peer number bar : ℕ) → 255 ≤ peer → ready n m ≡ true → turnedAway (view n m) (Guard peer number bar) places ≡ some 3
+  guard-3 : (number bar peer : ℕ) → 255 ≤ peer → ready n m ≡ true → turnedAway (view n m) (Guard peer number bar) places ≡ some 3
   unfolding turnedAway grounds view
-  guard-3 peer number bar h e = rw (past peer h e)
+  guard-3 number bar peer h e = rw (past peer h e)
 
-  pub reply-3 : (peer slot ballot : ℕ) → 255 ≤ peer → ready n m ≡ true → turnedAway (view n m) (Reply peer slot ballot) places ≡ some 3
+  reply-3 : (slot ballot peer : ℕ) → 255 ≤ peer → ready n m ≡ true → turnedAway (view n m) (Reply peer slot ballot) places ≡ some 3
   unfolding turnedAway grounds view
-  reply-3 peer slot ballot h e = rw (past peer h e)
+  reply-3 slot ballot peer h e = rw (past peer h e)
 
-  pub notice-3 : (peer slot ballot : ℕ) → 255 ≤ peer → ready n m ≡ true → turnedAway (view n m) (Notice peer slot ballot) places ≡ some 3
+  notice-3 : (slot ballot peer : ℕ) → 255 ≤ peer → ready n m ≡ true → turnedAway (view n m) (Notice peer slot ballot) places ≡ some 3
   unfolding turnedAway grounds view
-  notice-3 peer slot ballot h e = rw (past peer h e)
+  notice-3 slot ballot peer h e = rw (past peer h e)
 
-  pub commit-3 : (peer ballot bar : ℕ) → 255 ≤ peer → ready n m ≡ true → turnedAway (view n m) (CommitNotice peer ballot bar) places ≡ some 3
+  commit-3 : (ballot bar peer : ℕ) → 255 ≤ peer → ready n m ≡ true → turnedAway (view n m) (CommitNotice peer ballot bar) places ≡ some 3
   unfolding turnedAway grounds view
-  commit-3 peer ballot bar h e = rw (past peer h e)
+  commit-3 ballot bar peer h e = rw (past peer h e)
 
-  pub heartbeat-3 : (ballot : ℕ) (conf : Option Conf) (commit exec snap peer : ℕ) → 255 ≤ peer → ready n m ≡ true → turnedAway (view n m) (Heartbeat peer ballot conf commit exec snap) places ≡ some 3
+  heartbeat-3 : (ballot : ℕ) (conf : Option Conf) (commit exec snap peer : ℕ) → 255 ≤ peer → ready n m ≡ true
+      → turnedAway (view n m) (Heartbeat peer ballot conf commit exec snap) places ≡ some (if unformed conf then 2 else 3)
   unfolding turnedAway grounds view
-  heartbeat-3 ballot conf commit exec snap peer h e = rw (past peer h e)
+  heartbeat-3 ballot conf commit exec snap peer h e = go (unformed conf) refl
+    where
+      go : (t : Bool) → unformed conf ≡ t → turnedAway (view n m) (Heartbeat peer ballot conf commit exec snap) places ≡ some (if t then 2 else 3)
+      go true f = rw f
+      go false f = rw (f, past peer h e)
 
--- a call that is refused 3 from 255 on
-as-byte : (c : ℕ → Call) (n : Node) (m area m′ area′ : List ℕ) (r : Answered) (b peer : ℕ) → ((p : ℕ) → 255 ≤ p → ready n m ≡ true → turnedAway (view n m) (c p) (places area) ≡ some 3)
-    → b ≡ asByte peer → Answers ready view (c b) n m area (givenOf r) m′ area′ → Answers ready view (c peer) n m area (givenOf r) m′ area′
-unfolding due step
-as-byte c n m area m′ area′ r b peer f e a = go (ltb 255 peer) refl (rw e at a)
-  where
-    due-3 : (p : ℕ) → 255 ≤ p → (t : Bool) → ready n m ≡ t → (if t then step (view n m) (c p) (places area) else Refused 2) ≡ (if t then Refused 3 else Refused 2)
-    due-3 p l true g = rw (f p l g)
-    due-3 p l false g = refl
+module _ (n : Node) (m area m′ area′ : List ℕ) (r : Answered) where
+  as-byte : (c : ℕ → Call) (k peer : ℕ) → ((p : ℕ) → 255 ≤ p → ready n m ≡ true → turnedAway (view n m) (c p) (places area) ≡ some k)
+      → Answers ready view (c (asByte peer)) n m area (givenOf r) m′ area′ → Answers ready view (c peer) n m area (givenOf r) m′ area′
+  unfolding due step
+  as-byte c k peer f a = go (ltb 255 peer) refl a
+    where
+      due-k : (p : ℕ) → 255 ≤ p → (t : Bool) → ready n m ≡ t → (if t then step (view n m) (c p) (places area) else Refused 2) ≡ (if t then Refused k else Refused 2)
+      due-k p l true g = rw (f p l g)
+      due-k p l false g = refl
 
-    go : (t : Bool) → ltb 255 peer ≡ t → Answers ready view (c (if t then 255 else peer)) n m area (givenOf r) m′ area′ → Answers ready view (c peer) n m area (givenOf r) m′ area′
-    go true g x =
-        let q = due-3 255 (omega arith) (ready n m) refl ∙ sym (due-3 peer (omega (arith, ltb-true 255 peer g)) (ready n m) refl) in
-        subst (λ (y : Step). Follows ready view y n m area (givenOf r) m′ area′) q x
-    go false g x = x
+      go : (t : Bool) → ltb 255 peer ≡ t → Answers ready view (c (if t then 255 else peer)) n m area (givenOf r) m′ area′ → Answers ready view (c peer) n m area (givenOf r) m′ area′
+      go true g x =
+          let q = due-k 255 (omega arith) (ready n m) refl ∙ sym (due-k peer (omega (arith, ltb-true 255 peer g)) (ready n m) refl) in
+          subst (λ (y : Step). Follows ready view y n m area (givenOf r) m′ area′) q x
+      go false g x = x
 
--- ---- fields that are not well-formed
+  -- what is answered to the call in bytes is answered to the call
+  in-byte : (c : Call) → Answers ready view (inByte c) n m area (givenOf r) m′ area′ → Answers ready view c n m area (givenOf r) m′ area′
+  in-byte (machine.Heartbeat peer ballot conf commit exec snap) a = as-byte (λ p. Heartbeat p ballot conf commit exec snap) _ peer (heartbeat-3 n m (places area) ballot conf commit exec snap) a
+  in-byte (machine.Guard peer number bar) a = as-byte (λ p. Guard p number bar) 3 peer (guard-3 n m (places area) number bar) a
+  in-byte (machine.Prepared ballot) a = a
+  in-byte (machine.Record slot ballot reqs) a = a
+  in-byte (machine.Reply peer slot ballot) a = as-byte (λ p. Reply p slot ballot) 3 peer (reply-3 n m (places area) slot ballot) a
+  in-byte (machine.Notice peer slot ballot) a = as-byte (λ p. Notice p slot ballot) 3 peer (notice-3 n m (places area) slot ballot) a
+  in-byte (machine.CommitNotice peer ballot bar) a = as-byte (λ p. CommitNotice p ballot bar) 3 peer (commit-3 n m (places area) ballot bar) a
+  in-byte (machine.Bars start accept commit exec) a = a
+  in-byte (machine.Read leases q) a = a
+  in-byte (machine.Release slot) a = a
+
+-- ---- a line whose fields are not well-formed, and one whose call was made
 
 pub malformed : (good : Bool) (c : Call) (n : Node) (m area : List ℕ) (r : Answered) → good ≡ false → r ≡ record { number = 1; count = 0; node = n }
     → AnswersLine good c n m area r m area
@@ -88,88 +114,179 @@ malformed good c n m area r g e =
       well = λ b. not-both g b;
     }
 
-pub well-formed : (good : Bool) (c : Call) (n : Node) (m area m′ area′ : List ℕ) (r : Answered) → good ≡ true → Answers ready view c n m area (givenOf r) m′ area′
+well-formed : (good : Bool) (c : Call) (n : Node) (m area m′ area′ : List ℕ) (r : Answered) → good ≡ true → Answers ready view (inByte c) n m area (givenOf r) m′ area′
     → AnswersLine good c n m area r m′ area′
 well-formed good c n m area m′ area′ r g h =
     record {
       bad = λ b. not-both b g;
-      well = λ b. h;
+      well = λ b. in-byte n m area m′ area′ r c h;
     }
 
-module _ (s : Bytes) (at k : ℕ) (x : NumberFields) (h : ReadsAs s at k x) where
-  pub not-numbers : (c : Call) (n : Node) (m area : List ℕ) (r : Answered) → not (x .good) ≡ true → r ≡ record { number = 1; count = 0; node = n }
-      → AnswersLine (numbers k (fieldsFrom s at)) c n m area r m area
-  not-numbers c n m area r f e = malformed _ c n m area r (sym (h .good) ∙ not-true (x .good) f) e
+-- ---- the calls but for the heartbeat ask nothing of the rows
 
-  module _ (f : not (x .good) ≡ false) where
-    are-numbers : numbers k (fieldsFrom s at) ≡ true
-    are-numbers = sym (h .good) ∙ not-false (x .good) f
+abbrev beats : Call → Bool
+beats (machine.Heartbeat peer ballot conf commit exec snap) = true
+beats (machine.Guard peer number bar) = false
+beats (machine.Prepared ballot) = false
+beats (machine.Record slot ballot reqs) = false
+beats (machine.Reply peer slot ballot) = false
+beats (machine.Notice peer slot ballot) = false
+beats (machine.CommitNotice peer ballot bar) = false
+beats (machine.Bars start accept commit exec) = false
+beats (machine.Read leases q) = false
+beats (machine.Release slot) = false
 
-    value : (i : ℕ) → i < k → getD (valuesOf x) i 0 ≡ numberAt (fieldsFrom s at) i
-    value i l = h .values (not-false (x .good) f) i l
+no-beat : (kind : CallKind) (fs : List Bytes) → beats (inByte (callOf kind fs)) ≡ false
+no-beat kinds.Guard fs = refl
+no-beat kinds.Prepared fs = refl
+no-beat kinds.Reply fs = refl
+no-beat kinds.Notice fs = refl
+no-beat kinds.Commit fs = refl
+no-beat kinds.Bars fs = refl
+no-beat kinds.Read fs = refl
+no-beat kinds.Release fs = refl
 
-    module _ (n : Node) (m area m′ area′ : List ℕ) (r : Answered) where
-      pub one : (c : ℕ → Call) → 0 < k → Answers ready view (c (x .first)) n m area (givenOf r) m′ area′
-          → AnswersLine (numbers k (fieldsFrom s at)) (c (numberAt (fieldsFrom s at) 0)) n m area r m′ area′
-      one c l a = well-formed _ _ n m area m′ area′ r are-numbers (rw (value 0 l) at a)
+ready-for : (d : code.Call) (rows text : List ℕ) → beats (applied d rows text) ≡ false → readyFor d rows ≡ ready
+ready-for (call.Heartbeat peer ballot attached conf commit exec snap) rows text e = absurd (true≢false e)
+ready-for (call.Guard peer number bar) rows text e = refl
+ready-for (call.Prepared ballot) rows text e = refl
+ready-for (call.Record slot ballot) rows text e = refl
+ready-for (call.Reply peer slot ballot) rows text e = refl
+ready-for (call.Notice peer slot ballot) rows text e = refl
+ready-for (call.Commit peer ballot bar) rows text e = refl
+ready-for (call.Bars start accept commit exec) rows text e = refl
+ready-for (call.Read client request leases) rows text e = refl
+ready-for (call.Release slot) rows text e = refl
 
-      three : (c : ℕ → ℕ → ℕ → Call) → 2 < k → Answers ready view (c (x .first) (x .second) (x .third)) n m area (givenOf r) m′ area′
-          → AnswersLine (numbers k (fieldsFrom s at)) (c (numberAt (fieldsFrom s at) 0) (numberAt (fieldsFrom s at) 1) (numberAt (fieldsFrom s at) 2)) n m area r m′ area′
-      three c l a = well-formed _ _ n m area m′ area′ r are-numbers (rw (value 0 (omega arith), value 1 (omega arith), value 2 l) at a)
+module _ (kind : CallKind) (s : Bytes) (at : ℕ) (x : Asked) (h : Asks (isCall kind (fieldsFrom s at)) (callOf kind (fieldsFrom s at)) s x) (n : Node) (m area : List ℕ) (r : Answered) where
+  pub not-asked : not (x .good) ≡ true → r ≡ record { number = 1; count = 0; node = n } → AnswersLine (isCall kind (fieldsFrom s at)) (callOf kind (fieldsFrom s at)) n m area r m area
+  not-asked f e = malformed _ _ n m area r (sym (h .good) ∙ not-true (x .good) f) e
 
-      pub from-peer : (c : ℕ → ℕ → ℕ → Call) (b : ℕ) → ((p y z : ℕ) → 255 ≤ p → ready n m ≡ true → turnedAway (view n m) (c p y z) (places area) ≡ some 3) → 2 < k → b ≡ asByte (x .first)
-          → Answers ready view (c b (x .second) (x .third)) n m area (givenOf r) m′ area′
-          → AnswersLine (numbers k (fieldsFrom s at)) (c (numberAt (fieldsFrom s at) 0) (numberAt (fieldsFrom s at) 1) (numberAt (fieldsFrom s at) 2)) n m area r m′ area′
-      from-peer c b g l e a = three c l (as-byte (λ p. c p (x .second) (x .third)) n m area m′ area′ r b (x .first) (λ p. g p (x .second) (x .third)) e a)
+  pub is-asked : (rows m′ area′ : List ℕ) → not (x .good) ≡ false
+      → Answers (readyFor (x .call) rows) view (applied (x .call) rows (between s (x .start) (x .end))) n m area (givenOf r) m′ area′
+      → AnswersLine (isCall kind (fieldsFrom s at)) (callOf kind (fieldsFrom s at)) n m area r m′ area′
+  is-asked rows m′ area′ f a =
+      let e = h .call (not-false (x .good) f) rows in
+      let q = ready-for (x .call) rows (between s (x .start) (x .end)) (ap beats e ∙ no-beat kind (fieldsFrom s at)) in
+      well-formed _ _ n m area m′ area′ r (sym (h .good) ∙ not-false (x .good) f)
+      (subst (λ (c : Call). Answers ready view c n m area (givenOf r) m′ area′) e
+      (subst (λ (z : Node → List ℕ → Bool). Answers z view (applied (x .call) rows (between s (x .start) (x .end))) n m area (givenOf r) m′ area′) q a))
 
-      pub four : (c : ℕ → ℕ → ℕ → ℕ → Call) → 3 < k → Answers ready view (c (x .first) (x .second) (x .third) (x .fourth)) n m area (givenOf r) m′ area′
-          → AnswersLine (numbers k (fieldsFrom s at)) (c (numberAt (fieldsFrom s at) 0) (numberAt (fieldsFrom s at) 1) (numberAt (fieldsFrom s at) 2) (numberAt (fieldsFrom s at) 3)) n m area r m′ area′
-      four c l a = well-formed _ _ n m area m′ area′ r are-numbers (rw (value 0 (omega arith), value 1 (omega arith), value 2 (omega arith), value 3 l) at a)
+-- ---- the call of a line
 
-pub of-kind : (k x : CallKind) (fs : List Bytes) (n : Node) (m area m′ area′ : List ℕ) (r : Answered) → k ≡ x → AnswersLine (isCall x fs) (callOf x fs) n m area r m′ area′
-    → AnswersLine (isCall k fs) (callOf k fs) n m area r m′ area′
-of-kind k x fs n m area m′ area′ r e f = subst (λ (y : CallKind). AnswersLine (isCall y fs) (callOf y fs) n m area r m′ area′) (sym e) f
+few : (kind : CallKind) → width kind ≤ 4
+few kinds.Guard = omega arith
+few kinds.Prepared = omega arith
+few kinds.Reply = omega arith
+few kinds.Notice = omega arith
+few kinds.Commit = omega arith
+few kinds.Bars = omega arith
+few kinds.Read = omega arith
+few kinds.Release = omega arith
 
--- ---- a heartbeat
+pub width-is : (k x : CallKind) → k ≡ x → (width x ≡ width k) × (width x ≤ 4)
+width-is k x e = (ap width (sym e), few x)
 
-fits-roster : (attached : Bool) (count : ℕ) (rows : List ℕ) → holdsRows (length rows) count ≡ true → fitting attached count rows ≡ true
-fits-roster true count rows h = h
-fits-roster false count rows h = refl
+-- numbers that agree below the width are the same call
+same-call : (kind : CallKind) (v w : ℕ → ℕ) (text : Bytes) → 0 < width kind → ((i : ℕ) → i < width kind → v i ≡ w i) → callBy kind v text ≡ callBy kind w text
+same-call kinds.Guard v w text p e = rw (e 0 (omega arith), e 1 (omega arith), e 2 (omega arith))
+same-call kinds.Prepared v w text p e = rw (e 0 (omega arith))
+same-call kinds.Reply v w text p e = rw (e 0 (omega arith), e 1 (omega arith), e 2 (omega arith))
+same-call kinds.Notice v w text p e = rw (e 0 (omega arith), e 1 (omega arith), e 2 (omega arith))
+same-call kinds.Commit v w text p e = rw (e 0 (omega arith), e 1 (omega arith), e 2 (omega arith))
+same-call kinds.Bars v w text p e = rw (e 0 (omega arith), e 1 (omega arith), e 2 (omega arith), e 3 (omega arith))
+same-call kinds.Read v w text p e = absurd (omega (arith, p))
+same-call kinds.Release v w text p e = rw (e 0 (omega arith))
 
--- a roster that is whole asks no more of the node
-whole-roster : (attached : Bool) (count : ℕ) (rows : List ℕ) (c : Call) (n : Node) (m area m′ area′ : List ℕ) (r : Answered) → holdsRows (length rows) count ≡ true
-    → Answers (λ (k : Node) (w : List ℕ). ready k w && fitting attached count rows) view c n m area (givenOf r) m′ area′ → Answers ready view c n m area (givenOf r) m′ area′
-whole-roster attached count rows c n m area m′ area′ r e h =
-    subst (λ (f : Node → List ℕ → Bool). Answers f view c n m area (givenOf r) m′ area′)
-    (fun-ext (λ (k : Node). fun-ext (λ (w : List ℕ). ap (λ (b : Bool). ready k w && b) (fits-roster attached count rows e) ∙ and-true (ready k w))))
-    h
+by-kind : (k x : CallKind) (v : ℕ → ℕ) (text : Bytes) (c : Call) → k ≡ x → c ≡ inByte (callBy x v text) → c ≡ inByte (callBy k v text)
+by-kind k x v text c e f = f ∙ sym (ap (λ (y : CallKind). inByte (callBy y v text)) e)
 
-module _ (s : Bytes) (at : ℕ) (x : NumberFields) (h : ReadsAs s at 6 x) where
-  pub not-heard : (c : Call) (n : Node) (m area : List ℕ) (r : Answered) → not (x .good) ≡ true → r ≡ record { number = 1; count = 0; node = n }
-      → AnswersLine (isHeard (fieldsFrom s at)) c n m area r m area
-  not-heard c n m area r f e = malformed _ c n m area r (ap (λ (t : Bool). t && ltb (numberAt (fieldsFrom s at) 2) 2) (sym (h .good) ∙ not-true (x .good) f)) e
+-- p is the peer's number in a byte
+module _ (k : CallKind) (v : ℕ → ℕ) (p : Replica) (e : p .0 ≡ asByte (v 0)) where
+  pub guard-by : k ≡ kinds.Guard → (rows text : List ℕ) → applied (call.Guard p (record { 0 = v 1 }) (record { 0 = v 2 })) rows text ≡ inByte (callBy k v text)
+  guard-by f rows text = by-kind k kinds.Guard v text _ f (ap (λ (b : ℕ). Guard b (v 1) (v 2)) e)
 
-  module _ (f : not (x .good) ≡ false) where
-    with-is : x .third ≡ numberAt (fieldsFrom s at) 2
-    with-is = value s at 6 x h f 2 (omega arith)
+  pub reply-by : k ≡ kinds.Reply → (rows text : List ℕ) → applied (call.Reply p (record { 0 = v 1 }) (record { 0 = v 2 })) rows text ≡ inByte (callBy k v text)
+  reply-by f rows text = by-kind k kinds.Reply v text _ f (ap (λ (b : ℕ). Reply b (v 1) (v 2)) e)
 
-    pub other-with : (c : Call) (n : Node) (m area : List ℕ) (r : Answered) → 1 < x .third → r ≡ record { number = 1; count = 0; node = n }
-        → AnswersLine (isHeard (fieldsFrom s at)) c n m area r m area
-    other-with c n m area r g e =
-        malformed _ c n m area r (rw (are-numbers s at 6 x h f, le-ltb (numberAt (fieldsFrom s at) 2) 2 (omega (arith, with-is)))) e
+  pub notice-by : k ≡ kinds.Notice → (rows text : List ℕ) → applied (call.Notice p (record { 0 = v 1 }) (record { 0 = v 2 })) rows text ≡ inByte (callBy k v text)
+  notice-by f rows text = by-kind k kinds.Notice v text _ f (ap (λ (b : ℕ). Notice b (v 1) (v 2)) e)
 
-    pub is-heard : (roster : Conf) (count : ℕ) (rows : List ℕ) (n : Node) (m area m′ area′ : List ℕ) (r : Answered) (b : ℕ) → holdsRows (length rows) count ≡ true → x .third ≤ 1 → b ≡ asByte (x .first)
-        → Answers (λ (k : Node) (w : List ℕ). ready k w && fitting (eqb (x .third) 1) count rows) view (Heartbeat b (x .second) (carried (eqb (x .third) 1) roster) (x .fourth) (x .fifth) (x .sixth)) n m area
-        (givenOf r) m′ area′
-        → AnswersLine (isHeard (fieldsFrom s at))
-        (Heartbeat (numberAt (fieldsFrom s at) 0) (numberAt (fieldsFrom s at) 1) (carried (eqb (numberAt (fieldsFrom s at) 2) 1) roster) (numberAt (fieldsFrom s at) 3) (numberAt (fieldsFrom s at) 4) (numberAt (fieldsFrom s at) 5))
-        n m area r m′ area′
-    is-heard roster count rows n m area m′ area′ r b w g e d =
-        let a = as-byte (λ p. Heartbeat p (x .second) (carried (eqb (x .third) 1) roster) (x .fourth) (x .fifth) (x .sixth)) n m area m′ area′ r b (x .first) (heartbeat-3 n m (places area) _ _ _ _ _) e
-        (whole-roster (eqb (x .third) 1) count rows _ n m area m′ area′ r w d) in
-        let v = value s at 6 x h f in
-        well-formed _ _ n m area m′ area′ r (rw (are-numbers s at 6 x h f, lt-ltb (numberAt (fieldsFrom s at) 2) 2 (omega (arith, with-is))))
-        (rw (v 0 (omega arith), v 1 (omega arith), with-is, v 3 (omega arith), v 4 (omega arith), v 5 (omega arith)) at a)
+  pub commit-by : k ≡ kinds.Commit → (rows text : List ℕ) → applied (call.Commit p (record { 0 = v 1 }) (record { 0 = v 2 })) rows text ≡ inByte (callBy k v text)
+  commit-by f rows text = by-kind k kinds.Commit v text _ f (ap (λ (b : ℕ). CommitNotice b (v 1) (v 2)) e)
+
+module _ (k : CallKind) (v : ℕ → ℕ) where
+  pub prepared-by : k ≡ kinds.Prepared → (rows text : List ℕ) → applied (call.Prepared (record { 0 = v 0 })) rows text ≡ inByte (callBy k v text)
+  prepared-by f rows text = by-kind k kinds.Prepared v text _ f refl
+
+  pub bars-by : k ≡ kinds.Bars → (rows text : List ℕ) → applied (call.Bars (record { 0 = v 0 }) (record { 0 = v 1 }) (record { 0 = v 2 }) (record { 0 = v 3 })) rows text ≡ inByte (callBy k v text)
+  bars-by f rows text = by-kind k kinds.Bars v text _ f refl
+
+  pub read-by : k ≡ kinds.Read → (rows text : List ℕ) → applied (call.Read (v 0) (v 1) (v 2)) rows text ≡ inByte (callBy k v text)
+  read-by f rows text = by-kind k kinds.Read v text _ f refl
+
+  pub release-by : k ≡ kinds.Release → (rows text : List ℕ) → applied (call.Release (record { 0 = v 0 })) rows text ≡ inByte (callBy k v text)
+  release-by f rows text = by-kind k kinds.Release v text _ f refl
+
+module _ (kind : CallKind) (n : ℕ) (w : n ≡ width kind) (p : 0 < n) (s : Bytes) (at : ℕ) (out out′ : List ℕ) (t : Bool) (h : ReadsNumbers s at n out t out′) where
+  pub no-numbers : (x : Asked) → not t ≡ true → x ≡ noCall → AsksNumbers kind (fieldsFrom s at) x
+  no-numbers x f e =
+      rw e
+      (record {
+        good = sym (not-true t f) ∙ h .good ∙ ap (λ (k : ℕ). numbers k (fieldsFrom s at)) w;
+        call = λ g. absurd (true≢false (sym g));
+        start = refl;
+        end = refl;
+      })
+
+  pub all-numbers : (d : code.Call) → not t ≡ false → ((rows text : List ℕ) → applied d rows text ≡ inByte (callBy kind (λ i. getD out′ i 0) text))
+      → AsksNumbers kind (fieldsFrom s at) (record { good = true; call = d; start = 0; end = 0 })
+  all-numbers d f e =
+      record {
+        good = sym (not-false t f) ∙ h .good ∙ ap (λ (k : ℕ). numbers k (fieldsFrom s at)) w;
+        call = λ g rows text.
+            e rows text
+            ∙ ap inByte (same-call kind (λ i. getD out′ i 0) (numberAt (fieldsFrom s at)) text (omega (arith, p, w)) (λ i l. h .values (not-false t f) i (omega (arith, l, w))));
+        start = refl;
+        end = refl;
+      }
+
+only-read : (kind : CallKind) → width kind ≡ 0 → kind ≡ kinds.Read
+only-read kinds.Guard e = absurd (omega (arith, e))
+only-read kinds.Prepared e = absurd (omega (arith, e))
+only-read kinds.Reply e = absurd (omega (arith, e))
+only-read kinds.Notice e = absurd (omega (arith, e))
+only-read kinds.Commit e = absurd (omega (arith, e))
+only-read kinds.Bars e = absurd (omega (arith, e))
+only-read kinds.Read e = refl
+only-read kinds.Release e = absurd (omega (arith, e))
+
+numbers-only : (kind : CallKind) (fs : List Bytes) (text : Bytes) → 0 < width kind → (isCall kind fs ≡ numbers (width kind) fs) × (callOf kind fs ≡ callBy kind (numberAt fs) text)
+numbers-only kinds.Guard fs text p = (refl, refl)
+numbers-only kinds.Prepared fs text p = (refl, refl)
+numbers-only kinds.Reply fs text p = (refl, refl)
+numbers-only kinds.Notice fs text p = (refl, refl)
+numbers-only kinds.Commit fs text p = (refl, refl)
+numbers-only kinds.Bars fs text p = (refl, refl)
+numbers-only kinds.Read fs text p = absurd (omega (arith, p))
+numbers-only kinds.Release fs text p = (refl, refl)
+
+module _ (kind : CallKind) (n : ℕ) (w : (n ≡ width kind) × (n ≤ 4)) (s : Bytes) (at : ℕ) (x : Asked) where
+  pub of-read : n ≡ 0 → Asks (isRead (fieldsFrom s at)) (callOf kinds.Read (fieldsFrom s at)) s x → Asks (isCall kind (fieldsFrom s at)) (callOf kind (fieldsFrom s at)) s x
+  of-read e h = subst (λ (k : CallKind). Asks (isCall k (fieldsFrom s at)) (callOf k (fieldsFrom s at)) s x) (sym (only-read kind (sym (w .0) ∙ e))) h
+
+  pub of-numbers : (n ≡ 0 → ⊥) → AsksNumbers kind (fieldsFrom s at) x → Asks (isCall kind (fieldsFrom s at)) (callOf kind (fieldsFrom s at)) s x
+  of-numbers z h =
+      let p : 0 < width kind = some-width (width kind) (λ e. z (w .0 ∙ e)) in
+      record {
+        good = h .good ∙ sym (numbers-only kind (fieldsFrom s at) [] p .0);
+        call = λ g rows. h .call g rows (between s (x .start) (x .end)) ∙ ap inByte (sym (numbers-only kind (fieldsFrom s at) (between s (x .start) (x .end)) p .1));
+        low = omega (arith, h .start, h .end);
+        high = omega (arith, h .end);
+      }
+    where
+      some-width : (k : ℕ) → (k ≡ 0 → ⊥) → 0 < k
+      some-width k f = omega (arith, f)
 
 -- ---- a read
 
@@ -253,16 +370,89 @@ module _ (s : Bytes) (at : ℕ) (x : NumberAt) (h : ReadsNumberAt s at x) where
                     };
               }
 
--- ---- the key of a read
+-- ---- the call of a read
 
-pub read-bad : (s : Bytes) (at : ℕ) (f : ReadFields) (c : Call) (n : Node) (m area : List ℕ) (r : Answered) → ReadsRead s at f → not (f .good) ≡ true → r ≡ record { number = 1; count = 0; node = n }
-    → AnswersLine (isRead (fieldsFrom s at)) c n m area r m area
-read-bad s at f c n m area r h g e = malformed _ c n m area r (sym (h .good) ∙ not-true (f .good) g) e
+module _ (s : Bytes) (at : ℕ) (f : ReadFields) (h : ReadsRead s at f) (x : Asked) where
+  pub read-bad : not (f .good) ≡ true → x ≡ noCall → Asks (isRead (fieldsFrom s at)) (callOf kinds.Read (fieldsFrom s at)) s x
+  read-bad g e =
+      rw e
+      (record {
+        good = sym (not-true (f .good) g) ∙ h .good;
+        call = λ b. absurd (true≢false (sym b));
+        low = omega arith;
+        high = omega arith;
+      })
 
-pub read-well : (s : Bytes) (at : ℕ) (f : ReadFields) (n : Node) (m area m′ area′ : List ℕ) (r : Answered) → ReadsRead s at f → not (f .good) ≡ false
-    → Answers ready view (Read (f .leases) (record { client = f .client; request = f .request; key = between s (f .start) (f .end) })) n m area (givenOf r) m′ area′
-    → AnswersLine (isRead (fieldsFrom s at))
-    (Read (numberAt (fieldsFrom s at) 2) (record { client = numberAt (fieldsFrom s at) 0; request = numberAt (fieldsFrom s at) 1; key = getD (fieldsFrom s at) 3 [] })) n m area r m′ area′
-read-well s at f n m area m′ area′ r h g a =
-    let w = h .well (not-false (f .good) g) in
-    well-formed _ _ n m area m′ area′ r (sym (h .good) ∙ not-false (f .good) g) (rw (w .client, w .request, w .leases, w .key) at a)
+  pub read-well : not (f .good) ≡ false → x ≡ record { good = true; call = call.Read (f .client) (f .request) (f .leases); start = f .start; end = f .end }
+      → Asks (isRead (fieldsFrom s at)) (callOf kinds.Read (fieldsFrom s at)) s x
+  read-well g e =
+      let w = h .well (not-false (f .good) g) in
+      rw e
+      (record {
+        good = sym (not-false (f .good) g) ∙ h .good;
+        call = λ b rows. rw (w .client, w .request, w .leases, w .key);
+        low = w .low;
+        high = w .high;
+      })
+
+-- ---- a heartbeat
+
+module _ (s : Bytes) (at : ℕ) (out out′ : List ℕ) (t : Bool) (h : ReadsNumbers s at 6 out t out′) where
+  pub no-heard : (x : HeardFields) → not t ≡ true → x .good ≡ false → ReadsHeard (fieldsFrom s at) x
+  no-heard x f e =
+      record {
+        good = e ∙ sym (ap (λ (b : Bool). b && ltb (numberAt (fieldsFrom s at) 2) 2) (sym (h .good) ∙ not-true t f));
+        well = λ g. not-both e g;
+      }
+
+  module _ (f : not t ≡ false) where
+    v : (i : ℕ) → i < 6 → getD out′ i 0 ≡ numberAt (fieldsFrom s at) i
+    v = h .values (not-false t f)
+
+    pub other-with : (x : HeardFields) → 1 < getD out′ 2 0 → x .good ≡ false → ReadsHeard (fieldsFrom s at) x
+    other-with x g e =
+        record {
+          good = e ∙ sym (rw (sym (h .good) ∙ not-false t f, le-ltb (numberAt (fieldsFrom s at) 2) 2 (omega (arith, g, v 2 (omega arith)))));
+          well = λ b. not-both e b;
+        }
+
+    pub is-heard : (p : Replica) → getD out′ 2 0 ≤ 1 → p .0 ≡ asByte (getD out′ 0 0)
+        → ReadsHeard (fieldsFrom s at)
+        (record { good = true; peer = p; ballot = record { 0 = getD out′ 1 0 }; attached = eqb (getD out′ 2 0) 1; commit = record { 0 = getD out′ 3 0 }; exec = record { 0 = getD out′ 4 0 }; snap = record { 0 = getD out′ 5 0 } })
+    is-heard p g e =
+        record {
+          good = sym (rw (sym (h .good) ∙ not-false t f, lt-ltb (numberAt (fieldsFrom s at) 2) 2 (omega (arith, g, v 2 (omega arith)))));
+          well = λ b.
+              record {
+                peer = e ∙ ap asByte (v 0 (omega arith));
+                ballot = v 1 (omega arith);
+                attached = ap (λ (k : ℕ). eqb k 1) (v 2 (omega arith));
+                commit = v 3 (omega arith);
+                exec = v 4 (omega arith);
+                snap = v 5 (omega arith);
+              };
+        }
+
+fits-roster : (attached : Bool) (count : ℕ) (rows : List ℕ) → holdsRows (length rows) count ≡ true → fitting attached count rows ≡ true
+fits-roster true count rows h = h
+fits-roster false count rows h = refl
+
+-- a roster that is whole asks no more of the node
+whole-roster : (attached : Bool) (count : ℕ) (rows : List ℕ) → holdsRows (length rows) count ≡ true → (λ (k : Node) (w : List ℕ). ready k w && fitting attached count rows) ≡ ready
+whole-roster attached count rows e =
+    fun-ext (λ (k : Node). fun-ext (λ (w : List ℕ). ap (λ (b : Bool). ready k w && b) (fits-roster attached count rows e) ∙ and-true (ready k w)))
+
+module _ (fs : List Bytes) (f : HeardFields) (h : ReadsHeard fs f) (draft : RespondersConf) (rows : List ℕ) (n : Node) (m area : List ℕ) (r : Answered) where
+  pub not-heard : not (f .good) ≡ true → r ≡ record { number = 1; count = 0; node = n } → AnswersLine (isHeard fs) (heardBy draft rows fs) n m area r m area
+  not-heard g e = malformed _ _ n m area r (sym (h .good) ∙ not-true (f .good) g) e
+
+  pub heard : (text m′ area′ : List ℕ) → not (f .good) ≡ false → holdsRows (length rows) (draft .count) ≡ true
+      → Answers (readyFor (call.Heartbeat (f .peer) (f .ballot) (f .attached) draft (f .commit) (f .exec) (f .snap)) rows) view
+      (applied (call.Heartbeat (f .peer) (f .ballot) (f .attached) draft (f .commit) (f .exec) (f .snap)) rows text) n m area (givenOf r) m′ area′
+      → AnswersLine (isHeard fs) (heardBy draft rows fs) n m area r m′ area′
+  heard text m′ area′ g w a =
+      let x = h .well (not-false (f .good) g) in
+      well-formed _ _ n m area m′ area′ r (sym (h .good) ∙ not-false (f .good) g)
+      (rw (x .peer, x .ballot, x .attached, x .commit, x .exec, x .snap) at
+      (subst (λ (z : Node → List ℕ → Bool). Answers z view (applied (call.Heartbeat (f .peer) (f .ballot) (f .attached) draft (f .commit) (f .exec) (f .snap)) rows text) n m area (givenOf r) m′ area′)
+      (whole-roster (f .attached) (draft .count) rows w) a))

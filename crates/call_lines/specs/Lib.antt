@@ -1,1 +1,2 @@
 pub mod ReadsRead
+pub mod Asks

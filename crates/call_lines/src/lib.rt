@@ -1,26 +1,33 @@
 // The lines of the calls: a line's fields, from a position on, are the call's arguments. A line whose fields are not well-formed is refused 1.
+use apply::Call;
 use fields::CallKind;
 use ids::Ballot;
+use ids::Replica;
 use ids::Slot;
 use node::Answered;
 use node::Node;
 use responders::RespondersConf;
 ghost use mathlib.Core.Path.{_≡_};
 ghost use mathlib.Core.Bool.{true, false};
-ghost use mathlib.Core.List.{[]};
-ghost use lib.Dec.{eqb};
+ghost use mathlib.Core.List.{List};
+ghost use Prim.Native.Nat.{ℕ, _≤_, _<_};
 ghost use lib.ListN.{length, getD};
-ghost use Rattle.words.specs.Choice.{if_then_else_};
+ghost use Rattle.fields.specs.declared.CallKind.the-variants.{Read};
 ghost use Rattle.fields.specs.Split.{fieldsFrom};
-ghost use Rattle.fields.specs.Number.{numbers, numberAt};
-ghost use Rattle.responders.specs.Edits.{view as rosterOf, holdsRows};
-ghost use Rattle.bodega.specs.Replica.{Heartbeat, Guard, Prepared, Reply, Notice, CommitNotice, Bars, Read, Release};
-ghost use Rattle.bodega.specs.Answers.{Answers};
-ghost use Rattle.node.specs.View.{view, ready, givenOf};
-ghost use Rattle.heartbeat.specs.Heartbeat.{carried};
+ghost use Rattle.responders.specs.Edits.{holdsRows};
+ghost use Rattle.apply.specs.Call.{callOf as applied};
 ghost use Rattle.hosts.specs.Line.{isHeard, isRead, isCall, callOf};
 ghost use Rattle.hosts.specs.Acts.{AnswersLine};
 ghost use Rattle.call_lines.specs.ReadsRead.{ReadsRead};
+ghost use Rattle.call_lines.specs.Asks.{inByte, width, callBy, noCall, AsksNumbers, Asks, heardBy, ReadsHeard};
+
+// The call that a line's fields are, where they are well-formed. A read's key is a part of the line.
+struct Asked {
+    good: bool,
+    call: Call,
+    start: usize,
+    end: usize,
+}
 
 fn malformed(node: Node) -> Answered
     ensures { λ r. ⌜ r ≡ record { number = 1; count = 0; node = node } ⌝ }
@@ -32,86 +39,64 @@ fn malformed(node: Node) -> Answered
     }
 }
 
-fn guard_line(node: Node, mem: &mut [u64], area: &[u64], line: &[u8], at: usize) -> Answered
-    ensures { λ r. ⌜ AnswersLine (numbers 3 (fieldsFrom (now (line .entry)) at)) (Guard (numberAt (fieldsFrom (now (line .entry)) at) 0) (numberAt (fieldsFrom (now (line .entry)) at) 1) (numberAt (fieldsFrom (now (line .entry)) at) 2)) node (now (mem .entry)) (now (area .entry)) r (now (mem .exit)) (now (area .entry)) ⌝ }
+fn no_call() -> Asked
+    ensures { λ r. ⌜ r ≡ noCall ⌝ }
 {
-    let n = reader::number_fields(line, at, 3);
-    if !n.good {
-        return malformed(node);
+    Asked {
+        good: false,
+        call: Call::Release(Slot(0)),
+        start: 0,
+        end: 0,
     }
-    let peer = hosts::replica(n.first);
-    guard::guard(node, mem, area, peer, Ballot(n.second), Slot(n.third))
 }
 
-fn prepared_line(node: Node, mem: &[u64], area: &[u64], line: &[u8], at: usize) -> Answered
-    ensures { λ r. ⌜ AnswersLine (numbers 1 (fieldsFrom (now (line .entry)) at)) (Prepared (numberAt (fieldsFrom (now (line .entry)) at) 0)) node (now (mem .entry)) (now (area .entry)) r (now (mem .entry)) (now (area .entry)) ⌝ }
+// How many numbers the fields are; a read's are not numbers alone.
+fn width(kind: CallKind) -> usize
+    ensures { λ r. ⌜ (r ≡ width kind) × (r ≤ 4) ⌝ }
 {
-    let n = reader::number_fields(line, at, 1);
-    if !n.good {
-        return malformed(node);
+    match kind {
+        CallKind::Guard => 3,
+        CallKind::Prepared => 1,
+        CallKind::Reply => 3,
+        CallKind::Notice => 3,
+        CallKind::Commit => 3,
+        CallKind::Bars => 4,
+        CallKind::Read => 0,
+        CallKind::Release => 1,
     }
-    prepared::prepared(node, mem, area, Ballot(n.first))
 }
 
-fn reply_line(node: Node, mem: &mut [u64], area: &mut [u64], line: &[u8], at: usize) -> Answered
-    ensures { λ r. ⌜ AnswersLine (numbers 3 (fieldsFrom (now (line .entry)) at)) (Reply (numberAt (fieldsFrom (now (line .entry)) at) 0) (numberAt (fieldsFrom (now (line .entry)) at) 1) (numberAt (fieldsFrom (now (line .entry)) at) 2)) node (now (mem .entry)) (now (area .entry)) r (now (mem .exit)) (now (area .exit)) ⌝ }
+fn call_by(kind: CallKind, a: &[u64]) -> Call
+    requires { ⌜ 4 ≤ length (now a) ⌝ }
+    ensures { λ r. ⌜ ((rows text : List ℕ) → applied r rows text ≡ inByte (callBy kind (λ i. getD (now (a .entry)) i 0) text)) ⌝ }
 {
-    let n = reader::number_fields(line, at, 3);
-    if !n.good {
-        return malformed(node);
+    let peer = hosts::replica(a[0]);
+    match kind {
+        CallKind::Guard => Call::Guard(peer, Ballot(a[1]), Slot(a[2])),
+        CallKind::Prepared => Call::Prepared(Ballot(a[0])),
+        CallKind::Reply => Call::Reply(peer, Slot(a[1]), Ballot(a[2])),
+        CallKind::Notice => Call::Notice(peer, Slot(a[1]), Ballot(a[2])),
+        CallKind::Commit => Call::Commit(peer, Ballot(a[1]), Slot(a[2])),
+        CallKind::Bars => Call::Bars(Slot(a[0]), Slot(a[1]), Slot(a[2]), Slot(a[3])),
+        CallKind::Read => Call::Read(a[0], a[1], a[2]),
+        CallKind::Release => Call::Release(Slot(a[0])),
     }
-    let peer = hosts::replica(n.first);
-    reply::reply(node, mem, area, peer, Slot(n.second), Ballot(n.third))
 }
 
-fn notice_line(node: Node, mem: &mut [u64], area: &mut [u64], line: &[u8], at: usize) -> Answered
-    ensures { λ r. ⌜ AnswersLine (numbers 3 (fieldsFrom (now (line .entry)) at)) (Notice (numberAt (fieldsFrom (now (line .entry)) at) 0) (numberAt (fieldsFrom (now (line .entry)) at) 1) (numberAt (fieldsFrom (now (line .entry)) at) 2)) node (now (mem .entry)) (now (area .entry)) r (now (mem .exit)) (now (area .exit)) ⌝ }
+fn numbers_call(kind: CallKind, n: usize, line: &[u8], at: usize) -> Asked
+    requires { ⌜ (n ≡ width kind) × (n ≤ 4) × (0 < n) ⌝ }
+    ensures { λ r. ⌜ AsksNumbers kind (fieldsFrom (now (line .entry)) at) r ⌝ }
 {
-    let n = reader::number_fields(line, at, 3);
-    if !n.good {
-        return malformed(node);
+    let mut a = [0u64; 4];
+    if !reader::numbers(line, at, n, &mut a) {
+        return no_call();
     }
-    let peer = hosts::replica(n.first);
-    notice::notice(node, mem, area, peer, Slot(n.second), Ballot(n.third))
-}
-
-fn commit_line(node: Node, mem: &mut [u64], area: &mut [u64], line: &[u8], at: usize) -> Answered
-    ensures { λ r. ⌜ AnswersLine (numbers 3 (fieldsFrom (now (line .entry)) at)) (CommitNotice (numberAt (fieldsFrom (now (line .entry)) at) 0) (numberAt (fieldsFrom (now (line .entry)) at) 1) (numberAt (fieldsFrom (now (line .entry)) at) 2)) node (now (mem .entry)) (now (area .entry)) r (now (mem .exit)) (now (area .exit)) ⌝ }
-{
-    let n = reader::number_fields(line, at, 3);
-    if !n.good {
-        return malformed(node);
+    Asked {
+        good: true,
+        call: call_by(kind, &a),
+        start: 0,
+        end: 0,
     }
-    let peer = hosts::replica(n.first);
-    commit::commit(node, mem, area, peer, Ballot(n.second), Slot(n.third))
-}
-
-fn bars_line(node: Node, mem: &mut [u64], area: &[u64], line: &[u8], at: usize) -> Answered
-    ensures { λ r. ⌜ AnswersLine (numbers 4 (fieldsFrom (now (line .entry)) at)) (Bars (numberAt (fieldsFrom (now (line .entry)) at) 0) (numberAt (fieldsFrom (now (line .entry)) at) 1) (numberAt (fieldsFrom (now (line .entry)) at) 2) (numberAt (fieldsFrom (now (line .entry)) at) 3)) node (now (mem .entry)) (now (area .entry)) r (now (mem .exit)) (now (area .entry)) ⌝ }
-{
-    let n = reader::number_fields(line, at, 4);
-    if !n.good {
-        return malformed(node);
-    }
-    bars::bars(
-        node,
-        mem,
-        area,
-        Slot(n.first),
-        Slot(n.second),
-        Slot(n.third),
-        Slot(n.fourth),
-    )
-}
-
-fn release_line(node: Node, mem: &mut [u64], area: &mut [u64], line: &[u8], at: usize) -> Answered
-    ensures { λ r. ⌜ AnswersLine (numbers 1 (fieldsFrom (now (line .entry)) at)) (Release (numberAt (fieldsFrom (now (line .entry)) at) 0)) node (now (mem .entry)) (now (area .entry)) r (now (mem .exit)) (now (area .exit)) ⌝ }
-{
-    let n = reader::number_fields(line, at, 1);
-    if !n.good {
-        return malformed(node);
-    }
-    release::release(node, mem, area, Slot(n.first))
 }
 
 // The fields of a read line: where the key starts and ends.
@@ -169,27 +154,32 @@ fn read_fields(line: &[u8], at: usize) -> ReadFields
     }
 }
 
-fn read_line(node: Node, mem: &mut [u64], area: &mut [u64], line: &[u8], at: usize) -> Answered
-    ensures { λ r. ⌜ AnswersLine (isRead (fieldsFrom (now (line .entry)) at)) (Read (numberAt (fieldsFrom (now (line .entry)) at) 2) (record { client = numberAt (fieldsFrom (now (line .entry)) at) 0; request = numberAt (fieldsFrom (now (line .entry)) at) 1; key = getD (fieldsFrom (now (line .entry)) at) 3 [] })) node (now (mem .entry)) (now (area .entry)) r (now (mem .exit)) (now (area .exit)) ⌝ }
+fn read_call(line: &[u8], at: usize) -> Asked
+    ensures { λ r. ⌜ Asks (isRead (fieldsFrom (now (line .entry)) at)) (callOf Read (fieldsFrom (now (line .entry)) at)) (now (line .entry)) r ⌝ }
 {
     let f = read_fields(line, at);
     if !f.good {
-        return malformed(node);
+        return no_call();
     }
-    let start = f.start;
-    let end = f.end;
-    read::read(
-        node,
-        mem,
-        area,
-        f.client,
-        f.request,
-        f.leases,
-        &line[start..end],
-    )
+    Asked {
+        good: true,
+        call: Call::Read(f.client, f.request, f.leases),
+        start: f.start,
+        end: f.end,
+    }
 }
 
-// Any of the calls above.
+fn call_at(kind: CallKind, line: &[u8], at: usize) -> Asked
+    ensures { λ r. ⌜ Asks (isCall kind (fieldsFrom (now (line .entry)) at)) (callOf kind (fieldsFrom (now (line .entry)) at)) (now (line .entry)) r ⌝ }
+{
+    let n = width(kind);
+    if n == 0 {
+        return read_call(line, at);
+    }
+    numbers_call(kind, n, line, at)
+}
+
+// The line of a call that only the node and its answer area take part in.
 pub fn call_line(
     kind: CallKind,
     node: Node,
@@ -200,15 +190,60 @@ pub fn call_line(
 ) -> Answered
     ensures { λ r. ⌜ AnswersLine (isCall kind (fieldsFrom (now (line .entry)) at)) (callOf kind (fieldsFrom (now (line .entry)) at)) node (now (mem .entry)) (now (area .entry)) r (now (mem .exit)) (now (area .exit)) ⌝ }
 {
-    match kind {
-        CallKind::Guard => guard_line(node, mem, area, line, at),
-        CallKind::Prepared => prepared_line(node, mem, area, line, at),
-        CallKind::Reply => reply_line(node, mem, area, line, at),
-        CallKind::Notice => notice_line(node, mem, area, line, at),
-        CallKind::Commit => commit_line(node, mem, area, line, at),
-        CallKind::Bars => bars_line(node, mem, area, line, at),
-        CallKind::Read => read_line(node, mem, area, line, at),
-        CallKind::Release => release_line(node, mem, area, line, at),
+    let a = call_at(kind, line, at);
+    if !a.good {
+        return malformed(node);
+    }
+    let call = a.call;
+    let start = a.start;
+    let end = a.end;
+    let none = [0u64; 1];
+    apply::apply(node, mem, area, call, &none, &line[start..end])
+}
+
+// The fields of a heard line but for the roster.
+struct HeardFields {
+    good: bool,
+    peer: Replica,
+    ballot: Ballot,
+    attached: bool,
+    commit: Slot,
+    exec: Slot,
+    snap: Slot,
+}
+
+fn no_heard() -> HeardFields
+    ensures { λ r. ⌜ r .good ≡ false ⌝ }
+{
+    HeardFields {
+        good: false,
+        peer: Replica(0),
+        ballot: Ballot(0),
+        attached: false,
+        commit: Slot(0),
+        exec: Slot(0),
+        snap: Slot(0),
+    }
+}
+
+fn heard_fields(line: &[u8], at: usize) -> HeardFields
+    ensures { λ r. ⌜ ReadsHeard (fieldsFrom (now (line .entry)) at) r ⌝ }
+{
+    let mut a = [0u64; 6];
+    if !reader::numbers(line, at, 6, &mut a) {
+        return no_heard();
+    }
+    if 1 < a[2] {
+        return no_heard();
+    }
+    HeardFields {
+        good: true,
+        peer: hosts::replica(a[0]),
+        ballot: Ballot(a[1]),
+        attached: a[2] == 1,
+        commit: Slot(a[3]),
+        exec: Slot(a[4]),
+        snap: Slot(a[5]),
     }
 }
 
@@ -222,27 +257,17 @@ pub fn heard_line(
     line: &[u8],
     at: usize,
 ) -> Answered
-    ensures { λ r. ⌜ (holdsRows (length (now (rows .entry))) (draft .count) ≡ true → AnswersLine (isHeard (fieldsFrom (now (line .entry)) at)) (Heartbeat (numberAt (fieldsFrom (now (line .entry)) at) 0) (numberAt (fieldsFrom (now (line .entry)) at) 1) (carried (eqb (numberAt (fieldsFrom (now (line .entry)) at) 2) 1) (rosterOf draft (now (rows .entry)))) (numberAt (fieldsFrom (now (line .entry)) at) 3) (numberAt (fieldsFrom (now (line .entry)) at) 4) (numberAt (fieldsFrom (now (line .entry)) at) 5)) node (now (mem .entry)) (now (area .entry)) r (now (mem .exit)) (now (area .exit))) ⌝ }
+    ensures { λ r. ⌜ (holdsRows (length (now (rows .entry))) (draft .count) ≡ true → AnswersLine (isHeard (fieldsFrom (now (line .entry)) at)) (heardBy draft (now (rows .entry)) (fieldsFrom (now (line .entry)) at)) node (now (mem .entry)) (now (area .entry)) r (now (mem .exit)) (now (area .exit))) ⌝ }
 {
-    let n = reader::number_fields(line, at, 6);
-    if !n.good {
+    let f = heard_fields(line, at);
+    if !f.good {
         return malformed(node);
     }
-    if 1 < n.third {
-        return malformed(node);
-    }
-    let peer = hosts::replica(n.first);
-    heartbeat::heartbeat(
-        node,
-        mem,
-        area,
-        peer,
-        Ballot(n.second),
-        n.third == 1,
-        draft,
-        rows,
-        Slot(n.fourth),
-        Slot(n.fifth),
-        Slot(n.sixth),
-    )
+    let peer = f.peer;
+    let ballot = f.ballot;
+    let commit = f.commit;
+    let exec = f.exec;
+    let snap = f.snap;
+    let call = Call::Heartbeat(peer, ballot, f.attached, draft, commit, exec, snap);
+    apply::apply(node, mem, area, call, rows, line)
 }

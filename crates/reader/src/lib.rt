@@ -62,7 +62,7 @@ pub fn number_from(line: &[u8], at: usize) -> NumberAt
 }
 
 // The fields from a position on: whether they are k numbers, and which.
-fn numbers(line: &[u8], at: usize, k: usize, out: &mut [u64]) -> bool
+pub fn numbers(line: &[u8], at: usize, k: usize, out: &mut [u64]) -> bool
     requires { ⌜ k ≤ length (now out) ⌝ }
     ensures { λ r. ⌜ ReadsNumbers (now (line .entry)) at k (now (out .entry)) r (now (out .exit)) ⌝ }
 {
