@@ -3,6 +3,7 @@ use Prim.Native.Nat.{ℕ, zero, suc, _+_, _-_, _/_, _%_, _^_}
 use mathlib.Core.Bool.{Bool, true, false, _&&_, _||_, not}
 use lib.Dec.{eqb, ltb}
 use Rattle.words.specs.Choice.{if_then_else_}
+use Rattle.ids.specs.Limits.{replicas}
 
 -- how many of 0 .. n - 1 pass a test, and whether each of them does
 unfoldable pub tally : ℕ → (ℕ → Bool) → ℕ
@@ -19,21 +20,21 @@ get m r = eqb (m / 2 ^ r % 2) 1
 
 -- `set(r, true)`, `set(r, false)` and `set(r, flag)`; an r that is out of bound changes nothing
 unfoldable pub mark : ℕ → ℕ → ℕ
-mark m r = if ltb r 64 && not (get m r) then m + 2 ^ r else m
+mark m r = if ltb r replicas && not (get m r) then m + 2 ^ r else m
 
 unfoldable pub unmark : ℕ → ℕ → ℕ
-unmark m r = if ltb r 64 && get m r then m - 2 ^ r else m
+unmark m r = if ltb r replicas && get m r then m - 2 ^ r else m
 
 unfoldable pub setTo : ℕ → ℕ → Bool → ℕ
 setTo m r flag = if flag then mark m r else unmark m r
 
 -- `count()`
 unfoldable pub count : ℕ → ℕ
-count m = tally 64 (get m)
+count m = tally replicas (get m)
 
 -- `is_superset(other)`: each member of other is one of m
 unfoldable pub isSuperset : ℕ → ℕ → Bool
-isSuperset m other = every 64 (λ r. not (get other r) || get m r)
+isSuperset m other = every replicas (λ r. not (get other r) || get m r)
 
 -- membership below the population: no bit at or above it
 unfoldable pub fits : ℕ → ℕ → Bool

@@ -8,7 +8,7 @@ pub fn get(map: u64, idx: Replica) -> bool
     ensures { λ r. ⌜ r ≡ get map (idx .0) ⌝ }
 {
     let i = idx.0;
-    if 64 <= i {
+    if Replica::LIMIT <= i {
         return false;
     }
     (map >> i) % 2 == 1
@@ -19,7 +19,7 @@ pub fn set(map: u64, idx: Replica, flag: bool) -> u64
     ensures { λ r. ⌜ r ≡ setTo map (idx .0) flag ⌝ }
 {
     let i = idx.0;
-    if 64 <= i {
+    if Replica::LIMIT <= i {
         return map;
     }
     let bit = 1u64 << i;
@@ -46,7 +46,7 @@ pub fn is_superset(map: u64, other: u64) -> bool
 pub fn fits(map: u64, population: u8) -> bool
     ensures { λ r. ⌜ r ≡ fits map population ⌝ }
 {
-    if 64 <= population {
+    if Replica::LIMIT <= population {
         return true;
     }
     map < 1u64 << population

@@ -25,6 +25,9 @@ pub enum Cut {
     Without(Replica),
 }
 
+// Rows stored at most.
+pub const RANGES: usize = 64;
+
 // How many rows are stored, or that they would be more than 64.
 pub enum Stored {
     Rows(usize),
@@ -291,7 +294,7 @@ fn store(rows: &mut [u64], out: &[u64], n: usize) -> Stored
     requires { ⌜ (n * 5 ≤ length (now out)) × (320 ≤ length (now rows)) ⌝ }
     ensures { λ r. ⌜ Stores (rangesOf (now (out .entry)) n) (now (rows .entry)) (now (rows .exit)) r ⌝ }
 {
-    if 64 < n {
+    if RANGES < n {
         return Stored::Full;
     }
     words::copy_words(rows, out, n * 5);

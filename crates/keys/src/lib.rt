@@ -7,6 +7,9 @@ ghost use lib.ListN.{length, drop};
 ghost use Rattle.keys.specs.Read.{isK, isDigit, strip, sign, number, overflow, readKey};
 ghost use Rattle.keys.specs.Shown.{shown};
 
+// The bytes of a key at most, wherever one is kept or stands in a call.
+pub const KEY_BYTES: usize = 48;
+
 // Rust's `Result` of `parse::<u128>()`, its errors taken as one.
 pub enum KeyRead {
     Number(Inty),

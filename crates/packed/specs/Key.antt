@@ -9,6 +9,7 @@ use lib.ListN.{length, getD, take, replicate}
 use Rattle.words.specs.Choice.{if_then_else_}
 use Rattle.words.specs.Tab.{run}
 use Rattle.words.specs.Writes.{writes}
+use Rattle.ids.specs.Limits.{keyBytes}
 use Rattle.keys.specs.Same.{sameBytes}
 use Rattle.packed.specs.declared.Key.{Key}
 use Rattle.packed.specs.declared.Packed.{Packed}
@@ -64,7 +65,7 @@ bytesOf k = if isPacked k then unpackOf k else wordsOf k ++ replicate 42 0
 -- ---- what the answers say
 
 abbrev pub atMost48 : List ℕ → Option (List ℕ)
-atMost48 b = if leb (length b) 48 then some b else none
+atMost48 b = if leb (length b) keyBytes then some b else none
 
 abbrev pub keyIn : Packed → Option (List ℕ)
 keyIn (packed.Key k) = some (bytesOf k)

@@ -177,7 +177,7 @@ pub fn pack_short(bytes: &[u8]) -> Key
 pub fn pack(bytes: &[u8]) -> Packed
     ensures { λ r. ⌜ keyIn r ≡ atMost48 (now (bytes .entry)) ⌝ }
 {
-    if 48 < bytes.len() {
+    if keys::KEY_BYTES < bytes.len() {
         return Packed::Long;
     }
     Packed::Key(pack_short(bytes))
@@ -260,7 +260,7 @@ fn packs_back(k: Key, out: &[u8]) -> bool
     requires { ⌜ (48 ≤ length (now out)) × (take 48 (now out) ≡ allBytes k) ⌝ }
     ensures { λ r. ⌜ r ≡ isPacked k ⌝ }
 {
-    if 48 < k.len {
+    if (keys::KEY_BYTES as u64) < k.len {
         return false;
     }
     let n = k.len as usize;

@@ -59,7 +59,7 @@ fn is_ready(len: usize, count: usize, population: u8) -> bool
     if population < 1 {
         return false;
     }
-    population <= 64
+    population <= Replica::LIMIT
 }
 
 // 4, 5, 6, 7: whether a range can be stored in some roster.
@@ -69,10 +69,10 @@ fn ask(population: u8, start: &[u8], end: &[u8], mask: u64) -> Asked
     if !bitmap::fits(mask, population) {
         return Asked::Refused(4);
     }
-    if 48 < start.len() {
+    if keys::KEY_BYTES < start.len() {
         return Asked::Refused(5);
     }
-    if 48 < end.len() {
+    if keys::KEY_BYTES < end.len() {
         return Asked::Refused(5);
     }
     let KeyRead::Number(a) = keys::key_to_inty(start) else {
@@ -122,9 +122,9 @@ fn leader_without(leader: Leader, id: Replica) -> Leader
 
 impl RespondersConf {
     // Ranges stored at most, and the words that hold them.
-    pub const RANGES: usize = 64;
+    pub const RANGES: usize = keyrange::RANGES;
 
-    pub const WORDS: usize = 320;
+    pub const WORDS: usize = keyrange::RANGES * 5;
 
     pub fn empty() -> RespondersConf
         ensures { λ r. ⌜ ((rows : List ℕ) → view r rows ≡ empty) × (r .count ≤ 64) ⌝ }
