@@ -12,6 +12,9 @@ ghost use Rattle.packed.specs.Key.{bytesOf};
 ghost use Rattle.bodega.specs.Localread.{lastPut, putOf};
 ghost use Rattle.batch.specs.Batch.{commandOf, commandAt, kindOf, valueOf, requestOf, requestAt, requestsOf, requestWords, valueIn, Pushes};
 
+// Requests of a batch at most.
+pub const BATCH: usize = 8;
+
 pub enum Command {
     Get,
     Put(u64),
@@ -35,7 +38,7 @@ pub fn count(s: &[u64]) -> usize
     ensures { λ r. ⌜ (r ≡ length (requestsOf (now (s .entry)))) × (r ≤ 8) ⌝ }
 {
     let n = s[0];
-    if n <= 8 { n as usize } else { 8 }
+    if n <= BATCH as u64 { n as usize } else { BATCH }
 }
 
 fn kind_of(c: Command) -> u64
@@ -111,7 +114,7 @@ pub fn push(s: &mut [u64], q: Request) -> bool
     ensures { λ r. ⌜ Pushes (now (s .entry)) (requestOf q) r (now (s .exit)) ⌝ }
 {
     let n = count(s);
-    if n == 8 {
+    if n == BATCH {
         return false;
     }
     put(s, n, q);

@@ -80,13 +80,12 @@ fn leader_bk(has: u64, acks: u64) -> LeaderBk
     LeaderBk::Some(acks)
 }
 
-fn replica_bk(has: u64, bal: u64, notices: u64) -> ReplicaBk
-    ensures { λ r. ⌜ bookOf r ≡ bookNamed has bal notices ⌝ }
+fn replica_bk(has: u64, bal: Ballot, notices: u64) -> ReplicaBk
+    ensures { λ r. ⌜ bookOf r ≡ bookNamed has (bal .0) notices ⌝ }
 {
     if has == 0 {
         return ReplicaBk::None;
     }
-    let bal = Ballot(bal);
     let book = NoticeBook { bal, notices };
     ReplicaBk::Some(book)
 }
@@ -130,7 +129,8 @@ pub fn load(cells: &[u64], c: usize) -> Cell
     let bal = Ballot(cells[p]);
     let status = status_named(cells[p1]);
     let leader = leader_bk(cells[p2], cells[p3]);
-    let replica = replica_bk(cells[p4], cells[p5], cells[p6]);
+    let notices_bal = Ballot(cells[p5]);
+    let replica = replica_bk(cells[p4], notices_bal, cells[p6]);
     Cell {
         bal,
         status,

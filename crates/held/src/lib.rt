@@ -9,6 +9,9 @@ ghost use lib.ListN.{length, set};
 ghost use Rattle.words.specs.Writes.{writes};
 ghost use Rattle.held.specs.Held.{readOf, readAt, readsOf, readWords, Pushes};
 
+// Reads that a slot holds at most.
+pub const HOLD: usize = 16;
+
 pub struct ReadReq {
     pub client: u64,
     pub request: u64,
@@ -20,7 +23,7 @@ pub fn count(s: &[u64]) -> usize
     ensures { λ r. ⌜ (r ≡ length (readsOf (now (s .entry)))) × (r ≤ 16) ⌝ }
 {
     let n = s[0];
-    if n <= 16 { n as usize } else { 16 }
+    if n <= HOLD as u64 { n as usize } else { HOLD }
 }
 
 // The i-th read.
@@ -58,7 +61,7 @@ pub fn push(s: &mut [u64], x: ReadReq) -> bool
     ensures { λ r. ⌜ Pushes (now (s .entry)) (readOf x) r (now (s .exit)) ⌝ }
 {
     let n = count(s);
-    if n == 16 {
+    if n == HOLD {
         return false;
     }
     put(s, n, x);

@@ -42,8 +42,8 @@ pub enum Fresh {
     Refused(u64),
 }
 
-fn in_range(id: u8, population: u8, quorum: u8) -> bool
-    ensures { λ r. ⌜ r ≡ inRange id population quorum ⌝ }
+fn in_range(id: Replica, population: u8, quorum: u8) -> bool
+    ensures { λ r. ⌜ r ≡ inRange (id .0) population quorum ⌝ }
 {
     if quorum == 0 {
         return false;
@@ -51,14 +51,14 @@ fn in_range(id: u8, population: u8, quorum: u8) -> bool
     if population < quorum {
         return false;
     }
-    if 64 < population {
+    if Node::REPLICAS < population {
         return false;
     }
-    id < population
+    id.0 < population
 }
 
-fn begins(len: usize, id: u8, population: u8, quorum: u8) -> bool
-    ensures { λ r. ⌜ r ≡ leb size len && inRange id population quorum ⌝ }
+fn begins(len: usize, id: Replica, population: u8, quorum: u8) -> bool
+    ensures { λ r. ⌜ r ≡ leb size len && inRange (id .0) population quorum ⌝ }
 {
     if len < Node::WORDS {
         return false;
@@ -66,36 +66,36 @@ fn begins(len: usize, id: u8, population: u8, quorum: u8) -> bool
     in_range(id, population, quorum)
 }
 
-fn bars_in_range(start: u64, exec: u64, commit: u64, slots: usize) -> bool
-    ensures { λ r. ⌜ r ≡ barsInRange start exec commit slots ⌝ }
+fn bars_in_range(start: Slot, exec: Slot, commit: Slot, slots: usize) -> bool
+    ensures { λ r. ⌜ r ≡ barsInRange (start .0) (exec .0) (commit .0) slots ⌝ }
 {
-    if 0xffff_ffff_ffff < start {
+    if Slot::TOP < start.0 {
         return false;
     }
-    if exec < start {
+    if exec.0 < start.0 {
         return false;
     }
-    if commit < exec {
+    if commit.0 < exec.0 {
         return false;
     }
     if Node::WINDOW < slots {
         return false;
     }
-    commit <= start + slots as u64
+    commit.0 <= start.0 + slots as u64
 }
 
 fn is_sound(
     len: usize,
-    id: u8,
+    id: Replica,
     population: u8,
     quorum: u8,
     count: usize,
-    start: u64,
-    exec: u64,
-    commit: u64,
+    start: Slot,
+    exec: Slot,
+    commit: Slot,
     slots: usize,
 ) -> bool
-    ensures { λ r. ⌜ r ≡ sound len id population quorum count start exec commit slots ⌝ }
+    ensures { λ r. ⌜ r ≡ sound len (id .0) population quorum count (start .0) (exec .0) (commit .0) slots ⌝ }
 {
     if !begins(len, id, population, quorum) {
         return false;
@@ -112,13 +112,13 @@ pub fn is_ready(node: Node, mem: &[u64]) -> bool
 {
     is_sound(
         mem.len(),
-        node.id.0,
+        node.id,
         node.population,
         node.quorum,
         node.bodega_conf.count,
-        node.start_slot.0,
-        node.exec_bar.0,
-        node.commit_bar.0,
+        node.start_slot,
+        node.exec_bar,
+        node.commit_bar,
         node.slots,
     )
 }
@@ -149,7 +149,7 @@ fn reset(mem: &mut [u64])
     ensures { λ _. ⌜ Reset (now (mem .entry)) (now (mem .exit)) ⌝ }
 {
     fill(&mut mem[0..64], 0);
-    fill(&mut mem[64..128], 0xffff_ffff_ffff_ffff);
+    fill(&mut mem[64..128], Slot::BEYOND);
     fill(&mut mem[128..192], 0);
     mem[8256] = 0;
 }
@@ -157,26 +157,26 @@ fn reset(mem: &mut [u64])
 impl Node {
     pub const WORDS: usize = 10305;
 
-    pub const REPLICAS: usize = 64;
+    pub const REPLICAS: u8 = Replica::LIMIT;
 
-    pub const WINDOW: usize = 32;
+    pub const WINDOW: usize = slots::WINDOW;
 
-    pub const HOLD: usize = 16;
+    pub const HOLD: usize = held::HOLD;
 
-    pub const KEYS: usize = 256;
+    pub const KEYS: usize = written::KEYS;
 
     // The starting state: ballot 0, no leader, no slots.
     pub fn fresh(mem: &mut [u64], id: Replica, population: u8, quorum: u8) -> Fresh
         ensures { λ r. ⌜ Begins (id .0) population quorum (now (mem .entry)) r (now (mem .exit)) ⌝ }
     {
-        if !begins(mem.len(), id.0, population, quorum) {
+        if !begins(mem.len(), id, population, quorum) {
             return Fresh::Refused(2);
         }
         reset(mem);
         let bodega_conf = RespondersConf::empty();
         let none = Ballot(0);
         let zero = Slot(0);
-        let beyond = Slot(0xffff_ffff_ffff_ffff);
+        let beyond = Slot(Slot::BEYOND);
         Fresh::Made(Node {
             id,
             population,

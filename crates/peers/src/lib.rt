@@ -1,5 +1,7 @@
 // `peer_accept_bar` of conflease.rs: a guard's number and bar for each replica, in 128 lent words, and the reading bar worked out from them.
+use ids::Ballot;
 use ids::Replica;
+use ids::Slot;
 ghost use mathlib.Core.Path.{_≡_};
 ghost use mathlib.Core.List.{map};
 ghost use Prim.Native.Nat.{_-_, _≤_, _<_};
@@ -9,59 +11,64 @@ ghost use Rattle.bodega.specs.Replica.{pair, freshPair};
 ghost use Rattle.bodega.specs.Conflease.{counted, newer as isNewer};
 ghost use Rattle.peers.specs.Pairs.{pairsOf, peerAccept, guarded};
 
-fn beats(was: u64, stood: u64, number: u64, bar: u64) -> bool
-    ensures { λ r. ⌜ r ≡ isNewer (pair was stood) number bar ⌝ }
+fn beats(was: Ballot, stood: Slot, number: Ballot, bar: Slot) -> bool
+    ensures { λ r. ⌜ r ≡ isNewer (pair (was .0) (stood .0)) (number .0) (bar .0) ⌝ }
 {
-    if was < number {
+    if was.0 < number.0 {
         return true;
     }
-    if number != was {
+    if number.0 != was.0 {
         return false;
     }
-    bar < stood
+    bar.0 < stood.0
 }
 
 // A larger number, or an equal one with a smaller bar.
-fn newer(pairs: &[u64], population: u8, peer: Replica, number: u64, bar: u64) -> bool
+fn newer(pairs: &[u64], population: u8, peer: Replica, number: Ballot, bar: Slot) -> bool
     requires { ⌜ (peer .0 < population) × (population ≤ 64) × (128 ≤ length (now pairs)) ⌝ }
-    ensures { λ r. ⌜ r ≡ isNewer (getD (pairsOf population (now (pairs .entry))) (peer .0) freshPair) number bar ⌝ }
+    ensures { λ r. ⌜ r ≡ isNewer (getD (pairsOf population (now (pairs .entry))) (peer .0) freshPair) (number .0) (bar .0) ⌝ }
 {
     let i = peer.0 as usize;
-    beats(pairs[i], pairs[64 + i], number, bar)
+    let was = pairs[i];
+    let stood = pairs[64 + i];
+    beats(Ballot(was), Slot(stood), number, bar)
 }
 
 // `peer_accept_bar.insert`.
-pub fn insert(pairs: &mut [u64], population: u8, peer: Replica, number: u64, bar: u64)
+pub fn insert(pairs: &mut [u64], population: u8, peer: Replica, number: Ballot, bar: Slot)
     requires { ⌜ (peer .0 < population) × (population ≤ 64) × (128 ≤ length (now pairs)) ⌝ }
-    ensures { λ _. ⌜ (pairsOf population (now (pairs .exit)) ≡ set (pairsOf population (now (pairs .entry))) (peer .0) (pair number bar)) × (length (now (pairs .exit)) ≡ length (now (pairs .entry))) ⌝ }
+    ensures { λ _. ⌜ (pairsOf population (now (pairs .exit)) ≡ set (pairsOf population (now (pairs .entry))) (peer .0) (pair (number .0) (bar .0))) × (length (now (pairs .exit)) ≡ length (now (pairs .entry))) ⌝ }
 {
     let i = peer.0 as usize;
-    pairs[i] = number;
-    pairs[64 + i] = bar;
+    pairs[i] = number.0;
+    pairs[64 + i] = bar.0;
 }
 
-fn counted_bar(ballot: u64, number: u64, bar: u64) -> u64
-    ensures { λ r. ⌜ r ≡ counted ballot (pair number bar) ⌝ }
+fn counted_bar(ballot: Ballot, number: Ballot, bar: Slot) -> Slot
+    ensures { λ r. ⌜ r .0 ≡ counted (ballot .0) (pair (number .0) (bar .0)) ⌝ }
 {
-    if number == ballot {
+    if number.0 == ballot.0 {
         return bar;
     }
-    0xffff_ffff_ffff_ffff
+    Slot(Slot::BEYOND)
 }
 
 // `update_peer_accept_max`: the quorum-th smallest bar, counting only those on the ballot.
-pub fn accept_max(pairs: &[u64], population: u8, quorum: u8, ballot: u64) -> u64
+pub fn accept_max(pairs: &[u64], population: u8, quorum: u8, ballot: Ballot) -> Slot
     requires { ⌜ (0 < quorum) × (quorum ≤ population) × (population ≤ 64) × (128 ≤ length (now pairs)) ⌝ }
-    ensures { λ r. ⌜ r ≡ getD (sort (map (counted ballot) (pairsOf population (now (pairs .entry))))) (quorum - 1) 0 ⌝ }
+    ensures { λ r. ⌜ r .0 ≡ getD (sort (map (counted (ballot .0)) (pairsOf population (now (pairs .entry))))) (quorum - 1) 0 ⌝ }
 {
     let n = population as usize;
     let mut b = [0u64; 64];
     let mut i = 0;
     while i < n {
-        b[i] = counted_bar(ballot, pairs[i], pairs[64 + i]);
+        let number = pairs[i];
+        let bar = pairs[64 + i];
+        let counted = counted_bar(ballot, Ballot(number), Slot(bar));
+        b[i] = counted.0;
         i += 1;
     }
-    rank::kth(&b[0..n], quorum as usize)
+    Slot(rank::kth(&b[0..n], quorum as usize))
 }
 
 // A peer's guard: where it alters the pair the reading bar is worked out anew; gives the reading bar.
@@ -69,14 +76,14 @@ pub fn guard_accept_bar(
     pairs: &mut [u64],
     population: u8,
     quorum: u8,
-    ballot: u64,
-    max: u64,
+    ballot: Ballot,
+    max: Slot,
     peer: Replica,
-    number: u64,
-    bar: u64,
-) -> u64
+    number: Ballot,
+    bar: Slot,
+) -> Slot
     requires { ⌜ (0 < quorum) × (quorum ≤ population) × (population ≤ 64) × (peer .0 < population) × (128 ≤ length (now pairs)) ⌝ }
-    ensures { λ r. ⌜ (peerAccept population (now (pairs .exit)) r ≡ guarded quorum ballot (peer .0) number bar (peerAccept population (now (pairs .entry)) max)) × (length (now (pairs .exit)) ≡ length (now (pairs .entry))) ⌝ }
+    ensures { λ r. ⌜ (peerAccept population (now (pairs .exit)) (r .0) ≡ guarded quorum (ballot .0) (peer .0) (number .0) (bar .0) (peerAccept population (now (pairs .entry)) (max .0))) × (length (now (pairs .exit)) ≡ length (now (pairs .entry))) ⌝ }
 {
     if !newer(pairs, population, peer, number, bar) {
         return max;

@@ -6,6 +6,7 @@ use cells::ReplicaBk;
 use cells::Status;
 use held::ReadReq;
 use ids::Ballot;
+use ids::Slot;
 use packed::Key;
 ghost use mathlib.Core.Path.{_≡_};
 ghost use mathlib.Core.List.{[], _∷_, _++_};
@@ -13,12 +14,16 @@ ghost use Prim.Native.Nat.{_-_, _≤_, _<_};
 ghost use lib.ListN.{length, replicate};
 ghost use Rattle.bodega.specs.Replica.{nullInstance, Instance, isOpen};
 ghost use Rattle.bodega.specs.Localread.{lastPut};
+ghost use Rattle.ids.specs.Limits.{window, top};
 ghost use Rattle.packed.specs.Key.{bytesOf};
 ghost use Rattle.cells.specs.Cell.{cellOf, statusOf, withStatus};
 ghost use Rattle.batch.specs.Batch.{requestsOf, valueIn};
 ghost use Rattle.held.specs.Held.{readOf};
 ghost use Rattle.slots.specs.Slots.{shortAt, batchAt, readsAt, instsOf, nullShort, Puts, instIn};
 ghost use Rattle.bodega.specs.Grounds.{any, holds};
+
+// Slots held at most.
+pub const WINDOW: usize = 32;
 
 // The short part of the slot at place c.
 pub fn load(s: &[u64], c: usize) -> Cell
@@ -113,13 +118,13 @@ fn null_slot(s: &mut [u64], c: usize)
 }
 
 // Null slots after the n that are held, so that there are `to`.
-pub fn pad(s: &mut [u64], start: u64, n: usize, to: usize)
-    requires { ⌜ (start ≤ 281474976710655) × (n ≤ to) × (to ≤ 32) × (7744 ≤ length (now s)) ⌝ }
-    ensures { λ _. ⌜ (instsOf start to (now (s .exit)) ≡ instsOf start n (now (s .entry)) ++ replicate (to - n) nullInstance) × (length (now (s .exit)) ≡ length (now (s .entry))) ⌝ }
+pub fn pad(s: &mut [u64], start: Slot, n: usize, to: usize)
+    requires { ⌜ (start .0 ≤ top) × (n ≤ to) × (to ≤ window) × (7744 ≤ length (now s)) ⌝ }
+    ensures { λ _. ⌜ (instsOf (start .0) to (now (s .exit)) ≡ instsOf (start .0) n (now (s .entry)) ++ replicate (to - n) nullInstance) × (length (now (s .exit)) ≡ length (now (s .entry))) ⌝ }
 {
     let mut i = n;
     while i < to {
-        let c = ((start + i as u64) % 32) as usize;
+        let c = ((start.0 + i as u64) % 32) as usize;
         null_slot(s, c);
         i += 1;
     }
@@ -152,13 +157,13 @@ pub fn set_status(s: &mut [u64], c: usize, status: Status)
 }
 
 // Whether one of n slots from start on is below Committed.
-pub fn any_open(s: &[u64], start: u64, n: usize) -> bool
-    requires { ⌜ (start ≤ 281474976710655) × (n ≤ 32) × (7744 ≤ length (now s)) ⌝ }
-    ensures { λ r. ⌜ r ≡ any (λ (i : Instance). isOpen (i .status)) (instsOf start n (now (s .entry))) ⌝ }
+pub fn any_open(s: &[u64], start: Slot, n: usize) -> bool
+    requires { ⌜ (start .0 ≤ top) × (n ≤ window) × (7744 ≤ length (now s)) ⌝ }
+    ensures { λ r. ⌜ r ≡ any (λ (i : Instance). isOpen (i .status)) (instsOf (start .0) n (now (s .entry))) ⌝ }
 {
     let mut i = 0;
     while i < n {
-        let c = ((start + i as u64) % 32) as usize;
+        let c = ((start.0 + i as u64) % 32) as usize;
         if is_open(s, c) {
             return true;
         }

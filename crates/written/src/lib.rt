@@ -10,6 +10,9 @@ ghost use Rattle.packed.specs.Key.{bytesOf};
 ghost use Rattle.bodega.specs.Localread.{highestOf};
 ghost use Rattle.written.specs.Written.{writtenOf, slotIn, placeOf, Notes};
 
+// Written keys at most.
+pub const KEYS: usize = 256;
+
 pub enum LastWrite {
     At(Slot),
     Nothing,
@@ -26,7 +29,7 @@ pub fn count(s: &[u64]) -> usize
     ensures { λ r. ⌜ (r ≡ length (writtenOf (now (s .entry)))) × (r ≤ 256) ⌝ }
 {
     let n = s[0];
-    if n <= 256 { n as usize } else { 256 }
+    if n <= KEYS as u64 { n as usize } else { KEYS }
 }
 
 fn find(s: &[u64], key: Key) -> Found
@@ -61,10 +64,13 @@ pub fn highest(s: &[u64], key: Key) -> LastWrite
     }
 }
 
-fn larger(a: u64, b: u64) -> u64
-    ensures { λ r. ⌜ r ≡ max a b ⌝ }
+fn larger(a: Slot, b: Slot) -> Slot
+    ensures { λ r. ⌜ r .0 ≡ max (a .0) (b .0) ⌝ }
 {
-    if a < b { b } else { a }
+    if a.0 < b.0 {
+        return b;
+    }
+    a
 }
 
 // A write of a key at a slot; false, and nothing changed, where it would be a 257th key.
@@ -77,12 +83,13 @@ pub fn note(s: &mut [u64], key: Key, slot: Slot) -> bool
         Found::Entry(i) => {
             let p = 1 + i * 8;
             let old = s[p];
-            s[p] = larger(slot.0, old);
+            let new = larger(slot, Slot(old));
+            s[p] = new.0;
             true
         }
         Found::Nowhere => {
             let n = count(s);
-            if n == 256 {
+            if n == KEYS {
                 return false;
             }
             let p = 1 + n * 8;

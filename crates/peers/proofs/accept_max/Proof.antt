@@ -12,7 +12,7 @@ use Rattle.peers.proofs.accept_max.Statement.{statement}
 use Rattle.peers.proofs.accept_max.Tie as tie
 
 abbrev Inv-loop : tie.InvT-loop
-Inv-loop pairs population quorum ballot n b₀ i₀ b i = (i ≤ n) × (length b ≡ 64) × (take i b ≡ tab (law.barAt pairs ballot) 0 i)
+Inv-loop pairs population quorum ballot n b₀ i₀ b i = (i ≤ n) × (length b ≡ 64) × (take i b ≡ tab (law.barAt pairs (ballot .0)) 0 i)
 
 abbrev μ-loop : tie.MeasureT-loop
 μ-loop pairs population quorum ballot n b₀ i₀ b i = n - i
@@ -20,20 +20,20 @@ abbrev μ-loop : tie.MeasureT-loop
 loop-holds : tie.Need-loop-holds Inv-loop μ-loop
 loop-holds c = (omega arith, refl, refl)
 
-mul-counted-bar : tie.Need-mul-counted-bar Inv-loop μ-loop
-mul-counted-bar c = omega arith
+mul-number : tie.Need-mul-number Inv-loop μ-loop
+mul-number c = omega arith
 
-shared-slice-read-counted-bar : tie.Need-shared-slice-read-counted-bar Inv-loop μ-loop
-shared-slice-read-counted-bar c = omega arith
+shared-slice-read-number : tie.Need-shared-slice-read-number Inv-loop μ-loop
+shared-slice-read-number c = omega arith
 
-add-counted-bar : tie.Need-add-counted-bar Inv-loop μ-loop
-add-counted-bar c = omega arith
+add-bar : tie.Need-add-bar Inv-loop μ-loop
+add-bar c = omega arith
 
-mul-counted-bar-2 : tie.Need-mul-counted-bar-2 Inv-loop μ-loop
-mul-counted-bar-2 c = omega arith
+mul-bar : tie.Need-mul-bar Inv-loop μ-loop
+mul-bar c = omega arith
 
-shared-slice-read-counted-bar-2 : tie.Need-shared-slice-read-counted-bar-2 Inv-loop μ-loop
-shared-slice-read-counted-bar-2 c = omega arith
+shared-slice-read-bar : tie.Need-shared-slice-read-bar Inv-loop μ-loop
+shared-slice-read-bar c = omega arith
 
 counted-bar-requires : tie.Need-counted-bar-requires Inv-loop μ-loop
 counted-bar-requires c κs = omega arith
@@ -66,7 +66,7 @@ kth-requires : tie.Need-kth-requires Inv-loop μ-loop
 kth-requires c κs = let l = c .before .before .before .loop in let a = c .before .before .before .before .before .args in let h : a .population ≤ length (l .b) = omega (arith, l .inv) in (omega arith, rw (sub-zero, length-take-le (a .population) (l .b) h) (omega arith))
 
 returns : tie.Need-returns Inv-loop μ-loop
-returns c = let l = c .before .before .before .before .loop in let a = c .before .before .before .before .before .before .args in let e : l .i ≡ a .population = omega arith in (rw sub-zero at (c .kth .ensures)) ∙ ap (λ (z : List ℕ). getD (sort z) (a .quorum - 1) 0) ((rw e at (l .inv .2)) ∙ law.counted-are (a .pairs .now) (a .ballot) (a .population))
+returns c = let l = c .before .before .before .before .loop in let a = c .before .before .before .before .before .before .args in let e : l .i ≡ a .population = omega arith in (rw sub-zero at (c .kth .ensures)) ∙ ap (λ (z : List ℕ). getD (sort z) (a .quorum - 1) 0) ((rw e at (l .inv .2)) ∙ law.counted-are (a .pairs .now) (a .ballot .0) (a .population))
 
 pub accept-max-spec : {M : Type 1} → statement M
 accept-max-spec =
@@ -75,11 +75,11 @@ accept-max-spec =
     Inv-loop
     μ-loop
     loop-holds
-    mul-counted-bar
-    shared-slice-read-counted-bar
-    add-counted-bar
-    mul-counted-bar-2
-    shared-slice-read-counted-bar-2
+    mul-number
+    shared-slice-read-number
+    add-bar
+    mul-bar
+    shared-slice-read-bar
     counted-bar-requires
     mul-b
     array-write-b

@@ -13,7 +13,7 @@ same-length c = search needs
 returns : tie.Need-returns
 returns c =
     let a = c .before .before .before .before .args in
-    (law.not-newer (a .population) (a .quorum) (a .ballot) (a .max) (a .peer .0) (a .number) (a .bar) (a .pairs .now) _ (c .before .newer .ensures) (c .if1 .taken), refl)
+    (law.not-newer (a .population) (a .quorum) (a .ballot .0) (a .max .0) (a .peer .0) (a .number .0) (a .bar .0) (a .pairs .now) _ (c .before .newer .ensures) (c .if1 .taken), refl)
 
 insert-requires : tie.Need-insert-requires
 insert-requires c κs = search needs
@@ -29,7 +29,7 @@ returns-2 c =
     let b = c .before .before .before .before .before .before in
     let a = b .before .before .before .before .args in
     let i = c .before .before .before .before .insert .ensures in
-    (law.now-newer (a .population) (a .quorum) (a .ballot) (a .max) (a .peer .0) (a .number) (a .bar) (a .pairs .now) _ (b .before .newer .ensures) _ _ (b .if1 .left) (i .0) (c .accept-max .ensures), i .1)
+    (law.now-newer (a .population) (a .quorum) (a .ballot .0) (a .max .0) (a .peer .0) (a .number .0) (a .bar .0) (a .pairs .now) _ (b .before .newer .ensures) _ _ (b .if1 .left) (i .0) (c .accept-max .ensures), i .1)
 
 pub guard-accept-bar-spec : {M : Type 1} → statement M
 guard-accept-bar-spec =

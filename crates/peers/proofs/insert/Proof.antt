@@ -30,7 +30,7 @@ returns : tie.Need-returns
 returns c =
     let g = c .before in
     let a = g .args in
-    (law.pairs-moved (a .pairs .now) (a .population) (a .peer .0) (a .number) (a .bar) (g .pre .0) (g .pre .1) (g .pre .2), law.length-moved (a .pairs .now) (a .population) (a .peer .0) (a .number) (a .bar) (g .pre .0) (g .pre .1) (g .pre .2))
+    (law.pairs-moved (a .pairs .now) (a .population) (a .peer .0) (a .number .0) (a .bar .0) (g .pre .0) (g .pre .1) (g .pre .2), law.length-moved (a .pairs .now) (a .population) (a .peer .0) (a .number .0) (a .bar .0) (g .pre .0) (g .pre .1) (g .pre .2))
 
 pub insert-spec : {M : Type 1} → statement M
 insert-spec =

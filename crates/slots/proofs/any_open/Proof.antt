@@ -13,7 +13,7 @@ abbrev isOpenAt : Instance → Bool
 isOpenAt i = isOpen (i .status)
 
 abbrev Inv-loop : tie.InvT-loop
-Inv-loop s start n i₀ i = (i ≤ n) × (law.anyFrom isOpenAt start n s i ≡ any isOpenAt (instsOf start n s))
+Inv-loop s start n i₀ i = (i ≤ n) × (law.anyFrom isOpenAt (start .0) n s i ≡ any isOpenAt (instsOf (start .0) n s))
 
 abbrev μ-loop : tie.MeasureT-loop
 μ-loop s start n i₀ i = n - i
@@ -29,7 +29,7 @@ is-open-requires c κs = omega arith
 
 returns : tie.Need-returns Inv-loop μ-loop
 returns c =
-    let l = c .before .before .before .loop in
+    let l = c .before .before .before .before .loop in
     sym (law.any-here isOpenAt _ _ _ (l .i) (omega arith) _ (c .before .is-open .ensures) (c .if1 .taken)) ∙ l .inv .1
 
 add-i : tie.Need-add-i Inv-loop μ-loop
@@ -40,7 +40,7 @@ loop-less c = omega arith
 
 loop-again : tie.Need-loop-again Inv-loop μ-loop
 loop-again c =
-    let l = c .before .before .before .loop in
+    let l = c .before .before .before .before .loop in
     (omega arith, sym (law.any-next isOpenAt _ _ _ (l .i) (omega arith) _ (c .before .is-open .ensures) (c .if1 .left)) ∙ l .inv .1)
 
 returns-2 : tie.Need-returns-2 Inv-loop μ-loop
