@@ -132,8 +132,8 @@ module _ (start n ballot bar : ℕ) where
       ∙ rw (e, q) (sym (walk-is ballot commit (bar - commit) (drop (commit - start) (instsOf start n s))))
 
   pub count-start : (commit : ℕ) (s : List ℕ) → start ≤ commit → commit ≤ start + n
-      → 0 + length (leftAt (commit - start) s .items) ≡ length (walked start n commit ballot bar s .items)
-  count-start commit s h g = rw (left-start commit s h g) (omega arith)
+      → length (leftAt (commit - start) s .items) ≡ length (walked start n commit ballot bar s .items)
+  count-start commit s h g = rw (left-start commit s h g)
 
   module _ (commit place : ℕ) (s₀ area₀ : List ℕ) where
     abbrev pub GoingAt : ℕ → ℕ → List ℕ → List ℕ → Type 0

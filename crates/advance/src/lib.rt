@@ -1,11 +1,13 @@
 // `advance_commit_bar`: from the commit bar on, slots below a peer's commit bar become Committed. The slots stand in lent words of crate slots.
 use cells::Status;
+use ids::Ballot;
 use ids::Slot;
 use items::Item;
 ghost use mathlib.Core.Path.{_≡_};
 ghost use Prim.Native.Nat.{_+_, _-_, _≤_, _<_, min};
 ghost use lib.Dec.{ltb};
 ghost use lib.ListN.{length};
+ghost use Rattle.ids.specs.Limits.{window, top};
 ghost use Rattle.items.specs.Item.{places};
 ghost use Rattle.bodega.specs.Replica.{order};
 ghost use Rattle.cells.specs.Cell.{statusOf};
@@ -26,12 +28,12 @@ fn is_below_accepting(status: Status) -> bool
 }
 
 // Whether the walk ends before the slot at place c.
-fn stops(s: &[u64], c: usize, ballot: u64) -> bool
+fn stops(s: &[u64], c: usize, ballot: Ballot) -> bool
     requires { ⌜ (c < 32) × (7744 ≤ length (now s)) ⌝ }
-    ensures { λ r. ⌜ r ≡ stopsAt ballot (instIn (now (s .entry)) c) ⌝ }
+    ensures { λ r. ⌜ r ≡ stopsAt (ballot .0) (instIn (now (s .entry)) c) ⌝ }
 {
     let cell = slots::load(s, c);
-    if cell.bal.0 < ballot {
+    if cell.bal.0 < ballot.0 {
         return true;
     }
     let status = cell.status;
@@ -50,27 +52,26 @@ pub fn one_if_open(s: &[u64], c: usize) -> usize
 }
 
 // A slot that the walk passes: marked Committed, with its item, unless it was already. Gives the next place of the area.
-fn mark(s: &mut [u64], c: usize, area: &mut [u64], place: usize, slot: u64) -> usize
+fn mark(s: &mut [u64], c: usize, area: &mut [u64], place: usize, slot: Slot) -> usize
     requires { ⌜ (c < 32) × (7744 ≤ length (now s)) × (place + oneIfOpen (instIn (now s) c) ≤ places (now area)) ⌝ }
-    ensures { λ r. ⌜ Marks c place slot (now (s .entry)) (now (area .entry)) r (now (s .exit)) (now (area .exit)) ⌝ }
+    ensures { λ r. ⌜ Marks c place (slot .0) (now (s .entry)) (now (area .entry)) r (now (s .exit)) (now (area .exit)) ⌝ }
 {
     if !slots::is_open(s, c) {
         return place;
     }
     slots::set_status(s, c, Status::Committed);
-    let marked = Slot(slot);
-    items::put_item(area, place, Item::Commit(marked));
+    items::put_item(area, place, Item::Commit(slot));
     place + 1
 }
 
 // How many of n slots from start on are below the bar.
-fn reach(start: u64, n: usize, bar: u64) -> usize
-    ensures { λ r. ⌜ r ≡ min n (bar - start) ⌝ }
+fn reach(start: Slot, n: usize, bar: Slot) -> usize
+    ensures { λ r. ⌜ r ≡ min n (bar .0 - start .0) ⌝ }
 {
-    if bar <= start {
+    if bar.0 <= start.0 {
         return 0;
     }
-    let below = (bar - start) as usize;
+    let below = (bar.0 - start.0) as usize;
     if n < below {
         return n;
     }
@@ -78,15 +79,22 @@ fn reach(start: u64, n: usize, bar: u64) -> usize
 }
 
 // How many items the walk has.
-pub fn count_commits(s: &[u64], start: u64, n: usize, commit: u64, ballot: u64, bar: u64) -> usize
-    requires { ⌜ (start ≤ commit) × (commit ≤ start + n) × (start ≤ 281474976710655) × (n ≤ 32) × (7744 ≤ length (now s)) ⌝ }
-    ensures { λ r. ⌜ r ≡ length (walked start n commit ballot bar (now (s .entry)) .items) ⌝ }
+pub fn count_commits(
+    s: &[u64],
+    start: Slot,
+    n: usize,
+    commit: Slot,
+    ballot: Ballot,
+    bar: Slot,
+) -> usize
+    requires { ⌜ (start .0 ≤ commit .0) × (commit .0 ≤ start .0 + n) × (start .0 ≤ top) × (n ≤ window) × (7744 ≤ length (now s)) ⌝ }
+    ensures { λ r. ⌜ r ≡ length (walked (start .0) n (commit .0) (ballot .0) (bar .0) (now (s .entry)) .items) ⌝ }
 {
     let to = reach(start, n, bar);
-    let mut k = (commit - start) as usize;
+    let mut k = (commit.0 - start.0) as usize;
     let mut count = 0;
     while k < to {
-        let c = ((start + k as u64) % 32) as usize;
+        let c = ((start.0 + k as u64) % 32) as usize;
         if stops(s, c, ballot) {
             return count;
         }
@@ -101,25 +109,25 @@ pub fn advance(
     s: &mut [u64],
     area: &mut [u64],
     place: usize,
-    start: u64,
+    start: Slot,
     n: usize,
-    commit: u64,
-    ballot: u64,
-    bar: u64,
+    commit: Slot,
+    ballot: Ballot,
+    bar: Slot,
 ) -> usize
-    requires { ⌜ (start ≤ commit) × (commit ≤ start + n) × (start ≤ 281474976710655) × (n ≤ 32) × (7744 ≤ length (now s)) × (place + length (walked start n commit ballot bar (now s) .items) ≤ places (now area)) ⌝ }
-    ensures { λ r. ⌜ Advances place start n commit ballot bar (now (s .entry)) (now (area .entry)) r (now (s .exit)) (now (area .exit)) ⌝ }
+    requires { ⌜ (start .0 ≤ commit .0) × (commit .0 ≤ start .0 + n) × (start .0 ≤ top) × (n ≤ window) × (7744 ≤ length (now s)) × (place + length (walked (start .0) n (commit .0) (ballot .0) (bar .0) (now s) .items) ≤ places (now area)) ⌝ }
+    ensures { λ r. ⌜ Advances place (start .0) n (commit .0) (ballot .0) (bar .0) (now (s .entry)) (now (area .entry)) r (now (s .exit)) (now (area .exit)) ⌝ }
 {
     let to = reach(start, n, bar);
-    let mut k = (commit - start) as usize;
+    let mut k = (commit.0 - start.0) as usize;
     let mut at = place;
     while k < to {
-        let slot = start + k as u64;
+        let slot = start.0 + k as u64;
         let c = (slot % 32) as usize;
         if stops(s, c, ballot) {
             return at;
         }
-        at = mark(s, c, area, at, slot);
+        at = mark(s, c, area, at, Slot(slot));
         k += 1;
     }
     at

@@ -9,14 +9,14 @@ ghost use lib.ListN.{length, getD};
 ghost use Rattle.words.specs.Tab.{run};
 ghost use Rattle.execs.specs.Execs.{allPassed, Hears, HearsPeer};
 
-fn has_passed(execs: &[u64], i: usize, id: Replica, exec: u64) -> bool
+fn has_passed(execs: &[u64], i: usize, id: Replica, exec: Slot) -> bool
     requires { ⌜ i < length (now execs) ⌝ }
-    ensures { λ r. ⌜ r ≡ eqb i (id .0) || leb exec (getD (now (execs .entry)) i 0) ⌝ }
+    ensures { λ r. ⌜ r ≡ eqb i (id .0) || leb (exec .0) (getD (now (execs .entry)) i 0) ⌝ }
 {
     if i == id.0 as usize {
         return true;
     }
-    exec <= execs[i]
+    exec.0 <= execs[i]
 }
 
 // `passed_cnt == population`.
@@ -27,7 +27,7 @@ pub fn passed(execs: &[u64], population: u8, id: Replica, exec: Slot) -> bool
     let n = population as usize;
     let mut i = 0;
     while i < n {
-        if !has_passed(execs, i, id, exec.0) {
+        if !has_passed(execs, i, id, exec) {
             return false;
         }
         i += 1;

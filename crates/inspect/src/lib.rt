@@ -9,6 +9,7 @@ use ids::Slot;
 use items::Item;
 use keyrange::Lookup;
 use keys::KeyRead;
+use node::Node;
 use packed::Key;
 use responders::RespondersConf;
 use words::wide;
@@ -125,13 +126,13 @@ fn not_responder(stored: Lookup) -> Settled
 
 // ---- slots
 
-fn is_held(start: u64, slots: usize, slot: u64) -> bool
-    ensures { λ r. ⌜ r ≡ heldAt start slots slot ⌝ }
+fn is_held(start: Slot, slots: usize, slot: Slot) -> bool
+    ensures { λ r. ⌜ r ≡ heldAt (start .0) slots (slot .0) ⌝ }
 {
-    if slot < start {
+    if slot.0 < start.0 {
         return false;
     }
-    slot - start < slots as u64
+    slot.0 - start.0 < slots as u64
 }
 
 // The place of a slot.
@@ -185,7 +186,7 @@ fn inspect_highest_slot(v: Standing, s: &[u64], key: Key, slot: Slot) -> Settled
     ensures { λ r. ⌜ ((rows w : List ℕ) → settledOf r ≡ inspectHighestSlot (seen v rows (now (s .entry)) w) (bytesOf key) (slot .0)) ⌝ }
 {
     let start = v.start_slot;
-    if !is_held(start.0, v.slots, slot.0) {
+    if !is_held(start, v.slots, slot) {
         return Settled::SlotStatus(slot);
     }
     let c = place_of(slot);
@@ -286,7 +287,7 @@ fn waits_at(v: Standing, s: &[u64], slot: Slot) -> Answer
     ensures { λ r. ⌜ ((rows w : List ℕ) → answerIn r ≡ waitsAt (seen v rows (now (s .entry)) w) (slot .0)) ⌝ }
 {
     let start = v.start_slot;
-    if !is_held(start.0, v.slots, slot.0) {
+    if !is_held(start, v.slots, slot) {
         return Answer::Again;
     }
     let cell = slots::load(s, place_of(slot));
@@ -322,10 +323,10 @@ fn is_full(v: Standing, s: &[u64], slot: Slot) -> bool
     ensures { λ r. ⌜ ((rows w : List ℕ) → r ≡ full (seen v rows (now (s .entry)) w) (slot .0)) ⌝ }
 {
     let start = v.start_slot;
-    if !is_held(start.0, v.slots, slot.0) {
+    if !is_held(start, v.slots, slot) {
         return false;
     }
-    16 <= localread::holding(s, place_of(slot))
+    Node::HOLD <= localread::holding(s, place_of(slot))
 }
 
 // A read would be held by a slot that holds 16.

@@ -5,6 +5,7 @@ use cells::ReplicaBk;
 use ids::Ballot;
 use ids::Leader;
 use ids::Replica;
+use ids::Slot;
 ghost use mathlib.Core.Path.{_≡_};
 ghost use mathlib.Core.Bool.{_&&_, _||_};
 ghost use mathlib.Core.List.{List};
@@ -13,6 +14,7 @@ ghost use Prim.Native.Nat.{ℕ, _+_, _≤_, _<_};
 ghost use lib.Dec.{eqb};
 ghost use lib.ListN.{length};
 ghost use Rattle.ids.specs.Leader.{leaderOf};
+ghost use Rattle.ids.specs.Limits.{window, top};
 ghost use Rattle.items.specs.Item.{places};
 ghost use Rattle.bodega.specs.Replica.{ReadReq};
 ghost use Rattle.cells.specs.Cell.{bookOf};
@@ -32,13 +34,13 @@ fn noticed_book(book: ReplicaBk, peer: Replica, ballot: Ballot) -> NoticeBook
 }
 
 // Whether a notice is one for a slot: of its ballot, or the slot has none yet and is the last.
-fn is_for(bal: u64, ballot: u64, last: bool) -> bool
-    ensures { λ r. ⌜ r ≡ eqb ballot bal || (eqb bal 0 && last) ⌝ }
+fn is_for(bal: Ballot, ballot: Ballot, last: bool) -> bool
+    ensures { λ r. ⌜ r ≡ eqb (ballot .0) (bal .0) || (eqb (bal .0) 0 && last) ⌝ }
 {
-    if ballot == bal {
+    if ballot.0 == bal.0 {
         return true;
     }
-    if bal != 0 {
+    if bal.0 != 0 {
         return false;
     }
     last
@@ -84,7 +86,7 @@ fn due_in(s: &[u64], c: usize, last: bool, quorum: u8, peer: Replica, ballot: Ba
 {
     let cell = slots::load(s, c);
     let bal = cell.bal;
-    if !is_for(bal.0, ballot.0, last) {
+    if !is_for(bal, ballot, last) {
         return 0;
     }
     let old = cell.replica_bk;
@@ -111,7 +113,7 @@ fn notice_in(
 {
     let cell = slots::load(s, c);
     let bal = cell.bal;
-    if !is_for(bal.0, ballot.0, last) {
+    if !is_for(bal, ballot, last) {
         return 0;
     }
     put_notice(s, c, peer, ballot);
@@ -138,20 +140,20 @@ pub fn held_after(held: usize, k: usize) -> usize
 // How many items a notice has at the k-th of the slots from start on.
 pub fn due(
     s: &[u64],
-    start: u64,
+    start: Slot,
     held: usize,
     k: usize,
     quorum: u8,
     peer: Replica,
     ballot: Ballot,
 ) -> usize
-    requires { ⌜ (start ≤ 281474976710655) × (held ≤ 32) × (k < 32) × (7744 ≤ length (now s)) ⌝ }
-    ensures { λ r. ⌜ ((leader : Option ℕ) → r ≡ length (noticedAt quorum leader (peer .0) (ballot .0) k (instsOf start held (now (s .entry))) .items)) ⌝ }
+    requires { ⌜ (start .0 ≤ top) × (held ≤ window) × (k < 32) × (7744 ≤ length (now s)) ⌝ }
+    ensures { λ r. ⌜ ((leader : Option ℕ) → r ≡ length (noticedAt quorum leader (peer .0) (ballot .0) k (instsOf (start .0) held (now (s .entry))) .items)) ⌝ }
 {
     if held <= k {
         return 0;
     }
-    let c = ((start + k as u64) % 32) as usize;
+    let c = ((start.0 + k as u64) % 32) as usize;
     let last = k + 1 == held;
     due_in(s, c, last, quorum, peer, ballot)
 }
@@ -159,7 +161,7 @@ pub fn due(
 // The notice taken at the k-th of the slots from start on, null ones filled in up to it. Returns how many items.
 pub fn notice_at(
     s: &mut [u64],
-    start: u64,
+    start: Slot,
     held: usize,
     k: usize,
     quorum: u8,
@@ -168,10 +170,10 @@ pub fn notice_at(
     ballot: Ballot,
     area: &mut [u64],
 ) -> usize
-    requires { ⌜ (start ≤ 281474976710655) × (held ≤ 32) × (k < 32) × (7744 ≤ length (now s)) × (length (noticedAt quorum (leaderOf leader) (peer .0) (ballot .0) k (instsOf start held (now s)) .items) ≤ places (now area)) ⌝ }
-    ensures { λ r. ⌜ NotesAt quorum (leaderOf leader) (peer .0) (ballot .0) start held k (now (s .entry)) (now (area .entry)) r (now (s .exit)) (now (area .exit)) ⌝ }
+    requires { ⌜ (start .0 ≤ top) × (held ≤ window) × (k < 32) × (7744 ≤ length (now s)) × (length (noticedAt quorum (leaderOf leader) (peer .0) (ballot .0) k (instsOf (start .0) held (now s)) .items) ≤ places (now area)) ⌝ }
+    ensures { λ r. ⌜ NotesAt quorum (leaderOf leader) (peer .0) (ballot .0) (start .0) held k (now (s .entry)) (now (area .entry)) r (now (s .exit)) (now (area .exit)) ⌝ }
 {
-    let c = ((start + k as u64) % 32) as usize;
+    let c = ((start.0 + k as u64) % 32) as usize;
     if k < held {
         let last = k + 1 == held;
         return notice_in(s, c, last, quorum, leader, peer, ballot, area);

@@ -59,7 +59,7 @@ fn exceeds(written: &[u64], batch: &[u64]) -> bool
     let mut i = 0;
     while i < m {
         n = n + new_keys(written, batch, i);
-        if 256 < n {
+        if written::KEYS < n {
             return true;
         }
         i += 1;
@@ -74,7 +74,7 @@ pub fn overflows(written: &[u64], batch: &[u64]) -> bool
 {
     let m = batch::count(batch);
     let n = written::count(written);
-    if n + m <= 256 {
+    if n + m <= written::KEYS {
         return false;
     }
     exceeds(written, batch)

@@ -36,7 +36,7 @@ fn long_at(rows: &[u64], text: &[u8], i: usize) -> bool
     let p4 = p + 4;
     let p5 = p + 5;
     let from = clamp(rows[p4], text.len());
-    48 < clamp(rows[p5], text.len() - from)
+    keys::KEY_BYTES < clamp(rows[p5], text.len() - from)
 }
 
 // Whether a key is longer than 48 bytes.

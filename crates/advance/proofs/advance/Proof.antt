@@ -1,17 +1,19 @@
 use Rattle.advance.specs.Walk.{stopsAt, markItems}
 use Rattle.advance.proofs.Pass as pass
 use Rattle.advance.proofs.Laws as law
-use Prim.Native.Nat.{_-_, _≤_}
+use Prim.Native.Nat.{ℕ, _-_, _≤_, min}
+use mathlib.Core.Path.{_≡_}
 use native.Mathlib.Omega.{arith}
 use borrow.Author.Needs.{needs}
 use Rattle.advance.proofs.advance.Statement.{statement}
 use Rattle.advance.proofs.advance.Tie as tie
 
 abbrev Inv-loop : tie.InvT-loop
-Inv-loop s₀ area₀ place start n commit ballot bar to k₀ at₀ s area k at = (k ≤ n) × law.GoingAt start n ballot bar commit place s₀ area₀ k at s area
+Inv-loop s₀ area₀ place start n ballot to k₀ at₀ s area k at =
+    (k ≤ n) × ((bar : ℕ) → to ≡ min n (bar - start .0) → pass.Going (stopsAt (ballot .0)) law.marked markItems (start .0) n (bar - start .0) k₀ place s₀ area₀ k at s area)
 
 abbrev μ-loop : tie.MeasureT-loop
-μ-loop s₀ area₀ place start n commit ballot bar to k₀ at₀ s area k at = n - k
+μ-loop s₀ area₀ place start n ballot to k₀ at₀ s area k at = n - k
 
 reach-requires : tie.Need-reach-requires Inv-loop μ-loop
 reach-requires c κs = search needs
@@ -20,25 +22,42 @@ sub-k : tie.Need-sub-k Inv-loop μ-loop
 sub-k c = omega arith
 
 loop-holds : tie.Need-loop-holds Inv-loop μ-loop
-loop-holds c = let a = c .before .before .before .args in (omega arith, pass.going-start (stopsAt (a .ballot)) law.marked markItems _ _ (a .bar - a .start) (a .commit - a .start) (a .place) (a .s .now) (a .area .now))
+loop-holds c =
+    let a = c .before .before .before .before .before .args in
+    (omega arith, λ b e. pass.going-start (stopsAt (a .ballot .0)) law.marked markItems _ _ (b - a .start .0) (a .commit .0 - a .start .0) (a .place) (a .s .now) (a .area .now))
 
 add-slot : tie.Need-add-slot Inv-loop μ-loop
 add-slot c = omega arith
 
 stops-requires : tie.Need-stops-requires Inv-loop μ-loop
-stops-requires c κs = (omega arith, omega (arith, c .before .before .loop .inv .1 .size))
+stops-requires c κs =
+    let e = c .before .before .before .before .before .before .reach .ensures in
+    let b = c .before .before .before .before .before .before .before .before .before .args .bar .0 in
+    (omega arith, omega (arith, (c .before .before .before .loop .inv .1 b e) .size))
 
 same-length : tie.Need-same-length Inv-loop μ-loop
-same-length c = c .before .before .before .before .loop .inv .1 .size
+same-length c =
+    let e = c .before .before .before .before .before .before .before .before .reach .ensures in
+    let b = c .before .before .before .before .before .before .before .before .before .before .before .args .bar .0 in
+    (c .before .before .before .before .before .loop .inv .1 b e) .size
 
 same-length-2 : tie.Need-same-length-2 Inv-loop μ-loop
-same-length-2 c = c .before .before .before .before .loop .inv .1 .room
+same-length-2 c =
+    let e = c .before .before .before .before .before .before .before .before .reach .ensures in
+    let b = c .before .before .before .before .before .before .before .before .before .before .before .args .bar .0 in
+    (c .before .before .before .before .before .loop .inv .1 b e) .room
 
 returns : tie.Need-returns Inv-loop μ-loop
-returns c = let a = c .before .before .before .before .before .before .before .before .args in let l = c .before .before .before .before .loop in law.advances _ _ _ _ _ _ _ _ (c .before .before .before .before .before .before .before .before .pre .0) (c .before .before .before .before .before .before .before .before .pre .1) (pass.going-stop (stopsAt (a .ballot)) law.marked markItems _ _ (a .bar - a .start) (a .commit - a .start) (a .place) (a .s .now) (a .area .now) (l .k) (l .at) (l .s) (l .area) (l .inv .1) (omega arith) _ (c .before .stops .ensures) (c .if1 .taken))
+returns c =
+    let e = c .before .before .before .before .before .before .before .before .reach .ensures in
+    let b = c .before .before .before .before .before .before .before .before .before .before .before .args .bar .0 in
+    let a = c .before .before .before .before .before .before .before .before .before .before .before .args in let l = c .before .before .before .before .before .loop in law.advances _ _ _ _ _ _ _ _ (c .before .before .before .before .before .before .before .before .before .before .before .pre .0) (c .before .before .before .before .before .before .before .before .before .before .before .pre .1) (pass.going-stop (stopsAt (a .ballot .0)) law.marked markItems _ _ (a .bar .0 - a .start .0) (a .commit .0 - a .start .0) (a .place) (a .s .now) (a .area .now) (l .k) (l .at) (l .s) (l .area) (l .inv .1 b e) (omega arith) _ (c .before .stops .ensures) (c .if1 .taken))
 
 mark-requires : tie.Need-mark-requires Inv-loop μ-loop
-mark-requires c κs = let a = c .before .before .before .before .before .before .before .before .before .before .args in let l = c .before .before .before .before .before .before .loop in (omega arith, omega (arith, l .inv .1 .size), law.mark-fits _ _ _ _ _ _ _ _ (l .k) (l .at) (l .s) (l .area) (l .inv .1) (omega arith) _ (c .before .before .before .stops .ensures) (c .before .before .if1 .left) (c .before .before .before .before .before .before .before .before .before .before .pre .0) (c .before .before .before .before .before .before .before .before .before .before .pre .1) (c .before .before .before .before .before .before .before .before .before .before .pre .5))
+mark-requires c κs =
+    let e = c .before .before .before .before .before .before .before .before .before .before .reach .ensures in
+    let b = c .before .before .before .before .before .before .before .before .before .before .before .before .before .args .bar .0 in
+    let a = c .before .before .before .before .before .before .before .before .before .before .before .before .before .args in let l = c .before .before .before .before .before .before .before .loop in (omega arith, omega (arith, (l .inv .1 b e) .size), law.mark-fits _ _ _ _ _ _ _ _ (l .k) (l .at) (l .s) (l .area) (l .inv .1 b e) (omega arith) _ (c .before .before .before .stops .ensures) (c .before .before .if1 .left) (c .before .before .before .before .before .before .before .before .before .before .before .before .before .pre .0) (c .before .before .before .before .before .before .before .before .before .before .before .before .before .pre .1) (c .before .before .before .before .before .before .before .before .before .before .before .before .before .pre .5))
 
 add-k : tie.Need-add-k Inv-loop μ-loop
 add-k c = omega arith
@@ -47,16 +66,26 @@ loop-less : tie.Need-loop-less Inv-loop μ-loop
 loop-less c = omega arith
 
 loop-again : tie.Need-loop-again Inv-loop μ-loop
-loop-again c = let a = c .before .before .before .before .before .before .before .before .before .before .before .before .before .before .before .args in let l = c .before .before .before .before .before .before .before .before .before .before .before .loop in (omega arith, law.mark-step _ _ _ _ _ _ _ _ (l .k) (l .at) (l .s) (l .area) (l .inv .1) (omega arith) _ (c .before .before .before .before .before .before .before .before .stops .ensures) (c .before .before .before .before .before .before .before .if1 .left) (c .before .before .before .before .before .before .before .before .before .before .before .before .before .before .before .pre .3) _ _ _ (c .before .before .before .before .mark .ensures))
+loop-again c =
+    let a = c .before .before .before .before .before .before .before .before .before .before .before .before .before .before .before .before .before .before .args in let l = c .before .before .before .before .before .before .before .before .before .before .before .before .loop in (omega arith, λ b e. law.mark-step _ _ _ _ _ _ _ _ (l .k) (l .at) (l .s) (l .area) (l .inv .1 b e) (omega arith) _ (c .before .before .before .before .before .before .before .before .stops .ensures) (c .before .before .before .before .before .before .before .if1 .left) (c .before .before .before .before .before .before .before .before .before .before .before .before .before .before .before .before .before .before .pre .3) _ _ _ (c .before .before .before .before .mark .ensures))
 
 same-length-3 : tie.Need-same-length-3 Inv-loop μ-loop
-same-length-3 c = c .before .loop .inv .1 .size
+same-length-3 c =
+    let e = c .before .before .before .before .reach .ensures in
+    let b = c .before .before .before .before .before .before .before .args .bar .0 in
+    (c .before .loop .inv .1 b e) .size
 
 same-length-4 : tie.Need-same-length-4 Inv-loop μ-loop
-same-length-4 c = c .before .loop .inv .1 .room
+same-length-4 c =
+    let e = c .before .before .before .before .reach .ensures in
+    let b = c .before .before .before .before .before .before .before .args .bar .0 in
+    (c .before .loop .inv .1 b e) .room
 
 returns-2 : tie.Need-returns-2 Inv-loop μ-loop
-returns-2 c = let a = c .before .before .before .before .before .args in let l = c .before .loop in law.advances _ _ _ _ _ _ _ _ (c .before .before .before .before .before .pre .0) (c .before .before .before .before .before .pre .1) (pass.going-end (stopsAt (a .ballot)) law.marked markItems _ _ (a .bar - a .start) (a .commit - a .start) (a .place) (a .s .now) (a .area .now) (l .k) (l .at) (l .s) (l .area) (l .inv .1) (l .inv .0) (omega arith))
+returns-2 c =
+    let e = c .before .before .before .before .reach .ensures in
+    let b = c .before .before .before .before .before .before .before .args .bar .0 in
+    let a = c .before .before .before .before .before .before .before .args in let l = c .before .loop in law.advances _ _ _ _ _ _ _ _ (c .before .before .before .before .before .before .before .pre .0) (c .before .before .before .before .before .before .before .pre .1) (pass.going-end (stopsAt (a .ballot .0)) law.marked markItems _ _ (a .bar .0 - a .start .0) (a .commit .0 - a .start .0) (a .place) (a .s .now) (a .area .now) (l .k) (l .at) (l .s) (l .area) (l .inv .1 b e) (l .inv .0) (omega arith))
 
 pub advance-spec : {M : Type 1} → statement M
 advance-spec =

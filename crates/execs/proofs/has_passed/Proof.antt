@@ -17,7 +17,7 @@ shared-slice-read-result : tie.Need-shared-slice-read-result
 shared-slice-read-result c = search needs
 
 returns-2 : tie.Need-returns-2
-returns-2 c = sym (simp (ne-eqb _ _ (c .before .if1 .left)))
+returns-2 c = sym (simp (ne-eqb _ _ (c .before .before .if1 .left)))
 
 pub has-passed-spec : {M : Type 1} → statement M
 has-passed-spec =
