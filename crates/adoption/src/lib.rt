@@ -35,8 +35,8 @@ fn guard_itself(
     requires { ⌜ (0 < quorum) × (quorum ≤ population) × (population ≤ 64) × (id .0 < population) × (128 ≤ length (now pairs)) ⌝ }
     ensures { λ r. ⌜ (pairsOf population (now (pairs .exit)) ≡ set (pairsOf population (now (pairs .entry))) (id .0) (pair (ballot .0) (accept .0))) × (r .0 ≡ acceptMax quorum (ballot .0) (pairsOf population (now (pairs .exit)))) × (length (now (pairs .exit)) ≡ length (now (pairs .entry))) ⌝ }
 {
-    peers::insert(pairs, population, id, ballot.0, accept.0);
-    Slot(peers::accept_max(pairs, population, quorum, ballot.0))
+    peers::insert(pairs, population, id, ballot, accept);
+    peers::accept_max(pairs, population, quorum, ballot)
 }
 
 // The roster and the ballot, and the guards that they make anew.
@@ -80,15 +80,15 @@ fn become_a_leader(node: Node, mem: &mut [u64], area: &mut [u64]) -> Answered
     let ballot = node.bal_max_seen;
     let start = node.start_slot;
     let held = node.slots;
-    let slots = step_up::slots_after(&mem[512..8256], start.0, held);
+    let slots = step_up::slots_after(&mem[512..8256], start, held);
     let count = step_up::become_a_leader(
         &mut mem[512..8256],
         area,
-        start.0,
+        start,
         held,
         node.quorum,
         leader,
-        ballot.0,
+        ballot,
     );
     forget(&mut mem[128..192]);
     let unprepared = Ballot(0);
@@ -114,7 +114,7 @@ pub fn count_new_conf(node: Node, mem: &[u64], conf: RespondersConf) -> usize
     }
     let start = node.start_slot;
     let held = node.slots;
-    step_up::count_items(&mem[512..8256], start.0, held)
+    step_up::count_items(&mem[512..8256], start, held)
 }
 
 // An adoption, with a step-up where the roster names the replica leader.

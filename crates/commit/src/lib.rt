@@ -17,7 +17,7 @@ fn commit_refusal(population: u8, peer: Replica, bar: Slot) -> u64
     if population <= peer.0 {
         return 3;
     }
-    if 0xffff_ffff_ffff < bar.0 {
+    if Slot::TOP < bar.0 {
         return 8;
     }
     0
@@ -57,11 +57,11 @@ pub fn commit(
     }
     let count = advance::count_commits(
         &mem[512..8256],
-        node.start_slot.0,
+        node.start_slot,
         node.slots,
-        node.commit_bar.0,
-        ballot.0,
-        bar.0,
+        node.commit_bar,
+        ballot,
+        bar,
     );
     if area.len() / 6 < count {
         return Answered {
@@ -74,11 +74,11 @@ pub fn commit(
         &mut mem[512..8256],
         area,
         0,
-        node.start_slot.0,
+        node.start_slot,
         node.slots,
-        node.commit_bar.0,
-        ballot.0,
-        bar.0,
+        node.commit_bar,
+        ballot,
+        bar,
     );
     Answered {
         number: 0,

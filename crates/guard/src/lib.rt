@@ -17,7 +17,7 @@ fn guard_refusal(population: u8, id: Replica, peer: Replica, bar: Slot) -> u64
     if population <= peer.0 {
         return 3;
     }
-    if 0xffff_ffff_ffff < bar.0 {
+    if Slot::TOP < bar.0 {
         return 8;
     }
     if peer.0 == id.0 {
@@ -53,16 +53,16 @@ pub fn guard(
     }
     let ballot = node.bal_max_seen;
     let old = node.peer_accept_max;
-    let max = Slot(peers::guard_accept_bar(
+    let max = peers::guard_accept_bar(
         &mut mem[0..128],
         node.population,
         node.quorum,
-        ballot.0,
-        old.0,
+        ballot,
+        old,
         peer,
-        number.0,
-        bar.0,
-    ));
+        number,
+        bar,
+    );
     let mut next = node;
     next.peer_accept_max = max;
     Answered {

@@ -9,16 +9,16 @@ ghost use Rattle.node.specs.View.{view, ready, givenOf};
 ghost use Rattle.release.specs.Release.{releaseRefusal};
 
 // The number of a release's refusal but 20, 0 where there is none.
-fn release_refusal(start: u64, slots: usize, slot: u64) -> u64
-    ensures { λ r. ⌜ r ≡ releaseRefusal start slots slot ⌝ }
+fn release_refusal(start: Slot, slots: usize, slot: Slot) -> u64
+    ensures { λ r. ⌜ r ≡ releaseRefusal (start .0) slots (slot .0) ⌝ }
 {
-    if 0xffff_ffff_ffff < slot {
+    if Slot::TOP < slot.0 {
         return 8;
     }
-    if slot < start {
+    if slot.0 < start.0 {
         return 16;
     }
-    if slots as u64 <= slot - start {
+    if slots as u64 <= slot.0 - start.0 {
         return 16;
     }
     0
@@ -35,7 +35,7 @@ pub fn release(node: Node, mem: &mut [u64], area: &mut [u64], slot: Slot) -> Ans
         };
     }
     let start = node.start_slot;
-    let refusal = release_refusal(start.0, node.slots, slot.0);
+    let refusal = release_refusal(start, node.slots, slot);
     if refusal != 0 {
         return Answered {
             number: refusal,

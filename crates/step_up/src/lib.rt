@@ -11,6 +11,7 @@ ghost use mathlib.Core.Option.{Option, none};
 ghost use Prim.Native.Nat.{ℕ, _+_, _-_, _≤_, _<_};
 ghost use lib.ListN.{length, drop};
 ghost use Rattle.ids.specs.Leader.{leaderOf};
+ghost use Rattle.ids.specs.Limits.{window, top};
 ghost use Rattle.items.specs.Item.{places};
 ghost use Rattle.bodega.specs.Conflease.{firstOpen, lastOpen, prelogs};
 ghost use Rattle.slots.specs.Slots.{shortAt, batchAt, readsAt, instIn, instsOf, Puts};
@@ -18,9 +19,9 @@ ghost use Rattle.advance.specs.Walk.{oneIfOpen};
 ghost use Rattle.step_up.specs.StepUp.{slotsAfter, preparedAnew, releasedFrom, stepUp, StepsUp, Opens, prepareShort, Prelogs, Passes};
 
 // How many slots are held after it: one more where none is open.
-pub fn slots_after(s: &[u64], start: u64, n: usize) -> usize
-    requires { ⌜ (start ≤ 281474976710655) × (n ≤ 32) × (7744 ≤ length (now s)) ⌝ }
-    ensures { λ r. ⌜ r ≡ slotsAfter n (instsOf start n (now (s .entry))) ⌝ }
+pub fn slots_after(s: &[u64], start: Slot, n: usize) -> usize
+    requires { ⌜ (start .0 ≤ top) × (n ≤ window) × (7744 ≤ length (now s)) ⌝ }
+    ensures { λ r. ⌜ r ≡ slotsAfter n (instsOf (start .0) n (now (s .entry))) ⌝ }
 {
     if slots::any_open(s, start, n) {
         return n;
@@ -29,13 +30,13 @@ pub fn slots_after(s: &[u64], start: u64, n: usize) -> usize
 }
 
 // The number of the first open slot of n, n where none is.
-fn first_open(s: &[u64], start: u64, n: usize) -> usize
-    requires { ⌜ (start ≤ 281474976710655) × (n ≤ 32) × (7744 ≤ length (now s)) ⌝ }
-    ensures { λ r. ⌜ r ≡ firstOpen (instsOf start n (now (s .entry))) ⌝ }
+fn first_open(s: &[u64], start: Slot, n: usize) -> usize
+    requires { ⌜ (start .0 ≤ top) × (n ≤ window) × (7744 ≤ length (now s)) ⌝ }
+    ensures { λ r. ⌜ r ≡ firstOpen (instsOf (start .0) n (now (s .entry))) ⌝ }
 {
     let mut i = 0;
     while i < n {
-        let c = ((start + i as u64) % 32) as usize;
+        let c = ((start.0 + i as u64) % 32) as usize;
         if slots::is_open(s, c) {
             return i;
         }
@@ -45,14 +46,14 @@ fn first_open(s: &[u64], start: u64, n: usize) -> usize
 }
 
 // The number of the last open slot of n, n where none is.
-fn last_open(s: &[u64], start: u64, n: usize) -> usize
-    requires { ⌜ (start ≤ 281474976710655) × (n ≤ 32) × (7744 ≤ length (now s)) ⌝ }
-    ensures { λ r. ⌜ r ≡ lastOpen (instsOf start n (now (s .entry))) ⌝ }
+fn last_open(s: &[u64], start: Slot, n: usize) -> usize
+    requires { ⌜ (start .0 ≤ top) × (n ≤ window) × (7744 ≤ length (now s)) ⌝ }
+    ensures { λ r. ⌜ r ≡ lastOpen (instsOf (start .0) n (now (s .entry))) ⌝ }
 {
     let mut i = n;
     while 0 < i {
         i -= 1;
-        let c = ((start + i as u64) % 32) as usize;
+        let c = ((start.0 + i as u64) % 32) as usize;
         if slots::is_open(s, c) {
             return i;
         }
@@ -61,14 +62,14 @@ fn last_open(s: &[u64], start: u64, n: usize) -> usize
 }
 
 // How many of n slots are open.
-fn count_open(s: &[u64], start: u64, n: usize) -> usize
-    requires { ⌜ (start ≤ 281474976710655) × (n ≤ 32) × (7744 ≤ length (now s)) ⌝ }
-    ensures { λ r. ⌜ (r ≡ length (prelogs start (instsOf start n (now (s .entry))))) × (r ≤ 32) ⌝ }
+fn count_open(s: &[u64], start: Slot, n: usize) -> usize
+    requires { ⌜ (start .0 ≤ top) × (n ≤ window) × (7744 ≤ length (now s)) ⌝ }
+    ensures { λ r. ⌜ (r ≡ length (prelogs (start .0) (instsOf (start .0) n (now (s .entry))))) × (r ≤ window) ⌝ }
 {
     let mut k = 0;
     let mut count = 0;
     while k < n {
-        let c = ((start + k as u64) % 32) as usize;
+        let c = ((start.0 + k as u64) % 32) as usize;
         count += advance::one_if_open(s, c);
         k += 1;
     }
@@ -76,14 +77,14 @@ fn count_open(s: &[u64], start: u64, n: usize) -> usize
 }
 
 // How many reads the slots hold from the one of number `from` up to that of number `to`.
-fn count_held(s: &[u64], start: u64, n: usize, from: usize, to: usize) -> usize
-    requires { ⌜ (start ≤ 281474976710655) × (from ≤ to) × (to ≤ n) × (n ≤ 32) × (7744 ≤ length (now s)) ⌝ }
-    ensures { λ r. ⌜ (r ≡ length (releasedFrom 0 none (to - from) (drop from (instsOf start n (now (s .entry)))) .items)) × (r ≤ 512) ⌝ }
+fn count_held(s: &[u64], start: Slot, n: usize, from: usize, to: usize) -> usize
+    requires { ⌜ (start .0 ≤ top) × (from ≤ to) × (to ≤ n) × (n ≤ window) × (7744 ≤ length (now s)) ⌝ }
+    ensures { λ r. ⌜ (r ≡ length (releasedFrom 0 none (to - from) (drop from (instsOf (start .0) n (now (s .entry)))) .items)) × (r ≤ 512) ⌝ }
 {
     let mut k = from;
     let mut count = 0;
     while k < to {
-        let c = ((start + k as u64) % 32) as usize;
+        let c = ((start.0 + k as u64) % 32) as usize;
         count += localread::holding(s, c);
         k += 1;
     }
@@ -91,9 +92,9 @@ fn count_held(s: &[u64], start: u64, n: usize, from: usize, to: usize) -> usize
 }
 
 // How many items it has.
-pub fn count_items(s: &[u64], start: u64, n: usize) -> usize
-    requires { ⌜ (start ≤ 281474976710655) × (n ≤ 32) × (7744 ≤ length (now s)) ⌝ }
-    ensures { λ r. ⌜ ((quorum : ℕ) (leader : Option ℕ) (ballot : ℕ) → r ≡ length (stepUp start quorum leader ballot (instsOf start n (now (s .entry))) .items)) ⌝ }
+pub fn count_items(s: &[u64], start: Slot, n: usize) -> usize
+    requires { ⌜ (start .0 ≤ top) × (n ≤ window) × (7744 ≤ length (now s)) ⌝ }
+    ensures { λ r. ⌜ ((quorum : ℕ) (leader : Option ℕ) (ballot : ℕ) → r ≡ length (stepUp (start .0) quorum leader ballot (instsOf (start .0) n (now (s .entry))) .items)) ⌝ }
 {
     if !slots::any_open(s, start, n) {
         return 3;
@@ -106,9 +107,9 @@ pub fn count_items(s: &[u64], start: u64, n: usize) -> usize
 }
 
 // A null slot after the n that are held, where none is open. Gives how many there are then.
-fn open_one(s: &mut [u64], start: u64, n: usize) -> usize
-    requires { ⌜ (start ≤ 281474976710655) × (slotsAfter n (instsOf start n (now s)) ≤ 32) × (n ≤ 32) × (7744 ≤ length (now s)) ⌝ }
-    ensures { λ r. ⌜ Opens start n (now (s .entry)) r (now (s .exit)) ⌝ }
+fn open_one(s: &mut [u64], start: Slot, n: usize) -> usize
+    requires { ⌜ (start .0 ≤ top) × (slotsAfter n (instsOf (start .0) n (now s)) ≤ window) × (n ≤ window) × (7744 ≤ length (now s)) ⌝ }
+    ensures { λ r. ⌜ Opens (start .0) n (now (s .entry)) r (now (s .exit)) ⌝ }
 {
     if slots::any_open(s, start, n) {
         return n;
@@ -119,17 +120,16 @@ fn open_one(s: &mut [u64], start: u64, n: usize) -> usize
 }
 
 // The slot at place c Preparing at the ballot, with empty acks.
-fn prepare(s: &mut [u64], c: usize, ballot: u64)
+fn prepare(s: &mut [u64], c: usize, ballot: Ballot)
     requires { ⌜ (c < 32) × (7744 ≤ length (now s)) ⌝ }
-    ensures { λ _. ⌜ Puts (now (s .entry)) c (prepareShort ballot (shortAt (now (s .entry)) c)) (batchAt (now (s .entry)) c) (readsAt (now (s .entry)) c) (now (s .exit)) ⌝ }
+    ensures { λ _. ⌜ Puts (now (s .entry)) c (prepareShort (ballot .0) (shortAt (now (s .entry)) c)) (batchAt (now (s .entry)) c) (readsAt (now (s .entry)) c) (now (s .exit)) ⌝ }
 {
     let old = slots::load(s, c);
-    let bal = Ballot(ballot);
     let status = Status::Preparing;
     let leader_bk = LeaderBk::Some(0);
     let replica_bk = old.replica_bk;
     let cell = Cell {
-        bal,
+        bal: ballot,
         status,
         leader_bk,
         replica_bk,
@@ -138,16 +138,22 @@ fn prepare(s: &mut [u64], c: usize, ballot: u64)
 }
 
 // The slot at place c prepared anew with its item, if it is open. Gives the next place of the area.
-fn prelog(s: &mut [u64], c: usize, area: &mut [u64], place: usize, slot: u64, ballot: u64) -> usize
+fn prelog(
+    s: &mut [u64],
+    c: usize,
+    area: &mut [u64],
+    place: usize,
+    slot: Slot,
+    ballot: Ballot,
+) -> usize
     requires { ⌜ (c < 32) × (7744 ≤ length (now s)) × (place + oneIfOpen (instIn (now s) c) ≤ places (now area)) ⌝ }
-    ensures { λ r. ⌜ Prelogs c place slot ballot (now (s .entry)) (now (area .entry)) r (now (s .exit)) (now (area .exit)) ⌝ }
+    ensures { λ r. ⌜ Prelogs c place (slot .0) (ballot .0) (now (s .entry)) (now (area .entry)) r (now (s .exit)) (now (area .exit)) ⌝ }
 {
     if !slots::is_open(s, c) {
         return place;
     }
     prepare(s, c, ballot);
-    let logged = Slot(slot);
-    items::put_item(area, place, Item::Prelog(logged));
+    items::put_item(area, place, Item::Prelog(slot));
     place + 1
 }
 
@@ -156,19 +162,19 @@ fn prelog_all(
     s: &mut [u64],
     area: &mut [u64],
     place: usize,
-    start: u64,
+    start: Slot,
     n: usize,
-    ballot: u64,
+    ballot: Ballot,
 ) -> usize
-    requires { ⌜ (start ≤ 281474976710655) × (n ≤ 32) × (7744 ≤ length (now s)) × (place + length (prelogs start (instsOf start n (now s))) ≤ places (now area)) ⌝ }
-    ensures { λ r. ⌜ Passes (preparedAnew start ballot (instsOf start n (now (s .entry)))) place start n 0 (now (s .entry)) (now (area .entry)) r (now (s .exit)) (now (area .exit)) ⌝ }
+    requires { ⌜ (start .0 ≤ top) × (n ≤ window) × (7744 ≤ length (now s)) × (place + length (prelogs (start .0) (instsOf (start .0) n (now s))) ≤ places (now area)) ⌝ }
+    ensures { λ r. ⌜ Passes (preparedAnew (start .0) (ballot .0) (instsOf (start .0) n (now (s .entry)))) place (start .0) n 0 (now (s .entry)) (now (area .entry)) r (now (s .exit)) (now (area .exit)) ⌝ }
 {
     let mut k = 0;
     let mut at = place;
     while k < n {
-        let slot = start + k as u64;
+        let slot = start.0 + k as u64;
         let c = (slot % 32) as usize;
-        at = prelog(s, c, area, at, slot, ballot);
+        at = prelog(s, c, area, at, Slot(slot), ballot);
         k += 1;
     }
     at
@@ -179,20 +185,20 @@ fn release_all(
     s: &mut [u64],
     area: &mut [u64],
     place: usize,
-    start: u64,
+    start: Slot,
     n: usize,
     from: usize,
     to: usize,
     quorum: u8,
     leader: Leader,
 ) -> usize
-    requires { ⌜ (start ≤ 281474976710655) × (from ≤ to) × (to ≤ n) × (n ≤ 32) × (7744 ≤ length (now s)) × (place + length (releasedFrom quorum (leaderOf leader) (to - from) (drop from (instsOf start n (now s))) .items) ≤ places (now area)) ⌝ }
-    ensures { λ r. ⌜ Passes (releasedFrom quorum (leaderOf leader) (to - from) (drop from (instsOf start n (now (s .entry))))) place start n from (now (s .entry)) (now (area .entry)) r (now (s .exit)) (now (area .exit)) ⌝ }
+    requires { ⌜ (start .0 ≤ top) × (from ≤ to) × (to ≤ n) × (n ≤ window) × (7744 ≤ length (now s)) × (place + length (releasedFrom quorum (leaderOf leader) (to - from) (drop from (instsOf (start .0) n (now s))) .items) ≤ places (now area)) ⌝ }
+    ensures { λ r. ⌜ Passes (releasedFrom quorum (leaderOf leader) (to - from) (drop from (instsOf (start .0) n (now (s .entry))))) place (start .0) n from (now (s .entry)) (now (area .entry)) r (now (s .exit)) (now (area .exit)) ⌝ }
 {
     let mut k = from;
     let mut at = place;
     while k < to {
-        let c = ((start + k as u64) % 32) as usize;
+        let c = ((start.0 + k as u64) % 32) as usize;
         at += localread::release(s, c, quorum, leader, area, at);
         k += 1;
     }
@@ -203,14 +209,14 @@ fn release_all(
 pub fn become_a_leader(
     s: &mut [u64],
     area: &mut [u64],
-    start: u64,
+    start: Slot,
     n: usize,
     quorum: u8,
     leader: Leader,
-    ballot: u64,
+    ballot: Ballot,
 ) -> usize
-    requires { ⌜ (start ≤ 281474976710655) × (slotsAfter n (instsOf start n (now s)) ≤ 32) × (n ≤ 32) × (7744 ≤ length (now s)) × (length (stepUp start quorum (leaderOf leader) ballot (instsOf start n (now s)) .items) ≤ places (now area)) ⌝ }
-    ensures { λ r. ⌜ StepsUp start n quorum (leaderOf leader) ballot (now (s .entry)) (now (area .entry)) r (now (s .exit)) (now (area .exit)) ⌝ }
+    requires { ⌜ (start .0 ≤ top) × (slotsAfter n (instsOf (start .0) n (now s)) ≤ window) × (n ≤ window) × (7744 ≤ length (now s)) × (length (stepUp (start .0) quorum (leaderOf leader) (ballot .0) (instsOf (start .0) n (now s)) .items) ≤ places (now area)) ⌝ }
+    ensures { λ r. ⌜ StepsUp (start .0) n quorum (leaderOf leader) (ballot .0) (now (s .entry)) (now (area .entry)) r (now (s .exit)) (now (area .exit)) ⌝ }
 {
     let held = open_one(s, start, n);
     let from = first_open(s, start, held);
@@ -218,8 +224,8 @@ pub fn become_a_leader(
     items::put_item(area, 0, Item::Lead(true));
     let logged = prelog_all(s, area, 1, start, held, ballot);
     let next = release_all(s, area, logged, start, held, from, to, quorum, leader);
-    let slot = Slot(start + from as u64);
-    let bal = Ballot(ballot);
-    items::put_item(area, next, Item::Prepare { slot, ballot: bal });
+    let first = start.0 + from as u64;
+    let slot = Slot(first);
+    items::put_item(area, next, Item::Prepare { slot, ballot });
     next + 1
 }

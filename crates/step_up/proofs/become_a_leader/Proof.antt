@@ -15,7 +15,7 @@ last-open-requires : tie.Need-last-open-requires
 last-open-requires c κs = search needs
 
 add-to : tie.Need-add-to
-add-to c = let a = c .before .before .before .before .before .before .before .before .before .before .args in omega (arith, law.within (a .start) (a .n) (a .quorum) (leaderOf (a .leader)) (a .ballot) (a .s .now) (a .area .now) _ _ (c .before .before .before .before .before .before .open-one .ensures) _ _ (c .before .before .first-open .ensures) (c .last-open .ensures) .1)
+add-to c = let a = c .before .before .before .before .before .before .before .before .before .before .args in omega (arith, law.within (a .start .0) (a .n) (a .quorum) (leaderOf (a .leader)) (a .ballot .0) (a .s .now) (a .area .now) _ _ (c .before .before .before .before .before .before .open-one .ensures) _ _ (c .before .before .first-open .ensures) (c .last-open .ensures) .1)
 
 put-item-requires : tie.Need-put-item-requires
 put-item-requires c κs = search needs
@@ -24,16 +24,16 @@ prelog-all-requires : tie.Need-prelog-all-requires
 prelog-all-requires c κs = (omega arith, omega (arith, c .before .before .before .before .before .before .before .before .before .before .before .before .open-one .ensures .count), omega (arith, c .before .before .before .before .before .before .before .before .before .before .before .before .open-one .ensures .size), law.prelog-room _ _ _ _ _ _ _ _ _ (c .before .before .before .before .before .before .before .before .before .before .before .before .open-one .ensures) _ _ (c .before .before .before .before .before .before .before .before .first-open .ensures) (c .before .before .before .before .before .before .last-open .ensures) (c .before .before .before .before .before .before .before .before .before .before .before .before .before .before .before .before .pre .4) _ _ (c .before .before .before .before .put-item .ensures))
 
 release-all-requires : tie.Need-release-all-requires
-release-all-requires c κs = let a = c .before .before .before .before .before .before .before .before .before .before .before .before .before .before .before .before .before .before .before .before .before .before .before .args in let w = law.within (a .start) (a .n) (a .quorum) (leaderOf (a .leader)) (a .ballot) (a .s .now) (a .area .now) _ _ (c .before .before .before .before .before .before .before .before .before .before .before .before .before .before .before .before .before .before .before .open-one .ensures) _ _ (c .before .before .before .before .before .before .before .before .before .before .before .before .before .before .before .first-open .ensures) (c .before .before .before .before .before .before .before .before .before .before .before .before .before .last-open .ensures) in (omega arith, omega (arith, w .0), omega (arith, w .1), omega (arith, c .before .before .before .before .before .before .before .before .before .before .before .before .before .before .before .before .before .before .before .open-one .ensures .count), omega (arith, c .before .before .before .before .before .before .before .before .before .before .before .before .before .before .before .before .before .before .before .open-one .ensures .size, c .before .before .before .before .before .before .prelog-all .ensures .size), law.release-room _ _ _ _ _ _ _ _ _ (c .before .before .before .before .before .before .before .before .before .before .before .before .before .before .before .before .before .before .before .open-one .ensures) _ _ (c .before .before .before .before .before .before .before .before .before .before .before .before .before .before .before .first-open .ensures) (c .before .before .before .before .before .before .before .before .before .before .before .before .before .last-open .ensures) (c .before .before .before .before .before .before .before .before .before .before .before .before .before .before .before .before .before .before .before .before .before .before .before .pre .4) _ _ (c .before .before .before .before .before .before .before .before .before .before .before .put-item .ensures) _ _ _ (c .before .before .before .before .before .before .prelog-all .ensures))
+release-all-requires c κs = let a = c .before .before .before .before .before .before .before .before .before .before .before .before .before .before .before .before .before .before .before .before .before .before .before .args in let w = law.within (a .start .0) (a .n) (a .quorum) (leaderOf (a .leader)) (a .ballot .0) (a .s .now) (a .area .now) _ _ (c .before .before .before .before .before .before .before .before .before .before .before .before .before .before .before .before .before .before .before .open-one .ensures) _ _ (c .before .before .before .before .before .before .before .before .before .before .before .before .before .before .before .first-open .ensures) (c .before .before .before .before .before .before .before .before .before .before .before .before .before .last-open .ensures) in (omega arith, omega (arith, w .0), omega (arith, w .1), omega (arith, c .before .before .before .before .before .before .before .before .before .before .before .before .before .before .before .before .before .before .before .open-one .ensures .count), omega (arith, c .before .before .before .before .before .before .before .before .before .before .before .before .before .before .before .before .before .before .before .open-one .ensures .size, c .before .before .before .before .before .before .prelog-all .ensures .size), law.release-room _ _ _ _ _ _ _ _ _ (c .before .before .before .before .before .before .before .before .before .before .before .before .before .before .before .before .before .before .before .open-one .ensures) _ _ (c .before .before .before .before .before .before .before .before .before .before .before .before .before .before .before .first-open .ensures) (c .before .before .before .before .before .before .before .before .before .before .before .before .before .last-open .ensures) (c .before .before .before .before .before .before .before .before .before .before .before .before .before .before .before .before .before .before .before .before .before .before .before .pre .4) _ _ (c .before .before .before .before .before .before .before .before .before .before .before .put-item .ensures) _ _ _ (c .before .before .before .before .before .before .prelog-all .ensures))
 
-add-t35 : tie.Need-add-t35
-add-t35 c = let a = c .before .before .before .before .before .before .before .before .before .before .before .before .before .before .before .before .before .before .before .before .before .before .before .before .before .before .before .before .args in let w = law.within (a .start) (a .n) (a .quorum) (leaderOf (a .leader)) (a .ballot) (a .s .now) (a .area .now) _ _ (c .before .before .before .before .before .before .before .before .before .before .before .before .before .before .before .before .before .before .before .before .before .before .before .before .open-one .ensures) _ _ (c .before .before .before .before .before .before .before .before .before .before .before .before .before .before .before .before .before .before .before .before .first-open .ensures) (c .before .before .before .before .before .before .before .before .before .before .before .before .before .before .before .before .before .before .last-open .ensures) in omega (arith, w .0, w .1, c .before .before .before .before .before .before .before .before .before .before .before .before .before .before .before .before .before .before .before .before .before .before .before .before .open-one .ensures .count, c .before .before .before .before .before .before .before .before .before .before .before .before .before .before .before .before .before .before .before .before .before .before .before .before .before .before .before .before .pre .0, c .before .before .before .before .before .before .before .before .before .before .before .before .before .before .before .before .before .before .before .before .before .before .before .before .before .before .before .before .pre .1)
+add-first : tie.Need-add-first
+add-first c = let a = c .before .before .before .before .before .before .before .before .before .before .before .before .before .before .before .before .before .before .before .before .before .before .before .before .before .before .before .before .before .args in let w = law.within (a .start .0) (a .n) (a .quorum) (leaderOf (a .leader)) (a .ballot .0) (a .s .now) (a .area .now) _ _ (c .before .before .before .before .before .before .before .before .before .before .before .before .before .before .before .before .before .before .before .before .before .before .before .before .before .open-one .ensures) _ _ (c .before .before .before .before .before .before .before .before .before .before .before .before .before .before .before .before .before .before .before .before .before .first-open .ensures) (c .before .before .before .before .before .before .before .before .before .before .before .before .before .before .before .before .before .before .before .last-open .ensures) in omega (arith, w .0, w .1, c .before .before .before .before .before .before .before .before .before .before .before .before .before .before .before .before .before .before .before .before .before .before .before .before .before .open-one .ensures .count, c .before .before .before .before .before .before .before .before .before .before .before .before .before .before .before .before .before .before .before .before .before .before .before .before .before .before .before .before .before .pre .0, c .before .before .before .before .before .before .before .before .before .before .before .before .before .before .before .before .before .before .before .before .before .before .before .before .before .before .before .before .before .pre .1)
 
 put-item-requires-2 : tie.Need-put-item-requires-2
 put-item-requires-2 c κs = search needs
 
 add-result : tie.Need-add-result
-add-result c = let a = c .before .before .before .before .before .before .before .before .before .before .before .before .before .before .before .before .before .before .before .before .before .before .before .before .before .before .before .before .before .before .before .before .args in omega (arith, c .before .before .before .before .before .before .before .before .before .before .before .before .before .before .before .before .before .before .before .before .before .before .before .before .before .before .before .before .before .before .before .before .good .1 .0 .0, law.end-room (a .start) (a .n) (a .quorum) (leaderOf (a .leader)) (a .ballot) (a .s .now) (a .area .now) _ _ (c .before .before .before .before .before .before .before .before .before .before .before .before .before .before .before .before .before .before .before .before .before .before .before .before .before .before .before .before .open-one .ensures) _ _ (c .before .before .before .before .before .before .before .before .before .before .before .before .before .before .before .before .before .before .before .before .before .before .before .before .first-open .ensures) (c .before .before .before .before .before .before .before .before .before .before .before .before .before .before .before .before .before .before .before .before .before .before .last-open .ensures) (c .before .before .before .before .before .before .before .before .before .before .before .before .before .before .before .before .before .before .before .before .before .before .before .before .before .before .before .before .before .before .before .before .pre .4) _ _ (c .before .before .before .before .before .before .before .before .before .before .before .before .before .before .before .before .before .before .before .before .put-item .ensures) _ _ _ (c .before .before .before .before .before .before .before .before .before .before .before .before .before .before .before .prelog-all .ensures) _ _ _ (c .before .before .before .before .before .before .before .before .release-all .ensures))
+add-result c = let a = c .before .before .before .before .before .before .before .before .before .before .before .before .before .before .before .before .before .before .before .before .before .before .before .before .before .before .before .before .before .before .before .before .before .args in omega (arith, c .before .before .before .before .before .before .before .before .before .before .before .before .before .before .before .before .before .before .before .before .before .before .before .before .before .before .before .before .before .before .before .before .before .good .1 .0 .0, law.end-room (a .start .0) (a .n) (a .quorum) (leaderOf (a .leader)) (a .ballot .0) (a .s .now) (a .area .now) _ _ (c .before .before .before .before .before .before .before .before .before .before .before .before .before .before .before .before .before .before .before .before .before .before .before .before .before .before .before .before .before .open-one .ensures) _ _ (c .before .before .before .before .before .before .before .before .before .before .before .before .before .before .before .before .before .before .before .before .before .before .before .before .before .first-open .ensures) (c .before .before .before .before .before .before .before .before .before .before .before .before .before .before .before .before .before .before .before .before .before .before .before .last-open .ensures) (c .before .before .before .before .before .before .before .before .before .before .before .before .before .before .before .before .before .before .before .before .before .before .before .before .before .before .before .before .before .before .before .before .before .pre .4) _ _ (c .before .before .before .before .before .before .before .before .before .before .before .before .before .before .before .before .before .before .before .before .before .put-item .ensures) _ _ _ (c .before .before .before .before .before .before .before .before .before .before .before .before .before .before .before .before .prelog-all .ensures) _ _ _ (c .before .before .before .before .before .before .before .before .before .release-all .ensures))
 
 same-length : tie.Need-same-length
 same-length c = search needs
@@ -42,7 +42,7 @@ same-length-2 : tie.Need-same-length-2
 same-length-2 c = search needs
 
 returns : tie.Need-returns
-returns c = law.steps-up _ _ _ _ _ _ _ _ _ (c .before .before .before .before .before .before .before .before .before .before .before .before .before .before .before .before .before .before .before .before .before .before .before .before .before .before .before .before .open-one .ensures) _ _ (c .before .before .before .before .before .before .before .before .before .before .before .before .before .before .before .before .before .before .before .before .before .before .before .before .first-open .ensures) (c .before .before .before .before .before .before .before .before .before .before .before .before .before .before .before .before .before .before .before .before .before .before .last-open .ensures) (c .before .before .before .before .before .before .before .before .before .before .before .before .before .before .before .before .before .before .before .before .before .before .before .before .before .before .before .before .before .before .before .before .pre .4) _ _ (c .before .before .before .before .before .before .before .before .before .before .before .before .before .before .before .before .before .before .before .before .put-item .ensures) _ _ _ (c .before .before .before .before .before .before .before .before .before .before .before .before .before .before .before .prelog-all .ensures) _ _ _ (c .before .before .before .before .before .before .before .before .release-all .ensures) _ _ (c .before .before .put-item2 .ensures)
+returns c = law.steps-up _ _ _ _ _ _ _ _ _ (c .before .before .before .before .before .before .before .before .before .before .before .before .before .before .before .before .before .before .before .before .before .before .before .before .before .before .before .before .before .open-one .ensures) _ _ (c .before .before .before .before .before .before .before .before .before .before .before .before .before .before .before .before .before .before .before .before .before .before .before .before .before .first-open .ensures) (c .before .before .before .before .before .before .before .before .before .before .before .before .before .before .before .before .before .before .before .before .before .before .before .last-open .ensures) (c .before .before .before .before .before .before .before .before .before .before .before .before .before .before .before .before .before .before .before .before .before .before .before .before .before .before .before .before .before .before .before .before .before .pre .4) _ _ (c .before .before .before .before .before .before .before .before .before .before .before .before .before .before .before .before .before .before .before .before .before .put-item .ensures) _ _ _ (c .before .before .before .before .before .before .before .before .before .before .before .before .before .before .before .before .prelog-all .ensures) _ _ _ (c .before .before .before .before .before .before .before .before .before .release-all .ensures) _ _ (c .before .before .put-item2 .ensures)
 
 pub become-a-leader-spec : {M : Type 1} → statement M
 become-a-leader-spec =
@@ -55,7 +55,7 @@ become-a-leader-spec =
     put-item-requires
     prelog-all-requires
     release-all-requires
-    add-t35
+    add-first
     put-item-requires-2
     add-result
     same-length

@@ -14,13 +14,13 @@ use Rattle.step_up.proofs.count_open.Statement.{statement}
 use Rattle.step_up.proofs.count_open.Tie as tie
 
 abbrev Inv-loop : tie.InvT-loop
-Inv-loop s start n k₀ count₀ k count = (k ≤ n) × (count ≤ k) × (count + length (law.prelogLeft start n 0 k s .items) ≡ length (prelogs start (instsOf start n s)))
+Inv-loop s start n k₀ count₀ k count = (k ≤ n) × (count ≤ k) × (count + length (law.prelogLeft (start .0) n 0 k s .items) ≡ length (prelogs (start .0) (instsOf (start .0) n s)))
 
 abbrev μ-loop : tie.MeasureT-loop
 μ-loop s start n k₀ count₀ k count = n - k
 
 loop-holds : tie.Need-loop-holds Inv-loop μ-loop
-loop-holds c = let a = c .before .args in (omega arith, omega arith, law.count-open-start (a .start) (a .n) (a .s .now))
+loop-holds c = let a = c .before .args in (omega arith, omega arith, law.count-open-start (a .start .0) (a .n) (a .s .now))
 
 add-c : tie.Need-add-c Inv-loop μ-loop
 add-c c = omega arith
@@ -38,7 +38,7 @@ loop-less : tie.Need-loop-less Inv-loop μ-loop
 loop-less c = omega arith
 
 loop-again : tie.Need-loop-again Inv-loop μ-loop
-loop-again c = let a = c .before .before .before .before .args in let l = c .before .before .loop in (omega arith, omega (arith, one.at-most-one _ _ _ (c .one-if-open .ensures)), pass.count-step never (reprepared 0) prelogOf _ _ (a .n) (l .k) (l .count) _ _ (l .inv .2) (omega arith) false refl refl _ (c .one-if-open .ensures ∙ law.one-item (a .start + l .k) (instIn (a .s .now) ((a .start + l .k) % 32))))
+loop-again c = let a = c .before .before .before .before .before .args in let l = c .before .before .before .loop in (omega arith, omega (arith, one.at-most-one _ _ _ (c .one-if-open .ensures)), pass.count-step never (reprepared 0) prelogOf _ _ (a .n) (l .k) (l .count) _ _ (l .inv .2) (omega arith) false refl refl _ (c .one-if-open .ensures ∙ law.one-item (a .start .0 + l .k) (instIn (a .s .now) ((a .start .0 + l .k) % 32))))
 
 returns : tie.Need-returns Inv-loop μ-loop
 returns c = let a = c .before .before .before .args in let l = c .before .loop in (pass.count-end never (reprepared 0) prelogOf _ _ (a .n) (l .k) (l .count) _ _ (l .inv .2) (omega arith), omega arith)

@@ -9,13 +9,13 @@ use Rattle.step_up.proofs.last_open.Statement.{statement}
 use Rattle.step_up.proofs.last_open.Tie as tie
 
 abbrev Inv-loop : tie.InvT-loop
-Inv-loop s start n i₀ i = (i ≤ n) × (anyOpen (restOf start n i s) ≡ false)
+Inv-loop s start n i₀ i = (i ≤ n) × (anyOpen (restOf (start .0) n i s) ≡ false)
 
 abbrev μ-loop : tie.MeasureT-loop
 μ-loop s start n i₀ i = i
 
 loop-holds : tie.Need-loop-holds Inv-loop μ-loop
-loop-holds c = let a = c .before .args in (omega arith, law.none-after (a .start) (a .n) (a .s .now))
+loop-holds c = let a = c .before .args in (omega arith, law.none-after (a .start .0) (a .n) (a .s .now))
 
 sub-i : tie.Need-sub-i Inv-loop μ-loop
 sub-i c = omega arith
@@ -27,13 +27,13 @@ is-open-requires : tie.Need-is-open-requires Inv-loop μ-loop
 is-open-requires c κs = omega arith
 
 returns : tie.Need-returns Inv-loop μ-loop
-returns c = let l = c .before .before .before .loop in law.last-here _ _ _ (l .i - 1) (omega arith) _ (c .before .is-open .ensures) (l .i) (omega arith) (l .inv .1) (c .if1 .taken)
+returns c = let l = c .before .before .before .before .loop in law.last-here _ _ _ (l .i - 1) (omega arith) _ (c .before .is-open .ensures) (l .i) (omega arith) (l .inv .1) (c .if1 .taken)
 
 loop-less : tie.Need-loop-less Inv-loop μ-loop
 loop-less c = omega arith
 
 loop-again : tie.Need-loop-again Inv-loop μ-loop
-loop-again c = let l = c .before .before .before .loop in (omega arith, law.last-next _ _ _ (l .i - 1) (omega arith) _ (c .before .is-open .ensures) (l .i) (omega arith) (l .inv .1) (c .if1 .left))
+loop-again c = let l = c .before .before .before .before .loop in (omega arith, law.last-next _ _ _ (l .i - 1) (omega arith) _ (c .before .is-open .ensures) (l .i) (omega arith) (l .inv .1) (c .if1 .left))
 
 returns-2 : tie.Need-returns-2 Inv-loop μ-loop
 returns-2 c = let l = c .before .loop in law.last-end _ _ _ (l .i) (omega arith) (l .inv .1)
