@@ -4,6 +4,7 @@ use Rattle.responders.specs.Conf.{getRespondersByKey, setResponders, intoFilter
 use Rattle.keys.specs.Read.{readKey}
 use Rattle.keys.specs.Same.{sameBytes}
 use Rattle.ranges.specs.Range.{overwrite, remasked}
+use Rattle.ranges.specs.Canon.{isCanon}
 use Rattle.bodega.specs.Replica.{fresh, instAt, setInst, pad}
 use Rattle.bodega.specs.Localread.{isStableLeader, commitCondition, raise, refreshHighestSlot, highestOf, isBound, lastPut, inspectHighestSlot, inspectLatestWrite, holdRead, releaseHeldReadReqs, releaseFrom}
 use Rattle.bodega.specs.Request.{settled, readAnswer, treatRead}
@@ -16,5 +17,5 @@ use Rattle.bodega.specs.Step.{effect, turnedAway, step, run, answers}
 use Rattle.rank.specs.Sort.{sort, insert}
 
 unfoldable pub computes : Unit {0}
-unfolding tally every get mark unmark setTo count isSuperset fits readKey overwrite remasked setResponders getRespondersByKey intoFiltered same fresh instAt setInst pad isStableLeader commitCondition sameBytes raise refreshHighestSlot highestOf isBound lastPut inspectHighestSlot inspectLatestWrite holdRead releaseHeldReadReqs releaseFrom settled readAnswer treatRead updatePeerAcceptMax guardAcceptBar firstOpen anyOpen lastOpen prelogs becomeALeader heardNewConf checkBallot walk advanceCommitBar heardCommitNotice installs heardConf heardExecBar heardBars heardHeartbeat resendMissedAccepts takeAck handleMsgAcceptReply takeNotice noticed handleMsgAcceptNotice prepared recorded executed bars grounds effect turnedAway step run answers sort insert
+unfolding tally every get mark unmark setTo count isSuperset fits readKey overwrite remasked isCanon setResponders getRespondersByKey intoFiltered same fresh instAt setInst pad isStableLeader commitCondition sameBytes raise refreshHighestSlot highestOf isBound lastPut inspectHighestSlot inspectLatestWrite holdRead releaseHeldReadReqs releaseFrom settled readAnswer treatRead updatePeerAcceptMax guardAcceptBar firstOpen anyOpen lastOpen prelogs becomeALeader heardNewConf checkBallot walk advanceCommitBar heardCommitNotice installs heardConf heardExecBar heardBars heardHeartbeat resendMissedAccepts takeAck handleMsgAcceptReply takeNotice noticed handleMsgAcceptNotice prepared recorded executed bars grounds effect turnedAway step run answers sort insert
 computes = tt
