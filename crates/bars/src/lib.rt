@@ -7,6 +7,7 @@ use node::is_ready;
 ghost use mathlib.Core.Path.{_≡_};
 ghost use Prim.Native.Nat.{_≤_};
 ghost use lib.ListN.{length};
+ghost use Rattle.ids.specs.Limits.{window, top};
 ghost use Rattle.bodega.specs.Replica.{Bars};
 ghost use Rattle.bodega.specs.Grounds.{any, holds};
 ghost use Rattle.bodega.specs.Answers.{Answers};
@@ -15,53 +16,53 @@ ghost use Rattle.node.specs.View.{view, ready, givenOf};
 ghost use Rattle.bars.specs.Moves.{anyFar, lowered, inOrder, broken, barsRefusal, Executes};
 
 // 8.
-fn any_far(start: u64, accept: u64, commit: u64, exec: u64) -> bool
-    ensures { λ r. ⌜ r ≡ anyFar start accept commit exec ⌝ }
+fn any_far(start: Slot, accept: Slot, commit: Slot, exec: Slot) -> bool
+    ensures { λ r. ⌜ r ≡ anyFar (start .0) (accept .0) (commit .0) (exec .0) ⌝ }
 {
-    if 0xffff_ffff_ffff < start {
+    if Slot::TOP < start.0 {
         return true;
     }
-    if 0xffff_ffff_ffff < accept {
+    if Slot::TOP < accept.0 {
         return true;
     }
-    if 0xffff_ffff_ffff < commit {
+    if Slot::TOP < commit.0 {
         return true;
     }
-    0xffff_ffff_ffff < exec
+    Slot::TOP < exec.0
 }
 
-fn falls(start0: u64, commit0: u64, exec0: u64, start: u64, commit: u64, exec: u64) -> bool
-    ensures { λ r. ⌜ r ≡ lowered start0 commit0 exec0 start commit exec ⌝ }
+fn falls(start0: Slot, commit0: Slot, exec0: Slot, start: Slot, commit: Slot, exec: Slot) -> bool
+    ensures { λ r. ⌜ r ≡ lowered (start0 .0) (commit0 .0) (exec0 .0) (start .0) (commit .0) (exec .0) ⌝ }
 {
-    if start < start0 {
+    if start.0 < start0.0 {
         return true;
     }
-    if commit < commit0 {
+    if commit.0 < commit0.0 {
         return true;
     }
-    exec < exec0
+    exec.0 < exec0.0
 }
 
-fn ordered(start: u64, exec: u64, commit: u64, end: u64) -> bool
-    ensures { λ r. ⌜ r ≡ inOrder start exec commit end ⌝ }
+fn ordered(start: Slot, exec: Slot, commit: Slot, end: Slot) -> bool
+    ensures { λ r. ⌜ r ≡ inOrder (start .0) (exec .0) (commit .0) (end .0) ⌝ }
 {
-    if exec < start {
+    if exec.0 < start.0 {
         return false;
     }
-    if commit < exec {
+    if commit.0 < exec.0 {
         return false;
     }
-    commit <= end
+    commit.0 <= end.0
 }
 
 // Whether one of n slots from start on holds reads.
-fn any_holds(s: &[u64], start: u64, n: usize) -> bool
-    requires { ⌜ (start ≤ 281474976710655) × (n ≤ 32) × (7744 ≤ length (now s)) ⌝ }
-    ensures { λ r. ⌜ r ≡ any holds (instsOf start n (now (s .entry))) ⌝ }
+fn any_holds(s: &[u64], start: Slot, n: usize) -> bool
+    requires { ⌜ (start .0 ≤ top) × (n ≤ window) × (7744 ≤ length (now s)) ⌝ }
+    ensures { λ r. ⌜ r ≡ any holds (instsOf (start .0) n (now (s .entry))) ⌝ }
 {
     let mut i = 0;
     while i < n {
-        let c = ((start + i as u64) % 32) as usize;
+        let c = ((start.0 + i as u64) % 32) as usize;
         if slots::holds_reads(s, c) {
             return true;
         }
@@ -73,43 +74,44 @@ fn any_holds(s: &[u64], start: u64, n: usize) -> bool
 // 11, from the slots' words and the bars as they are.
 fn breaks(
     s: &[u64],
-    start0: u64,
-    commit0: u64,
-    exec0: u64,
+    start0: Slot,
+    commit0: Slot,
+    exec0: Slot,
     n: usize,
-    start: u64,
-    commit: u64,
-    exec: u64,
+    start: Slot,
+    commit: Slot,
+    exec: Slot,
 ) -> bool
-    requires { ⌜ (start0 ≤ 281474976710655) × (n ≤ 32) × (7744 ≤ length (now s)) ⌝ }
-    ensures { λ r. ⌜ r ≡ broken start0 commit0 exec0 (instsOf start0 n (now (s .entry))) start commit exec ⌝ }
+    requires { ⌜ (start0 .0 ≤ top) × (n ≤ window) × (7744 ≤ length (now s)) ⌝ }
+    ensures { λ r. ⌜ r ≡ broken (start0 .0) (commit0 .0) (exec0 .0) (instsOf (start0 .0) n (now (s .entry))) (start .0) (commit .0) (exec .0) ⌝ }
 {
     if falls(start0, commit0, exec0, start, commit, exec) {
         return true;
     }
-    if !ordered(start, exec, commit, start0 + n as u64) {
+    let end = start0.0 + n as u64;
+    if !ordered(start, exec, commit, Slot(end)) {
         return true;
     }
-    if slots::any_open(s, start0, (commit - start0) as usize) {
+    if slots::any_open(s, start0, (commit.0 - start0.0) as usize) {
         return true;
     }
-    any_holds(s, start0, (start - start0) as usize)
+    any_holds(s, start0, (start.0 - start0.0) as usize)
 }
 
 // The number of the refusal, 0 where there is none.
 fn bars_refusal(
     s: &[u64],
-    start0: u64,
-    commit0: u64,
-    exec0: u64,
+    start0: Slot,
+    commit0: Slot,
+    exec0: Slot,
     n: usize,
-    start: u64,
-    accept: u64,
-    commit: u64,
-    exec: u64,
+    start: Slot,
+    accept: Slot,
+    commit: Slot,
+    exec: Slot,
 ) -> u64
-    requires { ⌜ (start0 ≤ 281474976710655) × (n ≤ 32) × (7744 ≤ length (now s)) ⌝ }
-    ensures { λ r. ⌜ r ≡ barsRefusal start0 commit0 exec0 (instsOf start0 n (now (s .entry))) start accept commit exec ⌝ }
+    requires { ⌜ (start0 .0 ≤ top) × (n ≤ window) × (7744 ≤ length (now s)) ⌝ }
+    ensures { λ r. ⌜ r ≡ barsRefusal (start0 .0) (commit0 .0) (exec0 .0) (instsOf (start0 .0) n (now (s .entry))) (start .0) (accept .0) (commit .0) (exec .0) ⌝ }
 {
     if any_far(start, accept, commit, exec) {
         return 8;
@@ -121,13 +123,13 @@ fn bars_refusal(
 }
 
 // The first n slots from start on become Executed.
-fn execute(s: &mut [u64], start: u64, n: usize)
-    requires { ⌜ (start ≤ 281474976710655) × (n ≤ 32) × (7744 ≤ length (now s)) ⌝ }
-    ensures { λ _. ⌜ Executes start n (now (s .entry)) (now (s .exit)) ⌝ }
+fn execute(s: &mut [u64], start: Slot, n: usize)
+    requires { ⌜ (start .0 ≤ top) × (n ≤ window) × (7744 ≤ length (now s)) ⌝ }
+    ensures { λ _. ⌜ Executes (start .0) n (now (s .entry)) (now (s .exit)) ⌝ }
 {
     let mut i = 0;
     while i < n {
-        let c = ((start + i as u64) % 32) as usize;
+        let c = ((start.0 + i as u64) % 32) as usize;
         slots::set_status(s, c, Status::Executed);
         i += 1;
     }
@@ -151,17 +153,17 @@ pub fn bars(
             node,
         };
     }
-    let from = node.start_slot.0;
+    let from = node.start_slot;
     let refusal = bars_refusal(
         &mem[512..8256],
         from,
-        node.commit_bar.0,
-        node.exec_bar.0,
+        node.commit_bar,
+        node.exec_bar,
         node.slots,
-        start.0,
-        accept.0,
-        commit.0,
-        exec.0,
+        start,
+        accept,
+        commit,
+        exec,
     );
     if refusal != 0 {
         return Answered {
@@ -170,13 +172,13 @@ pub fn bars(
             node,
         };
     }
-    execute(&mut mem[512..8256], from, (exec.0 - from) as usize);
+    execute(&mut mem[512..8256], from, (exec.0 - from.0) as usize);
     let mut next = node;
     next.start_slot = start;
     next.accept_bar = accept;
     next.commit_bar = commit;
     next.exec_bar = exec;
-    next.slots = node.slots - (start.0 - from) as usize;
+    next.slots = node.slots - (start.0 - from.0) as usize;
     Answered {
         number: 0,
         count: 0,

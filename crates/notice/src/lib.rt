@@ -14,6 +14,7 @@ ghost use Prim.Native.Nat.{_≤_, _<_};
 ghost use lib.Dec.{eqb};
 ghost use lib.ListN.{length};
 ghost use Rattle.ids.specs.Leader.{leaderOf};
+ghost use Rattle.ids.specs.Limits.{top};
 ghost use Rattle.responders.specs.Conf.{intoFiltered};
 ghost use Rattle.responders.specs.Edits.{view as rosterOf};
 ghost use Rattle.bodega.specs.Replica.{Notice};
@@ -32,20 +33,20 @@ fn is_current(leader: Leader, id: Replica, seen: Ballot, ballot: Ballot) -> bool
 }
 
 // The number of a notice's refusal but 20, 0 where there is none.
-fn notice_refusal(population: u8, current: bool, start: u64, peer: Replica, slot: Slot) -> u64
-    requires { ⌜ start ≤ 281474976710655 ⌝ }
-    ensures { λ r. ⌜ r ≡ noticeRefusal population current start (peer .0) (slot .0) ⌝ }
+fn notice_refusal(population: u8, current: bool, start: Slot, peer: Replica, slot: Slot) -> u64
+    requires { ⌜ start .0 ≤ top ⌝ }
+    ensures { λ r. ⌜ r ≡ noticeRefusal population current (start .0) (peer .0) (slot .0) ⌝ }
 {
     if population <= peer.0 {
         return 3;
     }
-    if 0xffff_ffff_ffff < slot.0 {
+    if Slot::TOP < slot.0 {
         return 8;
     }
     if !current {
         return 0;
     }
-    if start + 32 <= slot.0 {
+    if start.0 + Node::WINDOW as u64 <= slot.0 {
         return 15;
     }
     0
@@ -105,7 +106,7 @@ pub fn notice(
     let seen = node.bal_max_seen;
     let start = node.start_slot;
     let current = is_current(leader, id, seen, ballot);
-    let refusal = notice_refusal(node.population, current, start.0, peer, slot);
+    let refusal = notice_refusal(node.population, current, start, peer, slot);
     if refusal != 0 {
         return Answered {
             number: refusal,
@@ -149,7 +150,7 @@ pub fn notice(
     let k = (slot.0 - start.0) as usize;
     let held = node.slots;
     let quorum = node.quorum;
-    let due = notices::due(&mem[512..8256], start.0, held, k, quorum, peer, ballot);
+    let due = notices::due(&mem[512..8256], start, held, k, quorum, peer, ballot);
     if area.len() / 6 < due {
         return Answered {
             number: 20,
@@ -159,7 +160,7 @@ pub fn notice(
     }
     let count = notices::notice_at(
         &mut mem[512..8256],
-        start.0,
+        start,
         held,
         k,
         quorum,

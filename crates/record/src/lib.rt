@@ -14,6 +14,7 @@ ghost use mathlib.Core.Bool.{true};
 ghost use Prim.Native.Nat.{_+_, _≤_, _<_};
 ghost use lib.ListN.{length};
 ghost use Rattle.words.specs.Choice.{if_then_else_};
+ghost use Rattle.ids.specs.Limits.{window, top};
 ghost use Rattle.bodega.specs.Replica.{Record};
 ghost use Rattle.bodega.specs.Answers.{Answers};
 ghost use Rattle.cells.specs.Cell.{bookOf, acksOf};
@@ -24,24 +25,24 @@ ghost use Rattle.node.specs.View.{view, ready, givenOf};
 ghost use Rattle.record.specs.Records.{freshAcks, batchRefusal, slotRefusal, lateRefusal, ended, keptBook, acceptingShort, seenReads, Pads, Records, Recorded};
 
 // 5, 8, 9: the number of the refusal that the batch and the slot's number meet, 0 where there is none.
-fn batch_refusal(rows: &[u64], text: &[u8], slot: u64) -> u64
-    ensures { λ r. ⌜ r ≡ batchRefusal (given (now (rows .entry)) (now (text .entry))) slot ⌝ }
+fn batch_refusal(rows: &[u64], text: &[u8], slot: Slot) -> u64
+    ensures { λ r. ⌜ r ≡ batchRefusal (given (now (rows .entry)) (now (text .entry))) (slot .0) ⌝ }
 {
     if requests::any_long(rows, text) {
         return 5;
     }
-    if 0xffff_ffff_ffff < slot {
+    if Slot::TOP < slot.0 {
         return 8;
     }
-    if 8 < requests::count(rows) {
+    if batch::BATCH < requests::count(rows) {
         return 9;
     }
     0
 }
 
 // What *record* must be at.
-fn current(leader: bool, prepared: u64, seen: u64) -> u64
-    ensures { λ r. ⌜ r ≡ (if leader then prepared else seen) ⌝ }
+fn current(leader: bool, prepared: Ballot, seen: Ballot) -> Ballot
+    ensures { λ r. ⌜ r .0 ≡ (if leader then prepared .0 else seen .0) ⌝ }
 {
     if leader {
         return prepared;
@@ -50,43 +51,43 @@ fn current(leader: bool, prepared: u64, seen: u64) -> u64
 }
 
 // 14: below the start, or held and no longer open.
-fn is_ended(s: &[u64], start: u64, n: usize, slot: u64) -> bool
-    requires { ⌜ (start ≤ 281474976710655) × (n ≤ 32) × (7744 ≤ length (now s)) ⌝ }
-    ensures { λ r. ⌜ r ≡ ended start (instsOf start n (now (s .entry))) slot ⌝ }
+fn is_ended(s: &[u64], start: Slot, n: usize, slot: Slot) -> bool
+    requires { ⌜ (start .0 ≤ top) × (n ≤ window) × (7744 ≤ length (now s)) ⌝ }
+    ensures { λ r. ⌜ r ≡ ended (start .0) (instsOf (start .0) n (now (s .entry))) (slot .0) ⌝ }
 {
-    if slot < start {
+    if slot.0 < start.0 {
         return true;
     }
-    if start + n as u64 <= slot {
+    if start.0 + n as u64 <= slot.0 {
         return false;
     }
-    let c = (slot % 32) as usize;
+    let c = (slot.0 % 32) as usize;
     !slots::is_open(s, c)
 }
 
 // 13, 14, 15, 18: the number of the refusal, 0 where there is none.
 fn slot_refusal(
     s: &[u64],
-    start: u64,
+    start: Slot,
     n: usize,
-    slot: u64,
-    ballot: u64,
-    current: u64,
+    slot: Slot,
+    ballot: Ballot,
+    current: Ballot,
     full: bool,
 ) -> u64
-    requires { ⌜ (start ≤ 281474976710655) × (n ≤ 32) × (7744 ≤ length (now s)) ⌝ }
-    ensures { λ r. ⌜ r ≡ slotRefusal start (instsOf start n (now (s .entry))) slot ballot current full ⌝ }
+    requires { ⌜ (start .0 ≤ top) × (n ≤ window) × (7744 ≤ length (now s)) ⌝ }
+    ensures { λ r. ⌜ r ≡ slotRefusal (start .0) (instsOf (start .0) n (now (s .entry))) (slot .0) (ballot .0) (current .0) full ⌝ }
 {
-    if ballot != current {
+    if ballot.0 != current.0 {
         return 13;
     }
-    if current == 0 {
+    if current.0 == 0 {
         return 13;
     }
     if is_ended(s, start, n, slot) {
         return 14;
     }
-    if start + 32 <= slot {
+    if start.0 + Node::WINDOW as u64 <= slot.0 {
         return 15;
     }
     if full {
@@ -96,9 +97,9 @@ fn slot_refusal(
 }
 
 // Null slots up to and with the k-th from start on, where it is not held; how many slots there are then.
-fn padded(s: &mut [u64], start: u64, n: usize, k: usize) -> usize
-    requires { ⌜ (start ≤ 281474976710655) × (n ≤ 32) × (k < 32) × (7744 ≤ length (now s)) ⌝ }
-    ensures { λ r. ⌜ Pads start n k (now (s .entry)) (now (s .exit)) r ⌝ }
+fn padded(s: &mut [u64], start: Slot, n: usize, k: usize) -> usize
+    requires { ⌜ (start .0 ≤ top) × (n ≤ window) × (k < 32) × (7744 ≤ length (now s)) ⌝ }
+    ensures { λ r. ⌜ Pads (start .0) n k (now (s .entry)) (now (s .exit)) r ⌝ }
 {
     if k < n {
         return n;
@@ -166,26 +167,26 @@ fn accept_at(s: &mut [u64], c: usize, ballot: Ballot, leader: bool, words: &[u64
 // The batch into the slot, one of the 32 from start on; how many slots there are then.
 fn accept(
     s: &mut [u64],
-    start: u64,
+    start: Slot,
     n: usize,
-    slot: u64,
+    slot: Slot,
     ballot: Ballot,
     leader: bool,
     words: &[u64],
 ) -> usize
-    requires { ⌜ (start ≤ 281474976710655) × (n ≤ 32) × (start ≤ slot) × (slot < start + 32) × (7744 ≤ length (now s)) × (length (now words) ≡ 89) ⌝ }
-    ensures { λ r. ⌜ Records start n slot (ballot .0) leader (requestsOf (now (words .entry))) (now (s .entry)) (now (s .exit)) r ⌝ }
+    requires { ⌜ (start .0 ≤ top) × (n ≤ window) × (start .0 ≤ slot .0) × (slot .0 < start .0 + window) × (7744 ≤ length (now s)) × (length (now words) ≡ 89) ⌝ }
+    ensures { λ r. ⌜ Records (start .0) n (slot .0) (ballot .0) leader (requestsOf (now (words .entry))) (now (s .entry)) (now (s .exit)) r ⌝ }
 {
-    let k = (slot - start) as usize;
+    let k = (slot.0 - start.0) as usize;
     let held = padded(s, start, n, k);
-    let place = (slot % 32) as usize;
+    let place = (slot.0 % 32) as usize;
     accept_at(s, place, ballot, leader, words);
     held
 }
 
 // 2, or what the batch and the slot's number meet; 0 where there is none.
-fn early_refusal(node: Node, mem: &[u64], slot: u64, rows: &[u64], text: &[u8]) -> u64
-    ensures { λ r. ⌜ r ≡ (if ready node (now (mem .entry)) then batchRefusal (given (now (rows .entry)) (now (text .entry))) slot else 2) ⌝ }
+fn early_refusal(node: Node, mem: &[u64], slot: Slot, rows: &[u64], text: &[u8]) -> u64
+    ensures { λ r. ⌜ r ≡ (if ready node (now (mem .entry)) then batchRefusal (given (now (rows .entry)) (now (text .entry))) (slot .0) else 2) ⌝ }
 {
     if !is_ready(node, mem) {
         return 2;
@@ -194,18 +195,18 @@ fn early_refusal(node: Node, mem: &[u64], slot: u64, rows: &[u64], text: &[u8]) 
 }
 
 // What the slot, the ballot and the keys of a batch in 89 words meet at a node.
-fn late_refusal(node: Node, mem: &[u64], slot: u64, ballot: u64, words: &[u64]) -> u64
+fn late_refusal(node: Node, mem: &[u64], slot: Slot, ballot: Ballot, words: &[u64]) -> u64
     requires { ⌜ (ready node (now mem) ≡ true) × (length (now words) ≡ 89) ⌝ }
-    ensures { λ r. ⌜ r ≡ lateRefusal node (now (mem .entry)) slot ballot (requestsOf (now (words .entry))) ⌝ }
+    ensures { λ r. ⌜ r ≡ lateRefusal node (now (mem .entry)) (slot .0) (ballot .0) (requestsOf (now (words .entry))) ⌝ }
 {
     let conf = node.bodega_conf;
     let chosen = conf.leader;
     let leader = leads(chosen, node.id);
-    let bal = current(leader, node.bal_prepared.0, node.bal_max_seen.0);
+    let bal = current(leader, node.bal_prepared, node.bal_max_seen);
     let full = refresh::overflows(&mem[8256..10305], words);
     slot_refusal(
         &mem[512..8256],
-        node.start_slot.0,
+        node.start_slot,
         node.slots,
         slot,
         ballot,
@@ -225,9 +226,9 @@ fn recorded(node: Node, mem: &mut [u64], slot: Slot, ballot: Ballot, words: &[u6
     refresh::refresh(&mut mem[8256..10305], words, slot);
     let held = accept(
         &mut mem[512..8256],
-        node.start_slot.0,
+        node.start_slot,
         node.slots,
-        slot.0,
+        slot,
         ballot,
         leader,
         words,
@@ -258,13 +259,13 @@ pub fn record(
 ) -> Answered
     ensures { λ r. ⌜ Answers ready view (Record (slot .0) (ballot .0) (given (now (rows .entry)) (now (text .entry)))) node (now (mem .entry)) (now (area .entry)) (givenOf r) (now (mem .exit)) (now (area .entry)) ⌝ }
 {
-    let early = early_refusal(node, mem, slot.0, rows, text);
+    let early = early_refusal(node, mem, slot, rows, text);
     if early != 0 {
         return refused(node, early);
     }
     let mut words = [0u64; 89];
     requests::load(rows, text, &mut words);
-    let late = late_refusal(node, mem, slot.0, ballot.0, &words);
+    let late = late_refusal(node, mem, slot, ballot, &words);
     if late != 0 {
         return refused(node, late);
     }

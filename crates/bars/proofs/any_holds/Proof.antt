@@ -8,7 +8,7 @@ use Rattle.bars.proofs.any_holds.Statement.{statement}
 use Rattle.bars.proofs.any_holds.Tie as tie
 
 abbrev Inv-loop : tie.InvT-loop
-Inv-loop s start n i₀ i = (i ≤ n) × (law.anyFrom holds start n s i ≡ any holds (instsOf start n s))
+Inv-loop s start n i₀ i = (i ≤ n) × (law.anyFrom holds (start .0) n s i ≡ any holds (instsOf (start .0) n s))
 
 abbrev μ-loop : tie.MeasureT-loop
 μ-loop s start n i₀ i = n - i
@@ -24,7 +24,7 @@ holds-reads-requires c κs = omega arith
 
 returns : tie.Need-returns Inv-loop μ-loop
 returns c =
-    let l = c .before .before .before .loop in
+    let l = c .before .before .before .before .loop in
     sym (law.any-here holds _ _ _ (l .i) (omega arith) _ (c .before .holds-reads .ensures) (c .if1 .taken)) ∙ l .inv .1
 
 add-i : tie.Need-add-i Inv-loop μ-loop
@@ -35,7 +35,7 @@ loop-less c = omega arith
 
 loop-again : tie.Need-loop-again Inv-loop μ-loop
 loop-again c =
-    let l = c .before .before .before .loop in
+    let l = c .before .before .before .before .loop in
     (omega arith, sym (law.any-next holds _ _ _ (l .i) (omega arith) _ (c .before .holds-reads .ensures) (c .if1 .left)) ∙ l .inv .1)
 
 returns-2 : tie.Need-returns-2 Inv-loop μ-loop

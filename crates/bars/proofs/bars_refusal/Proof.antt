@@ -10,7 +10,7 @@ any-far-requires c κs = search needs
 returns : tie.Need-returns
 returns c =
     let a = c .before .before .before .args in
-    law.gives-8 (a .start0) (a .commit0) (a .exec0) (instsOf (a .start0) (a .n) (a .s .now)) (a .start) (a .accept) (a .commit) (a .exec) _ (c .before .any-far .ensures) (c .if1 .taken)
+    law.gives-8 (a .start0 .0) (a .commit0 .0) (a .exec0 .0) (instsOf (a .start0 .0) (a .n) (a .s .now)) (a .start .0) (a .accept .0) (a .commit .0) (a .exec .0) _ (c .before .any-far .ensures) (c .if1 .taken)
 
 breaks-requires : tie.Need-breaks-requires
 breaks-requires c κs = search needs
@@ -19,13 +19,13 @@ returns-2 : tie.Need-returns-2
 returns-2 c =
     let i = c .before .before in
     let a = i .before .before .before .args in
-    law.gives-11 (a .start0) (a .commit0) (a .exec0) (instsOf (a .start0) (a .n) (a .s .now)) (a .start) (a .accept) (a .commit) (a .exec) _ (i .before .any-far .ensures) (i .if1 .left) _ (c .before .breaks .ensures) (c .if2 .taken)
+    law.gives-11 (a .start0 .0) (a .commit0 .0) (a .exec0 .0) (instsOf (a .start0 .0) (a .n) (a .s .now)) (a .start .0) (a .accept .0) (a .commit .0) (a .exec .0) _ (i .before .any-far .ensures) (i .if1 .left) _ (c .before .breaks .ensures) (c .if2 .taken)
 
 returns-3 : tie.Need-returns-3
 returns-3 c =
     let i = c .before .before in
     let a = i .before .before .before .args in
-    law.gives-0 (a .start0) (a .commit0) (a .exec0) (instsOf (a .start0) (a .n) (a .s .now)) (a .start) (a .accept) (a .commit) (a .exec) _ (i .before .any-far .ensures) (i .if1 .left) _ (c .before .breaks .ensures) (c .if2 .left)
+    law.gives-0 (a .start0 .0) (a .commit0 .0) (a .exec0 .0) (instsOf (a .start0 .0) (a .n) (a .s .now)) (a .start .0) (a .accept .0) (a .commit .0) (a .exec .0) _ (i .before .any-far .ensures) (i .if1 .left) _ (c .before .breaks .ensures) (c .if2 .left)
 
 pub bars-refusal-spec : {M : Type 1} → statement M
 bars-refusal-spec =

@@ -10,10 +10,10 @@ falls-requires c κs = search needs
 returns : tie.Need-returns
 returns c =
     let a = c .before .before .before .args in
-    law.breaks-falls (a .start0) (a .commit0) (a .exec0) (a .n) (a .start) (a .commit) (a .exec) (a .s .now) _ (c .before .falls .ensures) (c .if1 .taken)
+    law.breaks-falls (a .start0 .0) (a .commit0 .0) (a .exec0 .0) (a .n) (a .start .0) (a .commit .0) (a .exec .0) (a .s .now) _ (c .before .falls .ensures) (c .if1 .taken)
 
-add-ordered : tie.Need-add-ordered
-add-ordered c = search needs
+add-end : tie.Need-add-end
+add-end c = search needs
 
 ordered-requires : tie.Need-ordered-requires
 ordered-requires c κs = search needs
@@ -21,49 +21,49 @@ ordered-requires c κs = search needs
 returns-2 : tie.Need-returns-2
 returns-2 c =
     let i = c .before .before in
-    let a = i .before .before .before .args in
-    law.breaks-order (a .start0) (a .commit0) (a .exec0) (a .n) (a .start) (a .commit) (a .exec) (a .s .now) _ (i .before .falls .ensures) (i .if1 .left) _ (c .before .ordered .ensures) (c .if2 .taken)
+    let a = i .before .before .before .before .args in
+    law.breaks-order (a .start0 .0) (a .commit0 .0) (a .exec0 .0) (a .n) (a .start .0) (a .commit .0) (a .exec .0) (a .s .now) _ (i .before .before .falls .ensures) (i .before .if1 .left) _ (c .before .ordered .ensures) (c .if2 .taken)
 
 sub-any-open : tie.Need-sub-any-open
 sub-any-open c =
     let i = c .before .before in
-    let a = i .before .before .before .args in
-    omega (arith, law.in-window (a .start0) (a .commit0) (a .exec0) (a .n) (a .start) (a .commit) (a .exec) (a .s .now) _ (i .before .falls .ensures) (i .if1 .left) _ (c .before .ordered .ensures) (c .if2 .left))
+    let a = i .before .before .before .before .before .before .args in
+    omega (arith, law.in-window (a .start0 .0) (a .commit0 .0) (a .exec0 .0) (a .n) (a .start .0) (a .commit .0) (a .exec .0) (a .s .now) _ (i .before .before .before .before .falls .ensures) (i .before .before .before .if1 .left) _ (c .before .before .before .ordered .ensures) (c .before .before .if2 .left))
 
 any-open-requires : tie.Need-any-open-requires
 any-open-requires c κs =
     let i = c .before .before in
-    let a = i .before .before .before .args in
-    omega (arith, law.in-window (a .start0) (a .commit0) (a .exec0) (a .n) (a .start) (a .commit) (a .exec) (a .s .now) _ (i .before .falls .ensures) (i .if1 .left) _ (c .before .ordered .ensures) (c .if2 .left))
+    let a = i .before .before .before .before .before .before .args in
+    omega (arith, law.in-window (a .start0 .0) (a .commit0 .0) (a .exec0 .0) (a .n) (a .start .0) (a .commit .0) (a .exec .0) (a .s .now) _ (i .before .before .before .before .falls .ensures) (i .before .before .before .if1 .left) _ (c .before .before .before .ordered .ensures) (c .before .before .if2 .left))
 
 returns-3 : tie.Need-returns-3
 returns-3 c =
     let j = c .before .before in
     let i = j .before .before in
-    let a = i .before .before .before .args in
-    law.breaks-open (a .start0) (a .commit0) (a .exec0) (a .n) (a .start) (a .commit) (a .exec) (a .s .now) _ (i .before .falls .ensures) (i .if1 .left) _ (j .before .ordered .ensures) (j .if2 .left) _ (c .before .any-open .ensures) (c .if3 .taken)
+    let a = i .before .before .before .before .before .before .args in
+    law.breaks-open (a .start0 .0) (a .commit0 .0) (a .exec0 .0) (a .n) (a .start .0) (a .commit .0) (a .exec .0) (a .s .now) _ (i .before .before .before .before .falls .ensures) (i .before .before .before .if1 .left) _ (j .before .before .before .ordered .ensures) (j .before .before .if2 .left) _ (c .before .any-open .ensures) (c .if3 .taken)
 
 sub-any-holds : tie.Need-sub-any-holds
 sub-any-holds c =
     let j = c .before .before in
     let i = j .before .before in
-    let a = i .before .before .before .args in
-    omega (arith, law.in-window (a .start0) (a .commit0) (a .exec0) (a .n) (a .start) (a .commit) (a .exec) (a .s .now) _ (i .before .falls .ensures) (i .if1 .left) _ (j .before .ordered .ensures) (j .if2 .left))
+    let a = i .before .before .before .before .before .before .before .before .args in
+    omega (arith, law.in-window (a .start0 .0) (a .commit0 .0) (a .exec0 .0) (a .n) (a .start .0) (a .commit .0) (a .exec .0) (a .s .now) _ (i .before .before .before .before .before .before .falls .ensures) (i .before .before .before .before .before .if1 .left) _ (j .before .before .before .before .before .ordered .ensures) (j .before .before .before .before .if2 .left))
 
 any-holds-requires : tie.Need-any-holds-requires
 any-holds-requires c κs =
     let j = c .before .before in
     let i = j .before .before in
-    let a = i .before .before .before .args in
-    omega (arith, law.in-window (a .start0) (a .commit0) (a .exec0) (a .n) (a .start) (a .commit) (a .exec) (a .s .now) _ (i .before .falls .ensures) (i .if1 .left) _ (j .before .ordered .ensures) (j .if2 .left))
+    let a = i .before .before .before .before .before .before .before .before .args in
+    omega (arith, law.in-window (a .start0 .0) (a .commit0 .0) (a .exec0 .0) (a .n) (a .start .0) (a .commit .0) (a .exec .0) (a .s .now) _ (i .before .before .before .before .before .before .falls .ensures) (i .before .before .before .before .before .if1 .left) _ (j .before .before .before .before .before .ordered .ensures) (j .before .before .before .before .if2 .left))
 
 returns-4 : tie.Need-returns-4
 returns-4 c =
     let k = c .before in
     let j = k .before .before in
     let i = j .before .before in
-    let a = i .before .before .before .args in
-    law.breaks-holds (a .start0) (a .commit0) (a .exec0) (a .n) (a .start) (a .commit) (a .exec) (a .s .now) _ (i .before .falls .ensures) (i .if1 .left) _ (j .before .ordered .ensures) (j .if2 .left) _ (k .before .any-open .ensures) (k .if3 .left) _ (c .any-holds .ensures)
+    let a = i .before .before .before .before .before .before .before .before .args in
+    law.breaks-holds (a .start0 .0) (a .commit0 .0) (a .exec0 .0) (a .n) (a .start .0) (a .commit .0) (a .exec .0) (a .s .now) _ (i .before .before .before .before .before .before .falls .ensures) (i .before .before .before .before .before .if1 .left) _ (j .before .before .before .before .before .ordered .ensures) (j .before .before .before .before .if2 .left) _ (k .before .before .before .any-open .ensures) (k .before .before .if3 .left) _ (c .any-holds .ensures)
 
 pub breaks-spec : {M : Type 1} → statement M
 breaks-spec =
@@ -71,7 +71,7 @@ breaks-spec =
     (tie.spec
     falls-requires
     returns
-    add-ordered
+    add-end
     ordered-requires
     returns-2
     sub-any-open

@@ -6,7 +6,7 @@ use Rattle.bars.proofs.execute.Statement.{statement}
 use Rattle.bars.proofs.execute.Tie as tie
 
 abbrev Inv-loop : tie.InvT-loop
-Inv-loop s₀ start n i₀ s i = (i ≤ n) × Executes start i s₀ s
+Inv-loop s₀ start n i₀ s i = (i ≤ n) × Executes (start .0) i s₀ s
 
 abbrev μ-loop : tie.MeasureT-loop
 μ-loop s₀ start n i₀ s i = n - i
@@ -18,7 +18,7 @@ add-c : tie.Need-add-c Inv-loop μ-loop
 add-c c = omega arith
 
 set-status-requires : tie.Need-set-status-requires Inv-loop μ-loop
-set-status-requires c κs = (omega arith, omega (arith, c .before .before .loop .inv .1 .size))
+set-status-requires c κs = (omega arith, omega (arith, c .before .before .before .loop .inv .1 .size))
 
 add-i : tie.Need-add-i Inv-loop μ-loop
 add-i c = omega arith
@@ -28,7 +28,7 @@ loop-less c = omega arith
 
 loop-again : tie.Need-loop-again Inv-loop μ-loop
 loop-again c =
-    let l = c .before .before .before .before .before .loop in
+    let l = c .before .before .before .before .before .before .loop in
     (omega arith, law.execute-step _ (l .i) (omega arith) (l .inv .1) (c .before .before .set-status .ensures))
 
 same-length : tie.Need-same-length Inv-loop μ-loop

@@ -18,7 +18,7 @@ same-length c = search needs
 returns : tie.Need-returns
 returns c =
     let g = c .before .before .before .before .before .before .before .before .before .before in
-    law.accepted _ _ (g .args .slot) _ _ _ (g .pre .2) (c .before .before .before .before .before .before .padded .ensures) (c .before .before .accept-at .ensures)
+    law.accepted _ _ (g .before .before .before .args .slot .0) _ _ _ (g .before .before .before .pre .2) (c .before .before .before .before .before .before .before .padded .ensures) (c .before .before .accept-at .ensures)
 
 pub accept-spec : {M : Type 1} → statement M
 accept-spec = tie.close (tie.spec sub-k padded-requires accept-at-requires same-length returns)

@@ -18,13 +18,13 @@ count-requires c κs = search needs
 
 returns-3 : tie.Need-returns-3
 returns-3 c =
-    let a = c .before .before .before .before .before .before .before .args in
-    law.gives-9 (given (a .rows .now) (a .text .now)) (a .slot) _ (c .before .before .before .before .any-long .ensures) (c .before .before .before .if1 .left) (c .before .before .if2 .left) _ (c .before .count .ensures (a .text .now)) (c .if3 .taken)
+    let a = c .before .before .before .before .before .before .before .before .args in
+    law.gives-9 (given (a .rows .now) (a .text .now)) (a .slot .0) _ (c .before .before .before .before .before .any-long .ensures) (c .before .before .before .before .if1 .left) (c .before .before .if2 .left) _ (c .before .count .ensures (a .text .now)) (c .if3 .taken)
 
 returns-4 : tie.Need-returns-4
 returns-4 c =
-    let a = c .before .before .before .before .before .before .before .args in
-    law.batch-fits (given (a .rows .now) (a .text .now)) (a .slot) _ (c .before .before .before .before .any-long .ensures) (c .before .before .before .if1 .left) (c .before .before .if2 .left) _ (c .before .count .ensures (a .text .now)) (c .if3 .left)
+    let a = c .before .before .before .before .before .before .before .before .args in
+    law.batch-fits (given (a .rows .now) (a .text .now)) (a .slot .0) _ (c .before .before .before .before .before .any-long .ensures) (c .before .before .before .before .if1 .left) (c .before .before .if2 .left) _ (c .before .count .ensures (a .text .now)) (c .if3 .left)
 
 pub batch-refusal-spec : {M : Type 1} → statement M
 batch-refusal-spec =
