@@ -51,11 +51,11 @@ fn heard_bars(
         &mut mem[512..8256],
         area,
         place,
-        node.start_slot.0,
+        node.start_slot,
         node.slots,
-        node.commit_bar.0,
-        ballot.0,
-        commit.0,
+        node.commit_bar,
+        ballot,
+        commit,
     );
     let id = node.id;
     let own = node.snap_bar;
@@ -87,11 +87,11 @@ fn count_bars(node: Node, mem: &[u64], ballot: Ballot, commit: Slot, exec: Slot)
     }
     advance::count_commits(
         &mem[512..8256],
-        node.start_slot.0,
+        node.start_slot,
         node.slots,
-        node.commit_bar.0,
-        ballot.0,
-        commit.0,
+        node.commit_bar,
+        ballot,
+        commit,
     )
 }
 
@@ -191,13 +191,13 @@ fn is_misfit(population: u8, attached: bool, conf: RespondersConf, rows: &[u64])
 fn is_far(commit: Slot, exec: Slot, snap: Slot) -> bool
     ensures { λ r. ⌜ r ≡ far (commit .0) || far (exec .0) || far (snap .0) ⌝ }
 {
-    if 0xffff_ffff_ffff < commit.0 {
+    if Slot::TOP < commit.0 {
         return true;
     }
-    if 0xffff_ffff_ffff < exec.0 {
+    if Slot::TOP < exec.0 {
         return true;
     }
-    0xffff_ffff_ffff < snap.0
+    Slot::TOP < snap.0
 }
 
 // 12.
@@ -233,13 +233,13 @@ fn lacks_slot(
         return false;
     }
     let start = node.start_slot;
-    if slots::any_open(&mem[512..8256], start.0, node.slots) {
+    if slots::any_open(&mem[512..8256], start, node.slots) {
         return false;
     }
     if Node::WINDOW <= node.slots {
         return true;
     }
-    0xffff_ffff_ffff < start.0 + node.slots as u64
+    Slot::TOP < start.0 + node.slots as u64
 }
 
 // The lowest that applies.

@@ -17,6 +17,7 @@ ghost use lib.ListN.{length};
 ghost use Rattle.words.specs.Part.{part};
 ghost use Rattle.words.specs.Writes.{writes};
 ghost use Rattle.ids.specs.Leader.{leaderOf};
+ghost use Rattle.ids.specs.Limits.{window, top};
 ghost use Rattle.items.specs.Item.{encode, places};
 ghost use Rattle.bodega.specs.Replica.{Reply, isAccepting};
 ghost use Rattle.bodega.specs.Answers.{Answers};
@@ -49,9 +50,9 @@ fn is_accepting(status: Status) -> bool
     }
 }
 
-fn missed_at(s: &[u64], c: usize, peer: Replica, prepared: u64) -> Missed
+fn missed_at(s: &[u64], c: usize, peer: Replica, prepared: Ballot) -> Missed
     requires { ⌜ (c < 32) × (7744 ≤ length (now s)) ⌝ }
-    ensures { λ r. ⌜ r ≡ missedOf (shortAt (now (s .entry)) c) (peer .0) prepared ⌝ }
+    ensures { λ r. ⌜ r ≡ missedOf (shortAt (now (s .entry)) c) (peer .0) (prepared .0) ⌝ }
 {
     let cell = slots::load(s, c);
     let status = cell.status;
@@ -65,7 +66,7 @@ fn missed_at(s: &[u64], c: usize, peer: Replica, prepared: u64) -> Missed
     if bitmap::get(acks, peer) {
         return Missed::Stop;
     }
-    if cell.bal.0 == prepared {
+    if cell.bal.0 == prepared.0 {
         return Missed::Send;
     }
     Missed::Skip
@@ -94,15 +95,15 @@ fn left(kind: Missed, i: usize) -> usize
 }
 
 // How many Accepts are sent again, of n slots from the commit bar on.
-fn count_resends(s: &[u64], commit: u64, n: usize, peer: Replica, prepared: u64) -> usize
-    requires { ⌜ (commit ≤ 281474976710687) × (n ≤ 32) × (7744 ≤ length (now s)) ⌝ }
-    ensures { λ r. ⌜ (r ≡ length (resendsOf (now (s .entry)) commit (peer .0) prepared n)) × (r ≤ 32) ⌝ }
+fn count_resends(s: &[u64], commit: Slot, n: usize, peer: Replica, prepared: Ballot) -> usize
+    requires { ⌜ (commit .0 ≤ top + window) × (n ≤ window) × (7744 ≤ length (now s)) ⌝ }
+    ensures { λ r. ⌜ (r ≡ length (resendsOf (now (s .entry)) (commit .0) (peer .0) (prepared .0) n)) × (r ≤ 32) ⌝ }
 {
     let mut count = 0;
     let mut k = n;
     while 0 < k {
         let i = k - 1;
-        let slot = commit + i as u64;
+        let slot = commit.0 + i as u64;
         let c = (slot % 32) as usize;
         let kind = missed_at(s, c, peer, prepared);
         count += sent(kind);
@@ -112,14 +113,13 @@ fn count_resends(s: &[u64], commit: u64, n: usize, peer: Replica, prepared: u64)
 }
 
 // The item, if there is one, at a place; and the next place.
-fn put_missed(area: &mut [u64], place: usize, kind: Missed, slot: u64, peer: Replica) -> usize
+fn put_missed(area: &mut [u64], place: usize, kind: Missed, slot: Slot, peer: Replica) -> usize
     requires { ⌜ place + sentBy kind ≤ places (now area) ⌝ }
-    ensures { λ r. ⌜ (r ≡ place + sentBy kind) × (now (area .exit) ≡ writes (now (area .entry)) (place * 6) (encode (sends kind slot (peer .0)))) ⌝ }
+    ensures { λ r. ⌜ (r ≡ place + sentBy kind) × (now (area .exit) ≡ writes (now (area .entry)) (place * 6) (encode (sends kind (slot .0) (peer .0)))) ⌝ }
 {
     if sent(kind) == 0 {
         return place;
     }
-    let slot = Slot(slot);
     items::put_item(area, place, Item::Resend { slot, peer });
     place + 1
 }
@@ -127,23 +127,23 @@ fn put_missed(area: &mut [u64], place: usize, kind: Missed, slot: u64, peer: Rep
 // The same n slots: their items from the first place on.
 fn put_resends(
     s: &[u64],
-    commit: u64,
+    commit: Slot,
     n: usize,
     peer: Replica,
-    prepared: u64,
+    prepared: Ballot,
     area: &mut [u64],
 ) -> usize
-    requires { ⌜ (commit ≤ 281474976710687) × (n ≤ 32) × (7744 ≤ length (now s)) × (length (resendsOf (now s) commit (peer .0) prepared n) ≤ places (now area)) ⌝ }
-    ensures { λ r. ⌜ (r ≡ length (resendsOf (now (s .entry)) commit (peer .0) prepared n)) × (now (area .exit) ≡ writes (now (area .entry)) 0 (encode (resendsOf (now (s .entry)) commit (peer .0) prepared n))) ⌝ }
+    requires { ⌜ (commit .0 ≤ top + window) × (n ≤ window) × (7744 ≤ length (now s)) × (length (resendsOf (now s) (commit .0) (peer .0) (prepared .0) n) ≤ places (now area)) ⌝ }
+    ensures { λ r. ⌜ (r ≡ length (resendsOf (now (s .entry)) (commit .0) (peer .0) (prepared .0) n)) × (now (area .exit) ≡ writes (now (area .entry)) 0 (encode (resendsOf (now (s .entry)) (commit .0) (peer .0) (prepared .0) n))) ⌝ }
 {
     let mut place = 0;
     let mut k = n;
     while 0 < k {
         let j = k - 1;
-        let slot = commit + j as u64;
+        let slot = commit.0 + j as u64;
         let c = (slot % 32) as usize;
         let kind = missed_at(s, c, peer, prepared);
-        place = put_missed(area, place, kind, slot, peer);
+        place = put_missed(area, place, kind, Slot(slot), peer);
         k = left(kind, j);
     }
     place
@@ -159,16 +159,16 @@ enum Ack {
 }
 
 // None where the slot does not wait for it.
-fn acks_with(s: &[u64], c: usize, peer: Replica, ballot: u64) -> LeaderBk
+fn acks_with(s: &[u64], c: usize, peer: Replica, ballot: Ballot) -> LeaderBk
     requires { ⌜ (c < 32) × (7744 ≤ length (now s)) ⌝ }
-    ensures { λ r. ⌜ acksOf r ≡ acksWith (shortAt (now (s .entry)) c) (peer .0) ballot ⌝ }
+    ensures { λ r. ⌜ acksOf r ≡ acksWith (shortAt (now (s .entry)) c) (peer .0) (ballot .0) ⌝ }
 {
     let cell = slots::load(s, c);
     let status = cell.status;
     if !is_accepting(status) {
         return LeaderBk::None;
     }
-    if ballot < cell.bal.0 {
+    if ballot.0 < cell.bal.0 {
         return LeaderBk::None;
     }
     let bk = cell.leader_bk;
@@ -187,12 +187,12 @@ fn ack_at(
     rows: &[u64],
     c: usize,
     peer: Replica,
-    ballot: u64,
+    ballot: Ballot,
     quorum: u8,
     conf: RespondersConf,
 ) -> Ack
     requires { ⌜ (c < 32) × (7744 ≤ length (now s)) × (320 ≤ length (now rows)) × (conf .count ≤ 64) ⌝ }
-    ensures { λ r. ⌜ r ≡ ackOf (shortAt (now (s .entry)) c) (batchAt (now (s .entry)) c) (peer .0) ballot quorum (rosterOf conf (now (rows .entry))) ⌝ }
+    ensures { λ r. ⌜ r ≡ ackOf (shortAt (now (s .entry)) c) (batchAt (now (s .entry)) c) (peer .0) (ballot .0) quorum (rosterOf conf (now (rows .entry))) ⌝ }
 {
     let LeaderBk::Some(acks) = acks_with(s, c, peer, ballot) else {
         return Ack::Ignored;
@@ -210,12 +210,12 @@ fn ack_in(
     mem: &[u64],
     c: usize,
     peer: Replica,
-    ballot: u64,
+    ballot: Ballot,
     quorum: u8,
     conf: RespondersConf,
 ) -> Ack
     requires { ⌜ (c < 32) × (10305 ≤ length (now mem)) × (conf .count ≤ 64) ⌝ }
-    ensures { λ r. ⌜ r ≡ ackOf (shortAt (part (now (mem .entry)) 512 7744) c) (batchAt (part (now (mem .entry)) 512 7744) c) (peer .0) ballot quorum (rosterOf conf (part (now (mem .entry)) 192 320)) ⌝ }
+    ensures { λ r. ⌜ r ≡ ackOf (shortAt (part (now (mem .entry)) 512 7744) c) (batchAt (part (now (mem .entry)) 512 7744) c) (peer .0) (ballot .0) quorum (rosterOf conf (part (now (mem .entry)) 192 320)) ⌝ }
 {
     ack_at(
         &mem[512..8256],
@@ -294,36 +294,36 @@ fn act(s: &mut [u64], c: usize, ack: Ack)
 // ---- `handle_msg_accept_reply`
 
 // 16.
-fn unheld(start: u64, slots: usize, prepared: u64, slot: u64, ballot: u64) -> bool
-    requires { ⌜ (start ≤ 281474976710655) × (slots ≤ 32) ⌝ }
-    ensures { λ r. ⌜ r ≡ unheld start slots prepared slot ballot ⌝ }
+fn unheld(start: Slot, slots: usize, prepared: Ballot, slot: Slot, ballot: Ballot) -> bool
+    requires { ⌜ (start .0 ≤ top) × (slots ≤ window) ⌝ }
+    ensures { λ r. ⌜ r ≡ unheld (start .0) slots (prepared .0) (slot .0) (ballot .0) ⌝ }
 {
-    if slot < start {
+    if slot.0 < start.0 {
         return false;
     }
-    if ballot != prepared {
+    if ballot.0 != prepared.0 {
         return false;
     }
-    start + slots as u64 <= slot
+    start.0 + slots as u64 <= slot.0
 }
 
 // The number of the refusal, 0 where there is none.
 fn reply_refusal(
     population: u8,
-    start: u64,
+    start: Slot,
     slots: usize,
-    prepared: u64,
+    prepared: Ballot,
     peer: Replica,
-    slot: u64,
-    ballot: u64,
+    slot: Slot,
+    ballot: Ballot,
 ) -> u64
-    requires { ⌜ (start ≤ 281474976710655) × (slots ≤ 32) ⌝ }
-    ensures { λ r. ⌜ r ≡ replyRefusal population start slots prepared (peer .0) slot ballot ⌝ }
+    requires { ⌜ (start .0 ≤ top) × (slots ≤ window) ⌝ }
+    ensures { λ r. ⌜ r ≡ replyRefusal population (start .0) slots (prepared .0) (peer .0) (slot .0) (ballot .0) ⌝ }
 {
     if population <= peer.0 {
         return 3;
     }
-    if 0xffff_ffff_ffff < slot {
+    if Slot::TOP < slot.0 {
         return 8;
     }
     if unheld(start, slots, prepared, slot, ballot) {
@@ -333,30 +333,37 @@ fn reply_refusal(
 }
 
 // Whether anything is done: the slot is not below start, the ballot is the one waited on, and the replica leads.
-fn awaits(leader: Leader, id: Replica, start: u64, prepared: u64, slot: u64, ballot: u64) -> bool
-    ensures { λ r. ⌜ r ≡ awaited (leaderOf leader) (id .0) start prepared slot ballot ⌝ }
+fn awaits(
+    leader: Leader,
+    id: Replica,
+    start: Slot,
+    prepared: Ballot,
+    slot: Slot,
+    ballot: Ballot,
+) -> bool
+    ensures { λ r. ⌜ r ≡ awaited (leaderOf leader) (id .0) (start .0) (prepared .0) (slot .0) (ballot .0) ⌝ }
 {
-    if slot < start {
+    if slot.0 < start.0 {
         return false;
     }
-    if ballot != prepared {
+    if ballot.0 != prepared.0 {
         return false;
     }
     node::leads(leader, id)
 }
 
 // How many slots from the commit bar on are looked at for Accepts to send again.
-fn span_of(id: Replica, peer: Replica, commit: u64, slot: u64) -> usize
-    requires { ⌜ slot ≤ commit + 32 ⌝ }
-    ensures { λ r. ⌜ (r ≡ span (id .0) (peer .0) commit slot) × (r ≤ 32) ⌝ }
+fn span_of(id: Replica, peer: Replica, commit: Slot, slot: Slot) -> usize
+    requires { ⌜ slot .0 ≤ commit .0 + window ⌝ }
+    ensures { λ r. ⌜ (r ≡ span (id .0) (peer .0) (commit .0) (slot .0)) × (r ≤ window) ⌝ }
 {
     if peer.0 == id.0 {
         return 0;
     }
-    if slot < commit {
+    if slot.0 < commit.0 {
         return 0;
     }
-    (slot - commit) as usize
+    (slot.0 - commit.0) as usize
 }
 
 enum Taken {
@@ -369,16 +376,16 @@ fn take_reply(
     s: &mut [u64],
     area: &mut [u64],
     id: Replica,
-    prepared: u64,
-    commit: u64,
+    prepared: Ballot,
+    commit: Slot,
     peer: Replica,
     slot: Slot,
     ack: Ack,
 ) -> Taken
-    requires { ⌜ (7744 ≤ length (now s)) × (commit ≤ 281474976710687) × (slot .0 ≤ commit + 32) ⌝ }
-    ensures { λ r. ⌜ Replies (itemsOf (now (s .entry)) (id .0) (peer .0) commit prepared (slot .0) ack) ack (slot .0 % 32) (now (s .entry)) (now (area .entry)) r (now (s .exit)) (now (area .exit)) ⌝ }
+    requires { ⌜ (7744 ≤ length (now s)) × (commit .0 ≤ top + window) × (slot .0 ≤ commit .0 + window) ⌝ }
+    ensures { λ r. ⌜ Replies (itemsOf (now (s .entry)) (id .0) (peer .0) (commit .0) (prepared .0) (slot .0) ack) ack (slot .0 % 32) (now (s .entry)) (now (area .entry)) r (now (s .exit)) (now (area .exit)) ⌝ }
 {
-    let n = span_of(id, peer, commit, slot.0);
+    let n = span_of(id, peer, commit, slot);
     let count = count_resends(s, commit, n, peer, prepared) + commits(ack);
     if area.len() / 6 < count {
         return Taken::Full;
@@ -407,16 +414,16 @@ pub fn reply(
             node,
         };
     }
-    let start = node.start_slot.0;
-    let prepared = node.bal_prepared.0;
+    let start = node.start_slot;
+    let prepared = node.bal_prepared;
     let refusal = reply_refusal(
         node.population,
         start,
         node.slots,
         prepared,
         peer,
-        slot.0,
-        ballot.0,
+        slot,
+        ballot,
     );
     if refusal != 0 {
         return Answered {
@@ -427,7 +434,7 @@ pub fn reply(
     }
     let conf = node.bodega_conf;
     let leader = conf.leader;
-    if !awaits(leader, node.id, start, prepared, slot.0, ballot.0) {
+    if !awaits(leader, node.id, start, prepared, slot, ballot) {
         return Answered {
             number: 0,
             count: 0,
@@ -435,13 +442,13 @@ pub fn reply(
         };
     }
     let c = (slot.0 % 32) as usize;
-    let ack = ack_in(mem, c, peer, ballot.0, node.quorum, conf);
+    let ack = ack_in(mem, c, peer, ballot, node.quorum, conf);
     let taken = take_reply(
         &mut mem[512..8256],
         area,
         node.id,
         prepared,
-        node.commit_bar.0,
+        node.commit_bar,
         peer,
         slot,
         ack,

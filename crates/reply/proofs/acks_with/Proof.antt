@@ -20,7 +20,7 @@ returns-2 c =
     let i = c .before .before in
     let a = i .before in
     let l = a .before in
-    law.old-ballot _ _ _ (l .load .result) (l .load .ensures) _ (a .is-accepting .ensures) (i .if1 .left) (c .if2 .taken)
+    law.old-ballot _ _ _ (l .before .load .result) (l .before .load .ensures) _ (a .before .is-accepting .ensures) (i .before .if1 .left) (c .if2 .taken)
 
 enum-known-bk : tie.Need-enum-known-bk
 enum-known-bk c = search needs
@@ -34,7 +34,7 @@ returns-3 c =
     let i = j .before .before in
     let a = i .before in
     let l = a .before in
-    law.no-acks _ _ _ (l .load .result) (l .load .ensures) _ (a .is-accepting .ensures) (i .if1 .left) (j .if2 .left) (c .enum-told .given .1)
+    law.no-acks _ _ _ (l .before .load .result) (l .before .load .ensures) _ (a .before .is-accepting .ensures) (i .before .if1 .left) (j .if2 .left) (c .enum-told .given .1)
 
 get-requires : tie.Need-get-requires
 get-requires c κs = search needs
@@ -47,7 +47,7 @@ returns-4 c =
     let i = j .before .before in
     let a = i .before in
     let l = a .before in
-    law.acked _ _ _ (l .load .result) (l .load .ensures) _ (a .is-accepting .ensures) (i .if1 .left) (j .if2 .left) _ (b .bk .given .1) _ (g .get .ensures) (c .if3 .taken)
+    law.acked _ _ _ (l .before .load .result) (l .before .load .ensures) _ (a .before .is-accepting .ensures) (i .before .if1 .left) (j .if2 .left) _ (b .bk .given .1) _ (g .get .ensures) (c .if3 .taken)
 
 set-requires : tie.Need-set-requires
 set-requires c κs = search needs
@@ -61,7 +61,7 @@ returns-5 c =
     let i = j .before .before in
     let a = i .before in
     let l = a .before in
-    law.marked _ _ _ (l .load .result) (l .load .ensures) _ (a .is-accepting .ensures) (i .if1 .left) (j .if2 .left) _ (b .bk .given .1) _ (g .get .ensures) (k .if3 .left) _ (c .set .ensures)
+    law.marked _ _ _ (l .before .load .result) (l .before .load .ensures) _ (a .before .is-accepting .ensures) (i .before .if1 .left) (j .if2 .left) _ (b .bk .given .1) _ (g .get .ensures) (k .if3 .left) _ (c .set .ensures)
 
 pub acks-with-spec : {M : Type 1} → statement M
 acks-with-spec =

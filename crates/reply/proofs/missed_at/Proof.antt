@@ -48,7 +48,7 @@ returns-4 c =
     let i = b .before .before in
     let a = i .before in
     let l = a .before in
-    law.send-here _ _ _ (l .load .result) (l .load .ensures) _ (a .is-accepting .ensures) (i .if1 .left) _ (b .bk .given .1) _ (g .get .ensures) (j .if2 .left) (c .if3 .taken)
+    law.send-here _ _ _ (l .before .load .result) (l .before .load .ensures) _ (a .before .is-accepting .ensures) (i .before .if1 .left) _ (b .before .bk .given .1) _ (g .before .get .ensures) (j .before .if2 .left) (c .if3 .taken)
 
 returns-5 : tie.Need-returns-5
 returns-5 c =
@@ -58,7 +58,7 @@ returns-5 c =
     let i = b .before .before in
     let a = i .before in
     let l = a .before in
-    law.skip-ballot _ _ _ (l .load .result) (l .load .ensures) _ (a .is-accepting .ensures) (i .if1 .left) _ (b .bk .given .1) _ (g .get .ensures) (j .if2 .left) (c .if3 .left)
+    law.skip-ballot _ _ _ (l .before .load .result) (l .before .load .ensures) _ (a .before .is-accepting .ensures) (i .before .if1 .left) _ (b .before .bk .given .1) _ (g .before .get .ensures) (j .before .if2 .left) (c .if3 .left)
 
 pub missed-at-spec : {M : Type 1} → statement M
 missed-at-spec =

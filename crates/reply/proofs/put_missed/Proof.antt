@@ -9,7 +9,7 @@ sent-requires c κs = search needs
 returns : tie.Need-returns
 returns c =
     let a = c .before .before .before .args in
-    law.none-sent (a .area .now) (a .place) (a .slot) (a .peer .0) (a .kind) _ (c .before .sent .ensures) (c .if1 .taken)
+    law.none-sent (a .area .now) (a .place) (a .slot .0) (a .peer .0) (a .kind) _ (c .before .sent .ensures) (c .if1 .taken)
 
 put-item-requires : tie.Need-put-item-requires
 put-item-requires c κs = search needs
@@ -25,7 +25,7 @@ returns-2 c =
     let p = c .before .before in
     let i = p .before .before in
     let g = i .before .before .before in
-    law.one-sent (g .args .area .now) (g .args .place) (g .args .slot) (g .args .peer .0) (g .args .kind) _ (i .before .sent .ensures) (i .if1 .left) (g .pre) _ _ (p .put-item .ensures)
+    law.one-sent (g .args .area .now) (g .args .place) (g .args .slot .0) (g .args .peer .0) (g .args .kind) _ (i .before .sent .ensures) (i .if1 .left) (g .pre) _ _ (p .put-item .ensures)
 
 pub put-missed-spec : {M : Type 1} → statement M
 put-missed-spec =

@@ -21,8 +21,8 @@ returns c =
 reply-refusal-requires : tie.Need-reply-refusal-requires
 reply-refusal-requires c κs =
     let i = c in
-    let a = i .before .before .before .before .before .args in
-    law.asked (a .node) (a .mem .now) (a .area .now) (a .peer .0) (a .slot .0) (a .ballot .0) _ (i .before .is-ready .ensures) (i .if1 .left)
+    let a = i .before .before .before .before .before .before .before .args in
+    law.asked (a .node) (a .mem .now) (a .area .now) (a .peer .0) (a .slot .0) (a .ballot .0) _ (i .before .before .before .is-ready .ensures) (i .before .before .if1 .left)
 
 same-length-2 : tie.Need-same-length-2
 same-length-2 c = search needs
@@ -31,8 +31,8 @@ returns-2 : tie.Need-returns-2
 returns-2 c =
     let k = c .before in
     let i = k .before in
-    let a = i .before .before .before .before .before .args in
-    law.reply-refused (a .node) (a .mem .now) (a .area .now) (a .peer .0) (a .slot .0) (a .ballot .0) _ (i .before .is-ready .ensures) (i .if1 .left) _ (k .reply-refusal .ensures) (c .if2 .taken)
+    let a = i .before .before .before .before .before .before .before .args in
+    law.reply-refused (a .node) (a .mem .now) (a .area .now) (a .peer .0) (a .slot .0) (a .ballot .0) _ (i .before .before .before .is-ready .ensures) (i .before .before .if1 .left) _ (k .reply-refusal .ensures) (c .if2 .taken)
 
 awaits-requires : tie.Need-awaits-requires
 awaits-requires c κs = search needs
@@ -47,8 +47,8 @@ returns-3 c =
     let j = v .before .before in
     let k = j .before in
     let i = k .before in
-    let a = i .before .before .before .before .before .args in
-    law.not-awaited (a .node) (a .mem .now) (a .area .now) (a .peer .0) (a .slot .0) (a .ballot .0) _ (i .before .is-ready .ensures) (i .if1 .left) _ (k .reply-refusal .ensures) (j .if2 .left) _ (v .awaits .ensures) (l .if3 .taken)
+    let a = i .before .before .before .before .before .before .before .args in
+    law.not-awaited (a .node) (a .mem .now) (a .area .now) (a .peer .0) (a .slot .0) (a .ballot .0) _ (i .before .before .before .is-ready .ensures) (i .before .before .if1 .left) _ (k .reply-refusal .ensures) (j .if2 .left) _ (v .awaits .ensures) (l .if3 .taken)
 
 ack-in-requires : tie.Need-ack-in-requires
 ack-in-requires c κs =
@@ -57,8 +57,8 @@ ack-in-requires c κs =
     let j = v .before .before in
     let k = j .before in
     let i = k .before in
-    let a = i .before .before .before .before .before .args in
-    law.ack-asked (a .node) (a .mem .now) (a .area .now) (a .peer .0) (a .slot .0) (a .ballot .0) _ (i .before .is-ready .ensures) (i .if1 .left) _ (k .reply-refusal .ensures) (j .if2 .left) _ (v .awaits .ensures) (l .if3 .left)
+    let a = i .before .before .before .before .before .before .before .args in
+    law.ack-asked (a .node) (a .mem .now) (a .area .now) (a .peer .0) (a .slot .0) (a .ballot .0) _ (i .before .before .before .is-ready .ensures) (i .before .before .if1 .left) _ (k .reply-refusal .ensures) (j .if2 .left) _ (v .awaits .ensures) (l .if3 .left)
 
 sub-take-reply : tie.Need-sub-take-reply
 sub-take-reply c = search needs
@@ -73,8 +73,8 @@ part-take-reply-end c =
     let j = v .before .before in
     let k = j .before in
     let i = k .before in
-    let a = i .before .before .before .before .before .args in
-    omega (arith, law.buffer (a .node) (a .mem .now) (a .area .now) (a .peer .0) (a .slot .0) (a .ballot .0) _ (i .before .is-ready .ensures) (i .if1 .left) _ (k .reply-refusal .ensures) (j .if2 .left) _ (v .awaits .ensures) (l .if3 .left))
+    let a = i .before .before .before .before .before .before .before .args in
+    omega (arith, law.buffer (a .node) (a .mem .now) (a .area .now) (a .peer .0) (a .slot .0) (a .ballot .0) _ (i .before .before .before .is-ready .ensures) (i .before .before .if1 .left) _ (k .reply-refusal .ensures) (j .if2 .left) _ (v .awaits .ensures) (l .if3 .left))
 
 take-reply-requires : tie.Need-take-reply-requires
 take-reply-requires c κs =
@@ -83,8 +83,8 @@ take-reply-requires c κs =
     let j = v .before .before in
     let k = j .before in
     let i = k .before in
-    let a = i .before .before .before .before .before .args in
-    law.reply-asked (a .node) (a .mem .now) (a .area .now) (a .peer .0) (a .slot .0) (a .ballot .0) _ (i .before .is-ready .ensures) (i .if1 .left) _ (k .reply-refusal .ensures) (j .if2 .left) _ (v .awaits .ensures) (l .if3 .left)
+    let a = i .before .before .before .before .before .before .before .args in
+    law.reply-asked (a .node) (a .mem .now) (a .area .now) (a .peer .0) (a .slot .0) (a .ballot .0) _ (i .before .before .before .is-ready .ensures) (i .before .before .if1 .left) _ (k .reply-refusal .ensures) (j .if2 .left) _ (v .awaits .ensures) (l .if3 .left)
 
 enum-known-taken : tie.Need-enum-known-taken
 enum-known-taken c = search needs
@@ -107,8 +107,8 @@ returns-4 c =
     let j = v .before .before in
     let k = j .before in
     let i = k .before in
-    let a = i .before .before .before .before .before .args in
-    law.reply-full (a .node) (a .mem .now) (a .area .now) (a .peer .0) (a .slot .0) (a .ballot .0) _ (i .before .is-ready .ensures) (i .if1 .left) _ (k .reply-refusal .ensures) (j .if2 .left) _ (v .awaits .ensures) (l .if3 .left) _ (y .ack-in .ensures) _ _ _ (t .take-reply .ensures) (c .enum-told .given .1)
+    let a = i .before .before .before .before .before .before .before .args in
+    law.reply-full (a .node) (a .mem .now) (a .area .now) (a .peer .0) (a .slot .0) (a .ballot .0) _ (i .before .before .before .is-ready .ensures) (i .before .before .if1 .left) _ (k .reply-refusal .ensures) (j .if2 .left) _ (v .awaits .ensures) (l .if3 .left) _ (y .ack-in .ensures) _ _ _ (t .take-reply .ensures) (c .enum-told .given .1)
 
 same-length-6 : tie.Need-same-length-6
 same-length-6 c = search needs
@@ -126,8 +126,8 @@ returns-5 c =
     let j = v .before .before in
     let k = j .before in
     let i = k .before in
-    let a = i .before .before .before .before .before .args in
-    law.reply-taken (a .node) (a .mem .now) (a .area .now) (a .peer .0) (a .slot .0) (a .ballot .0) _ (i .before .is-ready .ensures) (i .if1 .left) _ (k .reply-refusal .ensures) (j .if2 .left) _ (v .awaits .ensures) (l .if3 .left) _ (y .ack-in .ensures) _ _ _ (t .take-reply .ensures) _ (q .taken .given .1)
+    let a = i .before .before .before .before .before .before .before .args in
+    law.reply-taken (a .node) (a .mem .now) (a .area .now) (a .peer .0) (a .slot .0) (a .ballot .0) _ (i .before .before .before .is-ready .ensures) (i .before .before .if1 .left) _ (k .reply-refusal .ensures) (j .if2 .left) _ (v .awaits .ensures) (l .if3 .left) _ (y .ack-in .ensures) _ _ _ (t .take-reply .ensures) _ (q .taken .given .1)
 
 pub reply-spec : {M : Type 1} → statement M
 reply-spec =

@@ -26,7 +26,7 @@ returns c =
     let b = k .before in
     let p = b .before .before in
     let a = p .before .before .before .args in
-    law.too-full (a .s .now) (a .area .now) (a .id .0) (a .prepared) (a .commit) (a .peer .0) (a .slot .0) (a .ack) _ _ _ (p .span-of .ensures .0) (b .count-resends .ensures .0) (k .commits .ensures) (a .slot .0 % 32) (c .if1 .taken)
+    law.too-full (a .s .now) (a .area .now) (a .id .0) (a .prepared .0) (a .commit .0) (a .peer .0) (a .slot .0) (a .ack) _ _ _ (p .span-of .ensures .0) (b .count-resends .ensures .0) (k .commits .ensures) (a .slot .0 % 32) (c .if1 .taken)
 
 put-resends-requires : tie.Need-put-resends-requires
 put-resends-requires c κs = search needs
@@ -53,7 +53,7 @@ returns-2 c =
     let b = k .before in
     let p = b .before .before in
     let a = p .before .before .before .args in
-    law.all-put (a .s .now) (a .area .now) (a .id .0) (a .prepared) (a .commit) (a .peer .0) (a .slot .0) (a .ack) _ _ _ (p .span-of .ensures .0) (b .count-resends .ensures .0) (k .commits .ensures) (i .if1 .left) _ (r .put-resends .ensures .0) _ (r .put-resends .ensures .1) _ _ _ (q .put-commit .ensures) (x .act .ensures)
+    law.all-put (a .s .now) (a .area .now) (a .id .0) (a .prepared .0) (a .commit .0) (a .peer .0) (a .slot .0) (a .ack) _ _ _ (p .span-of .ensures .0) (b .count-resends .ensures .0) (k .commits .ensures) (i .if1 .left) _ (r .put-resends .ensures .0) _ (r .put-resends .ensures .1) _ _ _ (q .put-commit .ensures) (x .act .ensures)
 
 pub take-reply-spec : {M : Type 1} → statement M
 take-reply-spec =
