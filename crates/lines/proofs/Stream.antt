@@ -24,12 +24,12 @@ told-long h b l k = go (b .long) refl
     go true p = simp p
     go false p = simp (p, lt-ltb 1024 (length (b .line)) k)
 
-alike : LongAlike says
+pub alike : LongAlike says
 unfolding says
 alike s b l h = ap (λ (t : Told). record { text = textOf (s .number) (t .answer); next = record { host = t .host; number = bumped (s .number) } }) (told-long (s .host) b l h)
 
 -- from the n-th line on, whose first bytes are acc
-numbered : (h : Host) (n : ℕ) (acc s : Bytes) → n + length (linesFrom acc s) < 2 ^ 64 → total says (runs says (record { host = h; number = n }) (record { long = false; line = acc }) s) ≡ heardAll h n (linesFrom acc s)
+pub numbered : (h : Host) (n : ℕ) (acc s : Bytes) → n + length (linesFrom acc s) < 2 ^ 64 → total says (runs says (record { host = h; number = n }) (record { long = false; line = acc }) s) ≡ heardAll h n (linesFrom acc s)
 unfolding runs lastLine says told linesFrom heardAll
 numbered h n acc [] k = go (ltb 0 (length acc)) refl
   where

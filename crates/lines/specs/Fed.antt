@@ -11,7 +11,7 @@ use Rattle.answers.specs.Wrote.{Wrote}
 use Rattle.hosts.specs.declared.Host.{Host}
 use Rattle.hosts.specs.Acts.{hostOf, sound}
 use Rattle.pieces.specs.Pieces.{Begun, before}
-use Rattle.pieces.specs.Runs.{Run, prepend, runs, lastLine, done}
+use Rattle.pieces.specs.Runs.{runs, lastLine, done}
 use Rattle.lines.specs.declared.Counted.{Counted}
 use Rattle.lines.specs.declared.Said.{Said}
 use Rattle.lines.specs.declared.Place.{Place}
@@ -50,19 +50,3 @@ pub record Feeds (piece : Bytes) (p : Place) (mem rows : List ℕ) (out : Bytes)
   pub on : r .more ≡ true → p .at < r .place .at
   pub full : r .more ≡ true → length out - r .used < 65536
   pub lent : Lent (r .place .state .host) mem′ rows′ area′ groups′
-
--- ---- a piece that feed answers in several calls, with the output written after each
-
-abbrev pub runsFrom : Bytes → Place → List ℕ → List ℕ → Run State
-runsFrom piece p mem rows = runs says (stateOf (p .state) mem rows) (record { long = p .long; line = [] }) (drop (p .at) piece)
-
--- what a call wrote, and then what the rest of the piece comes to, is what the piece came to
-abbrev pub FeedGoesOn : Type 0
-FeedGoesOn = (piece : Bytes) (p : Place) (mem rows : List ℕ) (out : Bytes) (r : Fed) (mem′ rows′ area′ groups′ : List ℕ) (out′ : Bytes)
-    → Feeds piece p mem rows out r mem′ rows′ area′ groups′ out′ → runsFrom piece p mem rows ≡ prepend (take (r .used) out′) (runsFrom piece (r .place) mem′ rows′)
-
--- after the last call what is left of the piece is the line that has begun
-abbrev pub FeedEnds : Type 0
-FeedEnds = (piece : Bytes) (p : Place) (mem rows : List ℕ) (out : Bytes) (r : Fed) (mem′ rows′ area′ groups′ : List ℕ) (out′ : Bytes)
-    → Feeds piece p mem rows out r mem′ rows′ area′ groups′ out′ → r .more ≡ false
-    → runsFrom piece p mem rows ≡ record { out = take (r .used) out′; state = stateOf (r .place .state) mem′ rows′; begun = record { long = r .place .long; line = drop (r .place .at) piece } }

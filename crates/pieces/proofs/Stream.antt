@@ -12,7 +12,7 @@ use Rattle.pieces.specs.Runs.{Said, Run, prepend, runs, lastLine, total,
 use Rattle.pieces.proofs.Laws.{runs-none, cut}
 
 -- no newline in what a line has so far
-abbrev Plain : List ℕ → Type 0
+abbrev pub Plain : List ℕ → Type 0
 Plain l = before l ≡ length l
 
 plain-snoc : (l : List ℕ) (c : ℕ) → Plain l → eqb c 10 ≡ false → Plain (l ++ (c ∷ []))
@@ -25,7 +25,7 @@ plain-snoc (x ∷ l) c h e = go (eqb x 10) refl (plain-snoc l c)
         let k : suc (before l) ≡ suc (length l) = simp p at h in
         simp p (ap suc (ih (omega arith) e))
 
-plain-kept : (b : Begun) → Plain (b .line) → Plain (kept b .line)
+pub plain-kept : (b : Begun) → Plain (b .line) → Plain (kept b .line)
 unfolding kept
 plain-kept b h = go (ltb 1024 (length (b .line))) refl
   where
@@ -34,7 +34,7 @@ plain-kept b h = go (ltb 1024 (length (b .line))) refl
     go false p = simp p h
 
 module _ {S : Type 0} (answer : S → Begun → Said S) where
-  plain-runs : (s : S) (b : Begun) (l : List ℕ) → Plain (b .line) → Plain (runs answer s b l .begun .line)
+  pub plain-runs : (s : S) (b : Begun) (l : List ℕ) → Plain (b .line) → Plain (runs answer s b l .begun .line)
   unfolding runs
   plain-runs s b [] h = h
   plain-runs s b (c ∷ l) h = go (eqb c 10) refl (plain-runs (answer s b .next) fresh l) (plain-runs s (longer b c) l)
@@ -45,7 +45,7 @@ module _ {S : Type 0} (answer : S → Begun → Said S) where
       go false p i j = simp p (j (plain-snoc (b .line) c h p))
 
   -- the bytes that were kept, and the piece after them
-  resumed : (s : S) (b : Begun) (l : List ℕ) → Plain (b .line) → runs answer s (record { long = b .long; line = [] }) (b .line ++ l) ≡ runs answer s b l
+  pub resumed : (s : S) (b : Begun) (l : List ℕ) → Plain (b .line) → runs answer s (record { long = b .long; line = [] }) (b .line ++ l) ≡ runs answer s b l
   resumed s b l h = rw (cut answer s (record { long = b .long; line = [] }) (b .line) l, runs-none answer s (record { long = b .long; line = [] }) (b .line) h)
 
   last-long : (s : S) (b : Begun) → 1024 < length (b .line) → lastLine answer s b ≡ answer s b .text
@@ -57,24 +57,34 @@ module _ {S : Type 0} (answer : S → Begun → Said S) where
       go false p = let z : 0 < length (b .line) = omega arith in simp (p, lt-ltb 0 (length (b .line)) z)
 
   module _ (alike : LongAlike answer) where
-    dropped : (s : S) (b : Begun) (acc t : List ℕ) → 1024 < length (b .line) → total answer (runs answer s (record { long = true; line = acc }) t) ≡ total answer (runs answer s b t)
-    unfolding runs lastLine
-    dropped s b acc [] h = sym (last-long s b h ∙ ap (λ (x : Said S). x .text) (alike s b acc h))
-    dropped s b acc (c ∷ t) h = go (eqb c 10) refl (dropped s (longer b c) (acc ++ (c ∷ [])) t)
-      where
-        go : (q : Bool) → eqb c 10 ≡ q
-            → (1024 < length (b .line ++ (c ∷ [])) → total answer (runs answer s (record { long = true; line = acc ++ (c ∷ []) }) t) ≡ total answer (runs answer s (longer b c) t))
-            → total answer (runs answer s (record { long = true; line = acc }) (c ∷ t)) ≡ total answer (runs answer s b (c ∷ t))
-        go true p ih = simp p (ap (λ (x : Said S). total answer (prepend (x .text) (runs answer (x .next) fresh t))) (sym (alike s b acc h)))
-        go false p ih = simp p (ih (omega (arith, length-append (b .line) (c ∷ []))))
+    -- what is read off a run: all that is written for it, or what is written for the lines that end in it
+    module _ (view : Run S → List ℕ)
+        (last : (s : S) (b : Begun) (acc : List ℕ) → 1024 < length (b .line) → view (record { out = []; state = s; begun = record { long = true; line = acc } }) ≡ view (record { out = []; state = s; begun = b })) where
+      dropped : (s : S) (b : Begun) (acc t : List ℕ) → 1024 < length (b .line) → view (runs answer s (record { long = true; line = acc }) t) ≡ view (runs answer s b t)
+      unfolding runs
+      dropped s b acc [] h = last s b acc h
+      dropped s b acc (c ∷ t) h = go (eqb c 10) refl (dropped s (longer b c) (acc ++ (c ∷ [])) t)
+        where
+          go : (q : Bool) → eqb c 10 ≡ q
+              → (1024 < length (b .line ++ (c ∷ [])) → view (runs answer s (record { long = true; line = acc ++ (c ∷ []) }) t) ≡ view (runs answer s (longer b c) t))
+              → view (runs answer s (record { long = true; line = acc }) (c ∷ t)) ≡ view (runs answer s b (c ∷ t))
+          go true p ih = simp p (ap (λ (x : Said S). view (prepend (x .text) (runs answer (x .next) fresh t))) (sym (alike s b acc h)))
+          go false p ih = simp p (ih (omega (arith, length-append (b .line) (c ∷ []))))
 
-    kept-same : (s : S) (b : Begun) (t : List ℕ) → total answer (runs answer s (kept b) t) ≡ total answer (runs answer s b t)
-    unfolding kept
-    kept-same s b t = go (ltb 1024 (length (b .line))) refl
-      where
-        go : (q : Bool) → ltb 1024 (length (b .line)) ≡ q → total answer (runs answer s (kept b) t) ≡ total answer (runs answer s b t)
-        go true p = simp p (dropped s b [] t (ltb-true 1024 (length (b .line)) p))
-        go false p = simp p
+      pub kept-alike : (s : S) (b : Begun) (t : List ℕ) → view (runs answer s (kept b) t) ≡ view (runs answer s b t)
+      unfolding kept
+      kept-alike s b t = go (ltb 1024 (length (b .line))) refl
+        where
+          go : (q : Bool) → ltb 1024 (length (b .line)) ≡ q → view (runs answer s (kept b) t) ≡ view (runs answer s b t)
+          go true p = simp p (dropped s b [] t (ltb-true 1024 (length (b .line)) p))
+          go false p = simp p
+
+    pub total-alike : (s : S) (b : Begun) (t : List ℕ) → total answer (runs answer s (kept b) t) ≡ total answer (runs answer s b t)
+    unfolding lastLine
+    total-alike = kept-alike (total answer) (λ s b acc h. sym (last-long s b h ∙ ap (λ (x : Said S). x .text) (alike s b acc h)))
+
+    pub out-alike : (s : S) (b : Begun) (t : List ℕ) → runs answer s (kept b) t .out ≡ runs answer s b t .out
+    out-alike = kept-alike (λ (r : Run S). r .out) (λ s b acc h. refl)
 
     from : (s : S) (b : Begun) (ps : List (List ℕ)) → Plain (b .line) → piecewise answer s b ps ≡ total answer (runs answer s b (concat ps))
     unfolding piecewise runs
@@ -83,7 +93,7 @@ module _ {S : Type 0} (answer : S → Begun → Said S) where
         let r = runs answer s b p in
         let ih = from (r .state) (kept (r .begun)) ps (plain-kept (r .begun) (plain-runs s b p h)) in
         rw (resumed s b p h)
-        (ap (λ (x : List ℕ). r .out ++ x) (ih ∙ kept-same (r .state) (r .begun) (concat ps)) ∙ (sym (append-assoc (r .out) _ _) ∙ ap (total answer) (sym (cut answer s b p (concat ps)))))
+        (ap (λ (x : List ℕ). r .out ++ x) (ih ∙ total-alike (r .state) (r .begun) (concat ps)) ∙ (sym (append-assoc (r .out) _ _) ∙ ap (total answer) (sym (cut answer s b p (concat ps)))))
 
     pub whole : (s : S) (ps : List (List ℕ)) → piecewise answer s fresh ps ≡ total answer (runs answer s fresh (concat ps))
     whole s ps = from s fresh ps refl

@@ -1,49 +1,99 @@
--- What a turn of the program leaves, with the premises as the code has them. Assumes nothing.
+-- What the steps of the program leave, with the premises as the code has them. Assumes nothing.
 use mathlib.Core.Path.{_≡_, refl, sym, ap, _∙_}
-use mathlib.Core.Bool.{true}
-use mathlib.Core.List.{List, [], _++_}
-use Prim.Native.Nat.{ℕ, _+_, _-_, _≤_}
+use mathlib.Core.Bool.{Bool, true, false, true≢false}
+use mathlib.Core.List.{List, [], _∷_, _++_}
+use Prim.Native.Nat.{ℕ, zero, suc, _≤_, _<_}
 use native.Mathlib.Omega.{arith}
-use lib.ListN.{length, take, drop, take-append-drop}
-use lib.Seq.{take-add, take-take, take-at, drop-at, length-take-le}
+use lib.ListN.{length, take, drop}
+use lib.Seq.{take-at, length-take-le}
+use lib.IntN.{ℤ, pos, negsuc}
+use lib.Signed.{ltZ}
+use borrow.Author.Tests.{ltb-true, ltb-false}
 use Rattle.words.specs.Part.{splice}
 use Rattle.fields.specs.Split.{Bytes}
-use Rattle.pieces.specs.declared.Carry.{Carry}
-use Rattle.pieces.specs.Pieces.{Begun, kept}
-use Rattle.pieces.specs.Runs.{Run, runs}
-use Rattle.lines.specs.declared.Counted.{Counted}
-use Rattle.lines.specs.Lines.{State, says}
-use Rattle.lines.specs.Fed.{stateOf}
-use Rattle.replay.specs.declared.Drained.{Drained}
-use Rattle.replay.specs.Turns.{Drains, begunIn, Stepped}
+use Rattle.lines.specs.Fed.{Lent}
+use Rattle.lines.proofs.Laws.{fresh-lent}
+use Rattle.turns.specs.declared.Stream.{Stream}
+use Rattle.turns.specs.declared.Turned.{Turned}
+use Rattle.turns.specs.Turns.{Begins, Turns}
+use Rattle.turns.specs.Went as spec
+use Rattle.replay.specs.declared.Filled.{Filled}
+use Rattle.replay.specs.declared.Filled.the-variants.{Piece, Ended, Failed}
+use Rattle.replay.specs.Reads.{came, Filling}
+use Rattle.replay.specs.Steps.{Stands, WentOn, Steps}
 
 -- bytes before a part that was lent
-pub before-part : (s : List ℕ) (a n : ℕ) (m : List ℕ) → a ≤ length s → take a (splice s a n m) ≡ take a s
-before-part s a n m h = take-at (take a s) (m ++ drop n (drop a s)) a (length-take-le a s h)
+pub before-part : (s : List ℕ) (a n : ℕ) (m : List ℕ) → a < length s → take a (splice s a n m) ≡ take a s
+before-part s a n m h = take-at (take a s) (m ++ drop n (drop a s)) a (length-take-le a s (omega arith))
 
-drop-take : (k n : ℕ) (l : List ℕ) → k ≤ n → n ≤ length l → drop k (take n l) ≡ take (n - k) (drop k l)
-drop-take k n l h g =
-    let e : n ≡ k + (n - k) = omega arith in
-    ap (λ (j : ℕ). drop k (take j l)) e ∙ (ap (drop k) (take-add k (n - k) l) ∙ drop-at (take k l) (take (n - k) (drop k l)) k (length-take-le k l (omega arith)))
+-- ---- what a read came to
+module _ (interrupted : Bool) (have end : ℕ) where
+  pub came-piece : (z : ℤ) → ltZ (pos 0) z ≡ true → Piece end ≡ came z interrupted have end
+  unfolding came
+  came-piece (pos zero) e = absurd (let z = ltb-true 0 0 e in omega arith)
+  came-piece (pos (suc k)) e = refl
+  came-piece (negsuc k) e = absurd (true≢false (sym e))
 
-module _ (buf read buf′ : Bytes) (c : Counted) (line left : Carry) (mem rows : List ℕ) (end : ℕ) (h : line .have ≤ end) (m : end ≤ length buf) (size : length read ≡ length buf) (same : take (line .have) read ≡ take (line .have) buf)
-    (d : Drained) (mem′ rows′ area′ groups′ : List ℕ) (f : Drains (take (end - 0) read) (record { at = 0; state = c; long = line .long }) mem rows d mem′ rows′ area′ groups′)
-    (k : record { long = left .long; line = take (left .have) buf′ } ≡ kept (record { long = d .place .long; line = take (end - d .place .at) (drop (d .place .at) read) })) where
-  pub stepped : d .wrote ≡ true → Stepped (stateOf c mem rows) (begunIn line buf) (stateOf (d .place .state) mem′ rows′) (begunIn left buf′)
-  stepped w =
-      let g : end ≤ length read = omega arith in
-      let z : end - 0 ≡ end = omega arith in
-      let q : take (end - 0) read ≡ take end read = ap (λ (j : ℕ). take j read) z in
-      let n : length (take end read) ≡ end = length-take-le end read g in
-      let all = rw q at (f .all w) in
-      let within = rw q at (f .within) in
-      let r : Run State = runs says (stateOf c mem rows) (record { long = line .long; line = [] }) (take end read) in
-      let st : stateOf (d .place .state) mem′ rows′ ≡ r .state = sym (ap (λ (x : Run State). x .state) all) in
-      let bg : r .begun ≡ record { long = d .place .long; line = drop (d .place .at) (take end read) } = ap (λ (x : Run State). x .begun) all in
-      let whole : take (line .have) buf ++ drop (line .have) (take end read) ≡ take end read =
-      ap (λ (x : List ℕ). x ++ drop (line .have) (take end read)) (sym same ∙ sym (take-take (line .have) end read h)) ∙ take-append-drop (line .have) (take end read) in
+  pub came-again : (z : ℤ) → ltZ z (pos 0) ≡ true → interrupted ≡ true → Piece have ≡ came z interrupted have end
+  unfolding came
+  came-again (pos k) e i = absurd (let z = ltb-true k 0 e in omega arith)
+  came-again (negsuc k) e i = rw i refl
+
+  pub came-failed : (z : ℤ) → ltZ z (pos 0) ≡ true → interrupted ≡ false → Failed ≡ came z interrupted have end
+  unfolding came
+  came-failed (pos k) e i = absurd (let z = ltb-true k 0 e in omega arith)
+  came-failed (negsuc k) e i = rw i refl
+
+  pub came-ended : (z : ℤ) → ltZ (pos 0) z ≡ false → ltZ z (pos 0) ≡ false → Ended ≡ came z interrupted have end
+  unfolding came
+  came-ended (pos zero) e f = refl
+  came-ended (pos (suc k)) e f = absurd (let z = ltb-false 0 (suc k) e in omega arith)
+  came-ended (negsuc k) e f = absurd (true≢false f)
+
+  -- whatever it came to, the bytes that were kept stand as they were
+  pub filling : (z : ℤ) (r : Filled) (buf buf′ : Bytes) → r ≡ came z interrupted have end → have ≤ end → end ≤ length buf′ → take have buf′ ≡ take have buf → Filling buf have r buf′
+  unfolding came
+  filling z r buf buf′ e h g s = rw e (go z)
+    where
+      stay : spec.Fills buf have have buf′
+      stay = record { order = omega arith; within = omega arith; same = s }
+
+      either : (i : Bool) (k : ℕ) → Filling buf have (came (negsuc k) i have end) buf′
+      either true k = stay
+      either false k = stay
+
+      go : (z : ℤ) → Filling buf have (came z interrupted have end) buf′
+      go (pos zero) = stay
+      go (pos (suc k)) = record { order = h; within = g; same = s }
+      go (negsuc k) = either interrupted k
+
+-- ---- where a step leaves the stream
+pub begins : (s : Stream) (buf : Bytes) (mem rows : List ℕ) → Begins s → WentOn s buf mem rows
+begins s buf mem rows b = record { pieces = []; text = []; went = spec.none b }
+
+pub begun : (s : Stream) (buf : Bytes) (mem rows area groups : List ℕ) → Begins s → 10305 ≤ length mem → 320 ≤ length rows → length area ≡ 3276 → 1542 ≤ length groups → Stands s buf mem rows area groups
+begun s buf mem rows area groups b m r a g = record {
+  order = omega (arith, b .atStart);
+  within = omega (arith, b .noByte);
+  few = λ _. omega (arith, b .noByte);
+  lent = fresh-lent (s .place .state .host) mem rows area groups (b .draft) m r a g;
+}
+
+pub turned : (s : Stream) (buf : Bytes) (mem rows : List ℕ) (out : Bytes) (r : Turned) (buf′ : Bytes) (mem′ rows′ area′ groups′ : List ℕ) (out′ : Bytes) → length buf′ ≡ length buf → Turns buf s mem rows out r buf′ mem′ rows′ area′ groups′ out′
+    → Steps s buf mem rows (r .stream) buf′ mem′ rows′ area′ groups′
+turned s buf mem rows out r buf′ mem′ rows′ area′ groups′ out′ e t = record {
+  stands = record { order = t .order; within = omega (arith, t .within); few = λ m. t .rests m .few; lent = t .lent };
+  on = λ w. record { pieces = w .pieces; text = w .text ++ take (r .used) out′; went = spec.turn out r buf′ mem′ rows′ area′ groups′ out′ (w .went) t };
+}
+
+module _ (s : Stream) (buf : Bytes) (mem rows area groups : List ℕ) (st : Stands s buf mem rows area groups) (m : s .more ≡ false) where
+  pub has-room : 1025 ≤ length buf → s .end < length buf
+  has-room h = omega (arith, st .few m)
+
+  pub piece-read : (r : Filled) (end : ℕ) (buf′ : Bytes) → r ≡ Piece end → Filling buf (s .end) r buf′ → Steps s buf mem rows (record { place = s .place; end = end; more = true }) buf′ mem rows area groups
+  piece-read r end buf′ e fills =
+      let f : spec.Fills buf (s .end) end buf′ = rw e at fills in
       record {
-        piece = drop (line .have) (take end read);
-        state = rw whole st;
-        begun = rw (whole, bg, drop-take (d .place .at) end read (omega arith) g) k;
+        stands = record { order = omega (arith, st .order, f .order); within = f .within; few = λ z. absurd (true≢false z); lent = st .lent };
+        on = λ w. record { pieces = w .pieces ++ (drop (s .end) (take end buf′) ∷ []); text = w .text; went = spec.read end buf′ (w .went) m f };
       }

@@ -1,135 +1,131 @@
 // Reads event lines from standard input and writes an answer to each (document 01, "The event program").
-// The input is read in pieces of 64 KB and never kept whole. A line of more than 1,024 bytes is refused 1; a last line without a newline counts
-// if it has a byte. The answers to a piece are written after it, or before, where the output has no room for another answer. The program ends when
-// the input does, when a read fails, or when a write fails.
-use lines::Counted;
-use lines::Place;
-use pieces::Carry;
+// The input is read in pieces of 64 KB and never kept whole. A line of more than 1,024 bytes is refused 1; a last line
+// without a newline counts if it has a byte. The answers to a piece are written after it, or before, where the output
+// has no room for another answer. The program ends when the input does, or when a read or a write fails, which it says
+// on standard error. After a read that failed, the line that has begun is not answered.
+use turns::Stream;
 ghost use mathlib.Core.Path.{_≡_};
-ghost use Prim.Native.Nat.{_≤_};
-ghost use lib.ListN.{length, take};
-ghost use Rattle.lines.specs.Fed.{Lent};
-ghost use Rattle.replay.specs.Turns.{Drains, Turns};
+ghost use mathlib.Core.Bool.{true};
+ghost use Prim.Native.Nat.{_≤_, _<_};
+ghost use lib.ListN.{length};
+ghost use Rattle.replay.specs.Reads.{came, Filling};
+ghost use Rattle.replay.specs.Steps.{Stands, Steps};
 
-// What goes from piece to piece.
-struct State {
-    state: Counted,
-    line: Carry,
-    more: bool,
+// What a read came to: the bytes of the buffer now end there, the input has ended, or the read failed.
+enum Filled {
+    Piece(usize),
+    Ended,
+    Failed,
 }
 
-// Where the lines of a piece end, and whether their answers were written.
-struct Drained {
-    place: Place,
-    wrote: bool,
+// Where the stream stands, and whether the program goes on.
+struct Next {
+    stream: Stream,
+    on: bool,
 }
 
-// Writes what is used of the output.
+// Writes what is used of the output. If that fails, says so.
 fn flush(out: &[u8], used: usize) -> bool
     requires { ⌜ used ≤ length (now out) ⌝ }
 {
     if used == 0 {
         return true;
     }
-    io::write_all(1, &out[0..used])
-}
-
-// Answers the lines of a piece, and writes the answers.
-fn drain(
-    piece: &[u8],
-    from: Place,
-    mem: &mut [u64],
-    rows: &mut [u64],
-    area: &mut [u64],
-    groups: &mut [u64],
-    out: &mut [u8],
-) -> Drained
-    requires { ⌜ (from .at ≤ length (now piece)) × Lent (from .state .host) (now mem) (now rows) (now area) (now groups) × (65536 ≤ length (now out)) ⌝ }
-    ensures { λ r. ⌜ Drains (now (piece .entry)) from (now (mem .entry)) (now (rows .entry)) r (now (mem .exit)) (now (rows .exit)) (now (area .exit)) (now (groups .exit)) ⌝ }
-{
-    let mut place = from;
-    loop {
-        let fed = lines::feed(piece, place, mem, rows, area, groups, out);
-        let wrote = flush(out, fed.used);
-        let next = fed.place;
-        if !wrote {
-            return Drained { place: next, wrote };
-        }
-        if !fed.more {
-            return Drained { place: next, wrote };
-        }
-        place = next;
+    let wrote = io::write_all(1, &out[0..used]);
+    if !wrote {
+        os::fail(b"replay: cannot write to standard output");
     }
+    wrote
 }
 
-// Reads a piece behind the bytes that were kept, and returns where it ends.
-fn fill(buf: &mut [u8], have: usize) -> usize
-    requires { ⌜ have ≤ length (now buf) ⌝ }
-    ensures { λ r. ⌜ (have ≤ r) × (r ≤ length (now (buf .entry))) × (take have (now (buf .exit)) ≡ take have (now (buf .entry))) ⌝ }
+// What a read that answered `got` came to: the bytes ended at `have` before it, and if it got any, end at `end`. One that a
+// signal interrupted is a piece without bytes.
+fn outcome(got: isize, interrupted: bool, have: usize, end: usize) -> Filled
+    ensures { λ r. ⌜ r ≡ came got interrupted have end ⌝ }
+{
+    if got > 0 {
+        return Filled::Piece(end);
+    }
+    if got < 0 {
+        if interrupted {
+            return Filled::Piece(have);
+        }
+        return Filled::Failed;
+    }
+    Filled::Ended
+}
+
+// Reads a piece behind the bytes that were kept.
+fn fill(buf: &mut [u8], have: usize) -> Filled
+    requires { ⌜ have < length (now buf) ⌝ }
+    ensures { λ r. ⌜ Filling (now (buf .entry)) have r (now (buf .exit)) ⌝ }
 {
     let got = libc::read(0, &mut buf[have..]);
-    have + io::count(got, &buf[have..])
+    let interrupted = os::errno() == libc::EINTR;
+    let end = have + io::count(got, &buf[have..]);
+    outcome(got, interrupted, have, end)
 }
 
-// Reads a piece and answers the lines that end in it; at the end of the input, the last line.
-fn turn(
+// A turn over the bytes that wait, and its text written; or, where no line ends in them, a read. At the end of the input,
+// the last line.
+fn step(
     buf: &mut [u8],
-    state: Counted,
-    line: Carry,
+    from: Stream,
     mem: &mut [u64],
     rows: &mut [u64],
     area: &mut [u64],
     groups: &mut [u64],
     out: &mut [u8],
-) -> State
-    requires { ⌜ (line .have ≤ 1024) × (1025 ≤ length (now buf)) × Lent (state .host) (now mem) (now rows) (now area) (now groups) × (65536 ≤ length (now out)) ⌝ }
-    ensures { λ r. ⌜ Turns (now (buf .entry)) state line (now (mem .entry)) (now (rows .entry)) r (now (buf .exit)) (now (mem .exit)) (now (rows .exit)) (now (area .exit)) (now (groups .exit)) ⌝ }
+) -> Next
+    requires { ⌜ Stands from (now buf) (now mem) (now rows) (now area) (now groups) × (1025 ≤ length (now buf)) × (65536 ≤ length (now out)) ⌝ }
+    ensures { λ r. ⌜ (r .on ≡ true → Steps from (now (buf .entry)) (now (mem .entry)) (now (rows .entry)) (r .stream) (now (buf .exit)) (now (mem .exit)) (now (rows .exit)) (now (area .exit)) (now (groups .exit))) ⌝ }
 {
-    let have = line.have;
-    let end = fill(buf, have);
-    if end == have {
-        let said = lines::last_line(
-            state,
-            mem,
-            rows,
-            area,
-            groups,
-            line.long,
-            &buf[0..have],
-            out,
-        );
-        flush(out, said.end);
-        let last = said.state;
-        return State {
-            state: last,
-            line,
-            more: false,
-        };
+    if from.more {
+        let turned = turns::turn(buf, from, mem, rows, area, groups, out);
+        let on = flush(out, turned.used);
+        let stream = turned.stream;
+        return Next { stream, on };
     }
-    let drained = drain(
-        &buf[0..end],
-        Place {
-            at: 0,
-            state,
-            long: line.long,
+    let have = from.end;
+    let place = from.place;
+    match fill(buf, have) {
+        Filled::Piece(end) => Next {
+            stream: Stream {
+                place,
+                end,
+                more: true,
+            },
+            on: true,
         },
-        mem,
-        rows,
-        area,
-        groups,
-        out,
-    );
-    let place = drained.place;
-    let left = pieces::keep(buf, place.at, end, place.long);
-    let next = place.state;
-    State {
-        state: next,
-        line: left,
-        more: drained.wrote,
+        Filled::Ended => {
+            let said = lines::last_line(
+                place.state,
+                mem,
+                rows,
+                area,
+                groups,
+                place.long,
+                &buf[0..have],
+                out,
+            );
+            flush(out, said.end);
+            Next {
+                stream: from,
+                on: false,
+            }
+        }
+        Filled::Failed => {
+            os::fail(b"replay: cannot read standard input");
+            Next {
+                stream: from,
+                on: false,
+            }
+        }
     }
 }
 
-// A proved loop has to end, and nothing says that the input does: so it counts its turns down, from a number that no run uses up.
+// A proved loop has to end, and nothing says that the input does: so it counts its steps down, from a number that no run
+// uses up.
 fn run(
     buf: &mut [u8],
     mem: &mut [u64],
@@ -140,19 +136,12 @@ fn run(
 )
     requires { ⌜ (1025 ≤ length (now buf)) × (10305 ≤ length (now mem)) × (320 ≤ length (now rows)) × (length (now area) ≡ 3276) × (1542 ≤ length (now groups)) × (65536 ≤ length (now out)) ⌝ }
 {
-    let state = Counted::fresh();
-    let mut s = State {
-        state,
-        line: Carry {
-            have: 0,
-            long: false,
-        },
-        more: true,
-    };
-    let mut turns = u64::MAX;
-    while turns > 0 && s.more {
-        s = turn(buf, s.state, s.line, mem, rows, area, groups, out);
-        turns -= 1;
+    let stream = Stream::fresh();
+    let mut s = Next { stream, on: true };
+    let mut steps = u64::MAX;
+    while steps > 0 && s.on {
+        s = step(buf, s.stream, mem, rows, area, groups, out);
+        steps -= 1;
     }
 }
 

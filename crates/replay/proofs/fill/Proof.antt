@@ -15,6 +15,9 @@ part-read-end c = search needs
 read-requires : tie.Need-read-requires
 read-requires c κs = search needs
 
+errno-requires : tie.Need-errno-requires
+errno-requires c κs = search needs
+
 sub-count : tie.Need-sub-count
 sub-count c = search needs
 
@@ -27,14 +30,17 @@ part-count-end c = search needs
 count-requires : tie.Need-count-requires
 count-requires c κs = search needs
 
-add-result : tie.Need-add-result
-add-result c = search needs
+add-end : tie.Need-add-end
+add-end c = search needs
+
+outcome-requires : tie.Need-outcome-requires
+outcome-requires c κs = search needs
 
 same-length : tie.Need-same-length
 same-length c = search needs
 
 returns : tie.Need-returns
-returns c = (search needs, search needs, search (needs, law.before-part))
+returns c = law.filling _ _ _ _ _ _ _ (c .outcome .ensures) (search needs) (search needs) (search (needs, law.before-part))
 
 pub fill-spec : {M : Type 1} → statement M
 fill-spec =
@@ -44,10 +50,12 @@ fill-spec =
     part-read-start
     part-read-end
     read-requires
+    errno-requires
     sub-count
     part-count-start
     part-count-end
     count-requires
-    add-result
+    add-end
+    outcome-requires
     same-length
     returns)

@@ -1,35 +1,38 @@
 use mathlib.Core.Path.{_≡_, refl, _∙_}
-use Prim.Native.Nat.{_≤_}
+use mathlib.Core.Bool.{true}
 use lib.ListN.{length}
 use borrow.Author.Needs.{needs}
-use Rattle.lines.specs.Fed.{Lent}
-use Rattle.lines.proofs.Laws as law
+use Rattle.replay.specs.Steps.{Stands, WentOn}
+use Rattle.replay.proofs.Laws as law
 use Rattle.replay.proofs.run.Statement.{statement}
 use Rattle.replay.proofs.run.Tie as tie
 
 abbrev Inv-loop : tie.InvT-loop
-Inv-loop buf₀ mem₀ rows₀ area₀ groups₀ out₀ s₀ turns₀ buf mem rows area groups out s turns = (s .line .have ≤ 1024) × Lent (s .state .host) mem rows area groups × (length buf ≡ length buf₀) × (length mem ≡ length mem₀) × (length rows ≡ length rows₀) × (length area ≡ length area₀) × (length groups ≡ length groups₀) × (length out ≡ length out₀)
+Inv-loop buf₀ mem₀ rows₀ area₀ groups₀ out₀ s₀ steps₀ buf mem rows area groups out s steps = (s .on ≡ true → Stands (s .stream) buf mem rows area groups × WentOn (s .stream) buf mem rows) × (length buf ≡ length buf₀) × (length mem ≡ length mem₀) × (length rows ≡ length rows₀) × (length area ≡ length area₀) × (length groups ≡ length groups₀) × (length out ≡ length out₀)
 
 abbrev μ-loop : tie.MeasureT-loop
-μ-loop buf₀ mem₀ rows₀ area₀ groups₀ out₀ s₀ turns₀ buf mem rows area groups out s turns = turns
+μ-loop buf₀ mem₀ rows₀ area₀ groups₀ out₀ s₀ steps₀ buf mem rows area groups out s steps = steps
 
 fresh-requires : tie.Need-fresh-requires Inv-loop μ-loop
 fresh-requires c κs = search needs
 
 loop-holds : tie.Need-loop-holds Inv-loop μ-loop
-loop-holds c = (search needs, law.fresh-lent _ _ _ _ _ (c .fresh .ensures .1) (c .before .before .before .before .before .before .before .pre .1) (c .before .before .before .before .before .before .before .pre .2) (c .before .before .before .before .before .before .before .pre .3) (c .before .before .before .before .before .before .before .pre .4), refl, refl, refl, refl, refl, refl)
+loop-holds c = (λ _. (law.begun _ _ _ _ _ _ (c .fresh .ensures) (c .before .before .before .before .before .before .before .pre .1) (c .before .before .before .before .before .before .before .pre .2) (c .before .before .before .before .before .before .before .pre .3) (c .before .before .before .before .before .before .before .pre .4), law.begins _ _ _ _ (c .fresh .ensures)), refl, refl, refl, refl, refl, refl)
 
-turn-requires : tie.Need-turn-requires Inv-loop μ-loop
-turn-requires c κs = (c .before .before .before .before .before .before .before .before .loop .inv .0, search needs, c .before .before .before .before .before .before .before .before .loop .inv .1, search needs)
+step-requires : tie.Need-step-requires Inv-loop μ-loop
+step-requires c κs = (c .before .before .before .before .before .before .before .before .loop .inv .0 (c .before .before .before .before .before .before .if1 .taken) .0, search needs, search needs)
 
-sub-turns : tie.Need-sub-turns Inv-loop μ-loop
-sub-turns c = search needs
+sub-steps : tie.Need-sub-steps Inv-loop μ-loop
+sub-steps c = search needs
 
 loop-less : tie.Need-loop-less Inv-loop μ-loop
 loop-less c = search needs
 
 loop-again : tie.Need-loop-again Inv-loop μ-loop
-loop-again c = (c .before .before .before .before .before .before .before .before .before .before .before .before .turn .ensures .few, c .before .before .before .before .before .before .before .before .before .before .before .before .turn .ensures .lent, c .before .before .before .before .before .before .before .before .before .before .before .before .turn .kept .0 ∙ c .before .before .before .before .before .before .before .before .before .before .before .before .before .before .before .before .before .before .before .before .before .loop .inv .2, c .before .before .before .before .before .before .before .before .before .before .before .before .turn .kept .1 .1 .1 .0 ∙ c .before .before .before .before .before .before .before .before .before .before .before .before .before .before .before .before .before .before .before .before .before .loop .inv .3, c .before .before .before .before .before .before .before .before .before .before .before .before .turn .kept .1 .1 .1 .1 .0 ∙ c .before .before .before .before .before .before .before .before .before .before .before .before .before .before .before .before .before .before .before .before .before .loop .inv .4, c .before .before .before .before .before .before .before .before .before .before .before .before .turn .kept .1 .1 .1 .1 .1 .0 ∙ c .before .before .before .before .before .before .before .before .before .before .before .before .before .before .before .before .before .before .before .before .before .loop .inv .5, c .before .before .before .before .before .before .before .before .before .before .before .before .turn .kept .1 .1 .1 .1 .1 .1 .0 ∙ c .before .before .before .before .before .before .before .before .before .before .before .before .before .before .before .before .before .before .before .before .before .loop .inv .6, c .before .before .before .before .before .before .before .before .before .before .before .before .turn .kept .1 .1 .1 .1 .1 .1 .1 .0 ∙ c .before .before .before .before .before .before .before .before .before .before .before .before .before .before .before .before .before .before .before .before .before .loop .inv .7)
+loop-again c =
+    let s = c .before .before .before .before .before .before .before .before .before .before .before .before .step in
+    let i = c .before .before .before .before .before .before .before .before .before .before .before .before .before .before .before .before .before .before .before .before .before .loop .inv in
+    (λ e. (s .ensures e .stands, s .ensures e .on (i .0 (c .before .before .before .before .before .before .before .before .before .before .before .before .before .before .before .before .before .before .before .if1 .taken) .1)), s .kept .0 ∙ i .1, s .kept .1 .1 .0 ∙ i .2, s .kept .1 .1 .1 .0 ∙ i .3, s .kept .1 .1 .1 .1 .0 ∙ i .4, s .kept .1 .1 .1 .1 .1 .0 ∙ i .5, s .kept .1 .1 .1 .1 .1 .1 .0 ∙ i .6)
 
 same-length : tie.Need-same-length Inv-loop μ-loop
 same-length c = search needs
@@ -81,8 +84,8 @@ run-spec =
     μ-loop
     fresh-requires
     loop-holds
-    turn-requires
-    sub-turns
+    step-requires
+    sub-steps
     loop-less
     loop-again
     same-length
