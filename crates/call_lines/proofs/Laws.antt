@@ -31,7 +31,9 @@ use Rattle.fields.specs.Number.{isNumber, valueOf, numbers, numberAt}
 use Rattle.fields.specs.Reads.{noneLeft, between, ReadsField, ReadsNumberAt, ReadsNumbers}
 use Rattle.fields.specs.declared.Field.{Field}
 use Rattle.fields.specs.declared.NumberAt.{NumberAt}
-use Rattle.fields.proofs.Laws.{all-read, none-left}
+use Rattle.fields.proofs.Laws.{all-read, none-left, number-before}
+use Rattle.reader.specs.declared.NumbersField.{NumbersField}
+use Rattle.reader.specs.Takes.{ReadsNumbersField}
 use Rattle.heartbeat.specs.Heartbeat.{carried, fitting}
 use Rattle.fields.specs.declared.CallKind.{CallKind}
 use Rattle.fields.specs.declared.CallKind.the-variants as kinds
@@ -304,7 +306,7 @@ not-read : (s : Bytes) (at : ℕ) (r : ReadFields) → r .good ≡ false → isR
 not-read s at r e g = record { good = e ∙ sym g; well = λ w. not-both e w }
 
 module _ (s : Bytes) (at : ℕ) (x : NumberAt) (h : ReadsNumberAt s at x) where
-  pub bad-client : (r : ReadFields) → not (x .good) ≡ true → r .good ≡ false → ReadsRead s at r
+  bad-client : (r : ReadFields) → not (x .good) ≡ true → r .good ≡ false → ReadsRead s at r
   bad-client r f e = not-read s at r e (not-1 (fieldsFrom s at) (sym (h .good) ∙ not-true (x .good) f))
 
   module _ (f : not (x .good) ≡ false) (y : NumberAt) (i : ReadsNumberAt s (x .next) y) where
@@ -314,7 +316,7 @@ module _ (s : Bytes) (at : ℕ) (x : NumberAt) (h : ReadsNumberAt s at x) where
     second : getD (fieldsFrom s at) 1 [] ≡ getD (fieldsFrom s (x .next)) 0 []
     second = ap (λ (l : List Bytes). getD l 1 []) one-field
 
-    pub bad-request : (r : ReadFields) → not (y .good) ≡ true → r .good ≡ false → ReadsRead s at r
+    bad-request : (r : ReadFields) → not (y .good) ≡ true → r .good ≡ false → ReadsRead s at r
     bad-request r g e = not-read s at r e (not-2 (fieldsFrom s at) (ap isNumber second ∙ sym (i .good) ∙ not-true (y .good) g))
 
     module _ (g : not (y .good) ≡ false) (z : NumberAt) (j : ReadsNumberAt s (y .next) z) where
@@ -324,7 +326,7 @@ module _ (s : Bytes) (at : ℕ) (x : NumberAt) (h : ReadsNumberAt s at x) where
       third : getD (fieldsFrom s at) 2 [] ≡ getD (fieldsFrom s (y .next)) 0 []
       third = ap (λ (l : List Bytes). getD l 2 []) two-fields
 
-      pub bad-leases : (r : ReadFields) → not (z .good) ≡ true → r .good ≡ false → ReadsRead s at r
+      bad-leases : (r : ReadFields) → not (z .good) ≡ true → r .good ≡ false → ReadsRead s at r
       bad-leases r k e = not-read s at r e (not-3 (fieldsFrom s at) (ap isNumber third ∙ sym (j .good) ∙ not-true (z .good) k))
 
       module _ (k : not (z .good) ≡ false) where
@@ -334,7 +336,7 @@ module _ (s : Bytes) (at : ℕ) (x : NumberAt) (h : ReadsNumberAt s at x) where
         not-four : (r : ReadFields) → r .good ≡ false → (length (fieldsFrom s (z .next)) ≡ 1 → ⊥) → ReadsRead s at r
         not-four r e n = not-read s at r e (rw (ne-eqb (length (fieldsFrom s at)) 4 (λ l. n (omega (arith, ap length three-fields)))))
 
-        pub no-key : (r : ReadFields) (t : Bool) → t ≡ noneLeft (fieldsFrom s (z .next)) → t ≡ true → r .good ≡ false → ReadsRead s at r
+        no-key : (r : ReadFields) (t : Bool) → t ≡ noneLeft (fieldsFrom s (z .next)) → t ≡ true → r .good ≡ false → ReadsRead s at r
         no-key r t n q e = not-four r e (λ l. absurd (omega (arith, ap length (all-read (fieldsFrom s (z .next)) (sym n ∙ q)))))
 
         module _ (t : Bool) (n : t ≡ noneLeft (fieldsFrom s (z .next))) (q : t ≡ false) (w : Field) (o : ReadsField s (z .next) w) (u : Bool) (v : u ≡ noneLeft (fieldsFrom s (w .next))) where
@@ -344,10 +346,10 @@ module _ (s : Bytes) (at : ℕ) (x : NumberAt) (h : ReadsNumberAt s at x) where
           fourth : fieldsFrom s (z .next) ≡ between s (w .start) (w .end) ∷ fieldsFrom s (w .next)
           fourth = o .first within .here
 
-          pub fifth : (r : ReadFields) → not u ≡ true → r .good ≡ false → ReadsRead s at r
+          fifth : (r : ReadFields) → not u ≡ true → r .good ≡ false → ReadsRead s at r
           fifth r p e = not-four r e (λ l. some-left (fieldsFrom s (w .next)) (sym v ∙ not-true u p) (omega (arith, ap length fourth)))
 
-          pub is-read : not u ≡ false
+          is-read : not u ≡ false
               → ReadsRead s at (record { good = true; client = x .value; request = y .value; leases = z .value; start = w .start; end = w .end })
           is-read p =
               let four : fieldsFrom s at ≡ getD (fieldsFrom s at) 0 [] ∷ getD (fieldsFrom s (x .next)) 0 [] ∷ getD (fieldsFrom s (y .next)) 0 [] ∷ between s (w .start) (w .end) ∷ [] =
@@ -369,6 +371,39 @@ module _ (s : Bytes) (at : ℕ) (x : NumberAt) (h : ReadsNumberAt s at x) where
                       key = sym (ap (λ (l : List Bytes). getD l 3 []) four);
                     };
               }
+
+-- the three numbers of a read are one by one, so the third tells of all
+module _ (s : Bytes) (at : ℕ) (f : NumbersField) (h : ReadsNumbersField s at f) where
+  pub bad-numbers : (r : ReadFields) → not (f .third .good) ≡ true → r .good ≡ false → ReadsRead s at r
+  bad-numbers r e g = by-first (not (f .first .good)) refl
+    where
+      by-second : not (f .first .good) ≡ false → (b : Bool) → not (f .second .good) ≡ b → ReadsRead s at r
+      by-second c true d = bad-request s at (f .first) (h .first) c (f .second) (h .second) r d g
+      by-second c false d = bad-leases s at (f .first) (h .first) c (f .second) (h .second) d (f .third) (h .third) r e g
+
+      by-first : (b : Bool) → not (f .first .good) ≡ b → ReadsRead s at r
+      by-first true d = bad-client s at (f .first) (h .first) r d g
+      by-first false d = by-second d (not (f .second .good)) refl
+
+  module _ (k : not (f .third .good) ≡ false) where
+    second-good : f .second .good ≡ true
+    second-good = number-before s (f .first .next) (f .second) (f .third) (h .second) (h .third) (not-false (f .third .good) k)
+
+    not-second : not (f .second .good) ≡ false
+    not-second = ap not second-good
+
+    not-first : not (f .first .good) ≡ false
+    not-first = ap not (number-before s at (f .first) (f .second) (h .first) (h .second) second-good)
+
+    pub numbers-alone : (r : ReadFields) (t : Bool) → t ≡ noneLeft (fieldsFrom s (f .third .next)) → t ≡ true → r .good ≡ false → ReadsRead s at r
+    numbers-alone r t n q e = no-key s at (f .first) (h .first) not-first (f .second) (h .second) not-second (f .third) (h .third) k r t n q e
+
+    module _ (t : Bool) (n : t ≡ noneLeft (fieldsFrom s (f .third .next))) (q : t ≡ false) (u : Bool) (v : u ≡ noneLeft (fieldsFrom s (f .field .next))) where
+      pub one-too-many : (r : ReadFields) → not u ≡ true → r .good ≡ false → ReadsRead s at r
+      one-too-many r p e = fifth s at (f .first) (h .first) not-first (f .second) (h .second) not-second (f .third) (h .third) k t n q (f .field) (h .field) u v r p e
+
+      pub whole-read : not u ≡ false → ReadsRead s at (record { good = true; client = f .first .value; request = f .second .value; leases = f .third .value; start = f .field .start; end = f .field .end })
+      whole-read p = is-read s at (f .first) (h .first) not-first (f .second) (h .second) not-second (f .third) (h .third) k t n q (f .field) (h .field) u v p
 
 -- ---- the call of a read
 

@@ -122,25 +122,21 @@ fn no_read() -> ReadFields
     }
 }
 
+// The reader stands at a field that is no number, so the third number is one only after two others.
 fn read_fields(line: &[u8], at: usize) -> ReadFields
     ensures { λ r. ⌜ ReadsRead (now (line .entry)) at r ⌝ }
 {
-    let client = reader::number_from(line, at);
-    if !client.good {
-        return no_read();
-    }
-    let request = reader::number_from(line, client.next);
-    if !request.good {
-        return no_read();
-    }
-    let leases = reader::number_from(line, request.next);
+    let f = reader::numbers_field_from(line, at);
+    let client = f.first;
+    let request = f.second;
+    let leases = f.third;
+    let key = f.field;
     if !leases.good {
         return no_read();
     }
     if fields::ended(line, leases.next) {
         return no_read();
     }
-    let key = reader::field_from(line, leases.next);
     if !fields::ended(line, key.next) {
         return no_read();
     }

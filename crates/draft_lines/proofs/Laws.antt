@@ -1,9 +1,10 @@
 -- A line's fields as the arguments of an edit, a listing or a node. Assumes nothing.
 use mathlib.Core.Path.{_≡_, refl, sym, ap, subst, _∙_}
-use mathlib.Core.Bool.{Bool, true, false, not, _&&_, and-false}
+use mathlib.Core.Bool.{Bool, true, false, not, _&&_, and-false, true≢false}
 use mathlib.Core.List.{List, [], _∷_}
 use Prim.Native.Nat.{ℕ, _<_, _≤_}
 use native.Mathlib.Omega.{arith}
+use native.Mathlib.Decide.{decLt}
 use lib.Dec.{leb, ltb, eqb}
 use lib.ListN.{length, getD}
 use borrow.Author.Tests.{le-leb, lt-leb, lt-ltb, le-ltb, leb-true, ltb-true, ltb-false, eq-eqb, ne-eqb, not-true, not-false}
@@ -11,12 +12,11 @@ use Rattle.words.specs.Choice.{if_then_else_}
 use Rattle.words.proofs.Tests.{and-both}
 use Rattle.fields.specs.Split.{Bytes, fieldsFrom}
 use Rattle.fields.specs.Number.{isNumber, valueOf, numbers, numberAt}
-use Rattle.fields.specs.Reads.{noneLeft, between, ReadsField, ReadsNumberAt}
+use Rattle.fields.specs.Reads.{noneLeft, between, ReadsField, ReadsNumbers}
 use Rattle.fields.specs.declared.Field.{Field}
-use Rattle.fields.specs.declared.NumberAt.{NumberAt}
-use Rattle.fields.proofs.Laws.{all-read, none-left, numbers-none}
-use Rattle.reader.specs.declared.NumberFields.{NumberFields}
-use Rattle.reader.specs.Takes.{ReadsAs}
+use Rattle.fields.proofs.Laws.{all-read, from-past, numbers-none}
+use Rattle.reader.specs.declared.FieldsNumber.{FieldsNumber}
+use Rattle.reader.specs.Takes.{ReadsFieldsNumber}
 use Rattle.responders.specs.declared.RespondersConf.{RespondersConf}
 use Rattle.responders.specs.declared.Edited.{Edited}
 use Rattle.responders.specs.declared.Edited.the-variants as edited
@@ -79,15 +79,15 @@ pub good-edit : (good : Bool) (e : Edit) (population : ℕ) (c : RespondersConf)
     → EditsLine good e population c rows r rows′
 good-edit good e population c rows rows′ r g h = record { bad = λ f. not-both f g; well = λ f. h }
 
-module _ (s : Bytes) (at k : ℕ) (x : NumberFields) (h : ReadsAs s at k x) where
-  pub other-fields : (e : Edit) (population : ℕ) (c : RespondersConf) (rows : List ℕ) → not (x .good) ≡ true
+module _ (s : Bytes) (at k : ℕ) (out xs : List ℕ) (t : Bool) (h : ReadsNumbers s at k out t xs) where
+  pub other-fields : (e : Edit) (population : ℕ) (c : RespondersConf) (rows : List ℕ) → not t ≡ true
       → EditsLine (numbers k (fieldsFrom s at)) e population c rows (edited.Refused 1) rows
-  other-fields e population c rows f = bad-edit _ e population c rows (sym (h .good) ∙ not-true (x .good) f)
+  other-fields e population c rows f = bad-edit _ e population c rows (sym (h .good) ∙ not-true t f)
 
-  pub one-number : (e : ℕ → Edit) (population : ℕ) (c : RespondersConf) (rows rows′ : List ℕ) (r : Edited) → not (x .good) ≡ false → 0 < k
-      → Edits (e (x .first)) population c rows r rows′ → EditsLine (numbers k (fieldsFrom s at)) (e (numberAt (fieldsFrom s at) 0)) population c rows r rows′
+  pub one-number : (e : ℕ → Edit) (population : ℕ) (c : RespondersConf) (rows rows′ : List ℕ) (r : Edited) → not t ≡ false → 0 < k
+      → Edits (e (getD xs 0 0)) population c rows r rows′ → EditsLine (numbers k (fieldsFrom s at)) (e (numberAt (fieldsFrom s at) 0)) population c rows r rows′
   one-number e population c rows rows′ r f l g =
-      good-edit _ _ population c rows rows′ r (sym (h .good) ∙ not-false (x .good) f) (rw (h .values (not-false (x .good) f) 0 l) at g)
+      good-edit _ _ population c rows rows′ r (sym (h .good) ∙ not-false t f) (rw (h .values (not-false t f) 0 l) at g)
 
 pub of-kind : (k x : EditKind) (fs : List Bytes) (population : ℕ) (c : RespondersConf) (rows rows′ : List ℕ) (r : Edited) → k ≡ x → EditsLine (isEdit x fs) (editOf x fs) population c rows r rows′
     → EditsLine (isEdit k fs) (editOf k fs) population c rows r rows′
@@ -173,16 +173,16 @@ module _ (id population quorum : ℕ) where
         go true h = absurd h
         go false h = record { answer = g; sameMem = h .1 }
 
-module _ (s : Bytes) (at : ℕ) (k : NumberFields) (h : ReadsAs s at 3 k) (n : Node) (mem : List ℕ) where
-  pub bad-node : (id population quorum : ℕ) (a : Answered) → not (k .good) ≡ true → a ≡ record { number = 1; count = 0; node = n }
+module _ (s : Bytes) (at : ℕ) (out xs : List ℕ) (g : Bool) (h : ReadsNumbers s at 3 out g xs) (n : Node) (mem : List ℕ) where
+  pub bad-node : (id population quorum : ℕ) (a : Answered) → not g ≡ true → a ≡ record { number = 1; count = 0; node = n }
       → BeginsLine (numbers 3 (fieldsFrom s at)) id population quorum n mem a mem
   bad-node id population quorum a f e =
-      let g = sym (h .good) ∙ not-true (k .good) f in
-      record { bad = λ x. record { answer = e; sameMem = refl }; second = λ x. not-both g x; first = λ x. not-both g x }
+      let b = sym (h .good) ∙ not-true g f in
+      record { bad = λ x. record { answer = e; sameMem = refl }; second = λ x. not-both b x; first = λ x. not-both b x }
 
-  module _ (f : not (k .good) ≡ false) (t : Bool) (r : t ≡ ready n mem) where
+  module _ (f : not g ≡ false) (t : Bool) (r : t ≡ ready n mem) where
     good : numbers 3 (fieldsFrom s at) ≡ true
-    good = sym (h .good) ∙ not-false (k .good) f
+    good = sym (h .good) ∙ not-false g f
 
     pub second-node : (id population quorum : ℕ) (a : Answered) → t ≡ true → a ≡ record { number = 2; count = 0; node = n }
         → BeginsLine (numbers 3 (fieldsFrom s at)) id population quorum n mem a mem
@@ -190,11 +190,11 @@ module _ (s : Bytes) (at : ℕ) (k : NumberFields) (h : ReadsAs s at 3 k) (n : N
         record { bad = λ x. not-both x good; second = λ x y. record { answer = e; sameMem = refl }; first = λ x y. not-both y (sym r ∙ q) }
 
     pub first-node : (a : Answered) (mem′ : List ℕ) → t ≡ false
-        → BeginsBy (node.inRange (k .first) (k .second) (k .third)) (k .first) (k .second) (k .third) n mem a mem′
+        → BeginsBy (node.inRange (getD xs 0 0) (getD xs 1 0) (getD xs 2 0)) (getD xs 0 0) (getD xs 1 0) (getD xs 2 0) n mem a mem′
         → BeginsLine (numbers 3 (fieldsFrom s at)) (numberAt (fieldsFrom s at) 0) (numberAt (fieldsFrom s at) 1) (numberAt (fieldsFrom s at) 2) n mem a mem′
-    first-node a mem′ q g =
-        let v = h .values (not-false (k .good) f) in
-        record { bad = λ x. not-both x good; second = λ x y. not-both (sym r ∙ q) y; first = λ x y. rw (v 0 (omega arith), v 1 (omega arith), v 2 (omega arith)) at g }
+    first-node a mem′ q w =
+        let v = h .values (not-false g f) in
+        record { bad = λ x. not-both x good; second = λ x y. not-both (sym r ∙ q) y; first = λ x y. rw (v 0 (omega arith), v 1 (omega arith), v 2 (omega arith)) at w }
 
 -- ---- a range
 
@@ -204,58 +204,72 @@ not-range s at r e g = record { good = e ∙ sym g; well = λ w. not-both e w }
 other-length : (s : Bytes) (at : ℕ) (r : RangeFields) → r .good ≡ false → (length (fieldsFrom s at) ≡ 3 → ⊥) → ReadsRange s at r
 other-length s at r e n = not-range s at r e (rw (ne-eqb (length (fieldsFrom s at)) 3 n))
 
-module _ (s : Bytes) (at : ℕ) (t : Bool) (n : t ≡ noneLeft (fieldsFrom s at)) where
-  pub no-start : (r : RangeFields) → t ≡ true → r .good ≡ false → ReadsRange s at r
-  no-start r f e = other-length s at r e (λ l. absurd (omega (arith, ap length (all-read (fieldsFrom s at) (sym n ∙ f)))))
+module _ (s : Bytes) (at : ℕ) (f : FieldsNumber) (h : ReadsFieldsNumber s at f) where
+  -- past the end there is no field, and the reader stands
+  past : (k : ℕ) (x : Field) → ReadsField s k x → length s < k → length s < x .next
+  past k x r l = let e : x .next ≡ k = ap (λ (y : Field). y .next) (r .past l .stands) in omega (arith, e)
 
-  module _ (f : t ≡ false) (x : Field) (h : ReadsField s at x) (u : Bool) (o : u ≡ noneLeft (fieldsFrom s (x .next))) where
-    in-start : at ≤ length s
-    in-start = ltb-false (length s) at (none-left s at ∙ sym n ∙ f)
+  module _ (a : at ≤ length s) where
+    one : fieldsFrom s at ≡ between s (f .first .start) (f .first .end) ∷ fieldsFrom s (f .first .next)
+    one = h .first .first a .here
 
-    first : fieldsFrom s at ≡ between s (x .start) (x .end) ∷ fieldsFrom s (x .next)
-    first = h .first in-start .here
+    module _ (b : f .first .next ≤ length s) where
+      two : fieldsFrom s at ≡ between s (f .first .start) (f .first .end) ∷ between s (f .second .start) (f .second .end) ∷ fieldsFrom s (f .second .next)
+      two = one ∙ ap (λ (l : List Bytes). between s (f .first .start) (f .first .end) ∷ l) (h .second .first b .here)
 
-    pub no-end : (r : RangeFields) → u ≡ true → r .good ≡ false → ReadsRange s at r
-    no-end r g e = other-length s at r e (λ l. absurd (omega (arith, ap length first, ap length (all-read (fieldsFrom s (x .next)) (sym o ∙ g)))))
-
-    module _ (g : u ≡ false) (y : Field) (i : ReadsField s (x .next) y) (z : NumberAt) (j : ReadsNumberAt s (y .next) z) where
-      in-end : x .next ≤ length s
-      in-end = ltb-false (length s) (x .next) (none-left s (x .next) ∙ sym o ∙ g)
-
-      two : fieldsFrom s at ≡ between s (x .start) (x .end) ∷ between s (y .start) (y .end) ∷ fieldsFrom s (y .next)
-      two = first ∙ ap (λ (l : List Bytes). between s (x .start) (x .end) ∷ l) (i .first in-end .here)
-
-      third : getD (fieldsFrom s at) 2 [] ≡ getD (fieldsFrom s (y .next)) 0 []
+      third : getD (fieldsFrom s at) 2 [] ≡ getD (fieldsFrom s (f .second .next)) 0 []
       third = ap (λ (l : List Bytes). getD l 2 []) two
 
-      pub no-mask : (r : RangeFields) → not (z .good) ≡ true → r .good ≡ false → ReadsRange s at r
-      no-mask r k e = not-range s at r e (rw (ap isNumber third ∙ sym (j .good) ∙ not-true (z .good) k) (and-false (eqb (length (fieldsFrom s at)) 3)))
+  pub no-mask : (r : RangeFields) → not (f .number .good) ≡ true → r .good ≡ false → ReadsRange s at r
+  no-mask r k e = elim (decLt (length s) at) [
+    | yes l ↦ other-length s at r e (λ p. absurd (omega (arith, p, ap length (from-past s at l))))
+    | no l ↦
+        elim (decLt (length s) (f .first .next)) [
+          | yes m ↦ other-length s at r e (λ p. absurd (omega (arith, p, ap length (one (omega arith)), ap length (from-past s (f .first .next) m))))
+          | no m ↦ not-range s at r e (rw (ap isNumber (third (omega arith) (omega arith)) ∙ sym (h .number .good) ∙ not-true (f .number .good) k) (and-false (eqb (length (fieldsFrom s at)) 3)))
+        ]
+  ]
 
-      module _ (k : not (z .good) ≡ false) (v : Bool) (w : v ≡ noneLeft (fieldsFrom s (z .next))) where
-        three : fieldsFrom s at ≡ between s (x .start) (x .end) ∷ between s (y .start) (y .end) ∷ getD (fieldsFrom s (y .next)) 0 [] ∷ fieldsFrom s (z .next)
-        three = two ∙ ap (λ (l : List Bytes). between s (x .start) (x .end) ∷ between s (y .start) (y .end) ∷ l) (j .first (not-false (z .good) k) .here)
+  module _ (k : not (f .number .good) ≡ false) where
+    good-mask : f .number .good ≡ true
+    good-mask = not-false (f .number .good) k
 
-        pub fourth : (r : RangeFields) → not v ≡ true → r .good ≡ false → ReadsRange s at r
-        fourth r p e = other-length s at r e (λ l. some-left (fieldsFrom s (z .next)) (sym w ∙ not-true v p) (omega (arith, ap length three)))
+    left : length s < f .second .next → ⊥
+    left l = true≢false (sym (ap noneLeft (from-past s (f .second .next) l)) ∙ ap noneLeft (h .number .first good-mask .here))
 
-        pub is-range : not v ≡ false
-            → ReadsRange s at (record { good = true; start = x .start; «start_end» = x .end; end = y .start; «end_end» = y .end; mask = z .value })
-        is-range p =
-            let q = not-false (z .good) k in
-            let all = all-read (fieldsFrom s (z .next)) (sym w ∙ not-false v p) in
-            record {
-              good = sym (rw (eq-eqb (length (fieldsFrom s at)) 3 (omega (arith, ap length three, ap length all)), ap isNumber third ∙ sym (j .good) ∙ q));
-              well = λ e.
-                  record {
-                    startLow = omega (arith, h .first in-start);
-                    startHigh = h .first in-start .high;
-                    start = sym (ap (λ (l : List Bytes). getD l 0 []) three);
-                    endLow = omega (arith, i .first in-end);
-                    endHigh = i .first in-end .high;
-                    end = sym (ap (λ (l : List Bytes). getD l 1 []) three);
-                    mask = j .first q .value ∙ sym (ap valueOf third);
-                  };
-            }
+    in-end : f .first .next ≤ length s
+    in-end = elim (decLt (length s) (f .first .next)) [ yes l ↦ absurd (left (past (f .first .next) (f .second) (h .second) l)) | no l ↦ omega arith ]
+
+    in-start : at ≤ length s
+    in-start = elim (decLt (length s) at) [ yes l ↦ absurd (left (past (f .first .next) (f .second) (h .second) (past at (f .first) (h .first) l))) | no l ↦ omega arith ]
+
+    module _ (v : Bool) (w : v ≡ noneLeft (fieldsFrom s (f .number .next))) where
+      three : fieldsFrom s at ≡
+          between s (f .first .start) (f .first .end) ∷ between s (f .second .start) (f .second .end) ∷ getD (fieldsFrom s (f .second .next)) 0 [] ∷ fieldsFrom s (f .number .next)
+      three =
+          two in-start in-end
+          ∙ ap (λ (l : List Bytes). between s (f .first .start) (f .first .end) ∷ between s (f .second .start) (f .second .end) ∷ l) (h .number .first good-mask .here)
+
+      pub fourth : (r : RangeFields) → not v ≡ true → r .good ≡ false → ReadsRange s at r
+      fourth r p e = other-length s at r e (λ l. some-left (fieldsFrom s (f .number .next)) (sym w ∙ not-true v p) (omega (arith, ap length three)))
+
+      pub is-range : not v ≡ false
+          → ReadsRange s at (record { good = true; start = f .first .start; «start_end» = f .first .end; end = f .second .start; «end_end» = f .second .end; mask = f .number .value })
+      is-range p =
+          let all = all-read (fieldsFrom s (f .number .next)) (sym w ∙ not-false v p) in
+          record {
+            good = sym (rw (eq-eqb (length (fieldsFrom s at)) 3 (omega (arith, ap length three, ap length all)), ap isNumber (third in-start in-end) ∙ sym (h .number .good) ∙ good-mask));
+            well = λ e.
+                record {
+                  startLow = omega (arith, h .first .first in-start);
+                  startHigh = h .first .first in-start .high;
+                  start = sym (ap (λ (l : List Bytes). getD l 0 []) three);
+                  endLow = omega (arith, h .second .first in-end);
+                  endHigh = h .second .first in-end .high;
+                  end = sym (ap (λ (l : List Bytes). getD l 1 []) three);
+                  mask = h .number .first good-mask .value ∙ sym (ap valueOf (third in-start in-end));
+                };
+          }
 
 module _ (s : Bytes) (at : ℕ) (f : RangeFields) (h : ReadsRange s at f) (population : ℕ) (c : RespondersConf) (rows : List ℕ) where
   pub bad-range : (e : Edit) → not (f .good) ≡ true → EditsLine (isRange (fieldsFrom s at)) e population c rows (edited.Refused 1) rows

@@ -26,11 +26,11 @@ ghost use Rattle.draft_lines.specs.Drafts.{ReadsRange, ShowsLine, Begins
 fn lead_line(draft: RespondersConf, rows: &[u64], population: u8, line: &[u8], at: usize) -> Edited
     ensures { λ r. ⌜ EditsLine (numbers 1 (fieldsFrom (now (line .entry)) at)) (SetLeader (numberAt (fieldsFrom (now (line .entry)) at) 0)) population draft (now (rows .entry)) r (now (rows .entry)) ⌝ }
 {
-    let n = reader::number_fields(line, at, 1);
-    if !n.good {
+    let mut a = [0u64; 1];
+    if !reader::numbers(line, at, 1, &mut a) {
         return Edited::Refused(1);
     }
-    draft.set_leader(rows, population, hosts::replica(n.first))
+    draft.set_leader(rows, population, hosts::replica(a[0]))
 }
 
 fn drop_line(
@@ -42,11 +42,11 @@ fn drop_line(
 ) -> Edited
     ensures { λ r. ⌜ EditsLine (numbers 1 (fieldsFrom (now (line .entry)) at)) (IntoFiltered (numberAt (fieldsFrom (now (line .entry)) at) 0)) population draft (now (rows .entry)) r (now (rows .exit)) ⌝ }
 {
-    let n = reader::number_fields(line, at, 1);
-    if !n.good {
+    let mut a = [0u64; 1];
+    if !reader::numbers(line, at, 1, &mut a) {
         return Edited::Refused(1);
     }
-    draft.into_filtered(rows, population, hosts::replica(n.first))
+    draft.into_filtered(rows, population, hosts::replica(a[0]))
 }
 
 fn whole_line(
@@ -58,11 +58,11 @@ fn whole_line(
 ) -> Edited
     ensures { λ r. ⌜ EditsLine (numbers 1 (fieldsFrom (now (line .entry)) at)) (SetFull (numberAt (fieldsFrom (now (line .entry)) at) 0)) population draft (now (rows .entry)) r (now (rows .exit)) ⌝ }
 {
-    let n = reader::number_fields(line, at, 1);
-    if !n.good {
+    let mut a = [0u64; 1];
+    if !reader::numbers(line, at, 1, &mut a) {
         return Edited::Refused(1);
     }
-    draft.set_full(rows, population, n.first)
+    draft.set_full(rows, population, a[0])
 }
 
 fn reset_line(draft: RespondersConf, rows: &[u64], population: u8, line: &[u8], at: usize) -> Edited
@@ -100,15 +100,10 @@ fn no_range() -> RangeFields
 fn range_fields(line: &[u8], at: usize) -> RangeFields
     ensures { λ r. ⌜ ReadsRange (now (line .entry)) at r ⌝ }
 {
-    if fields::ended(line, at) {
-        return no_range();
-    }
-    let start = reader::field_from(line, at);
-    if fields::ended(line, start.next) {
-        return no_range();
-    }
-    let end = reader::field_from(line, start.next);
-    let mask = reader::number_from(line, end.next);
+    let f = reader::fields_number_from(line, at);
+    let start = f.first;
+    let end = f.second;
+    let mask = f.number;
     if !mask.good {
         return no_range();
     }
@@ -229,12 +224,12 @@ fn begin(node: Node, mem: &mut [u64], id: u64, population: u64, quorum: u64) -> 
 pub fn node_line(node: Node, mem: &mut [u64], line: &[u8], at: usize) -> Answered
     ensures { λ r. ⌜ (10305 ≤ length (now (mem .entry)) → BeginsLine (numbers 3 (fieldsFrom (now (line .entry)) at)) (numberAt (fieldsFrom (now (line .entry)) at) 0) (numberAt (fieldsFrom (now (line .entry)) at) 1) (numberAt (fieldsFrom (now (line .entry)) at) 2) node (now (mem .entry)) r (now (mem .exit))) ⌝ }
 {
-    let n = reader::number_fields(line, at, 3);
-    if !n.good {
+    let mut a = [0u64; 3];
+    if !reader::numbers(line, at, 3, &mut a) {
         return refused(node, 1);
     }
     if node::is_ready(node, mem) {
         return refused(node, 2);
     }
-    begin(node, mem, n.first, n.second, n.third)
+    begin(node, mem, a[0], a[1], a[2])
 }

@@ -1,22 +1,24 @@
 -- The fields that are left, by a byte and by a field. Assumes nothing.
 use mathlib.Core.Path.{_≡_, refl, sym, ap, _∙_}
-use mathlib.Core.Bool.{Bool, true, false, _&&_}
+use mathlib.Core.Bool.{Bool, true, false, _&&_, _||_, not}
 use mathlib.Core.List.{List, [], _∷_, _++_, append-assoc, append-nil}
-use Prim.Native.Nat.{ℕ, suc, compare·suc-suc, _+_, _-_, _*_, _^_, _≤_, _<_}
-use native.Mathlib.Nat.{le-refl, le-trans, sub-self}
+use Prim.Native.Nat.{ℕ, zero, suc, compare·suc-suc, _+_, _-_, _*_, _^_, _≤_, _<_}
+use native.Mathlib.Nat.{le-refl, le-trans, sub-self, add-zero}
 use native.Mathlib.Numerals.{add-one}
 use native.Mathlib.Omega.{arith}
-use lib.ListN.{length, getD, drop, drop-of-length-le, length-drop, length-take}
-use lib.Seq.{drop-cons, take-suc, getD-drop}
+use lib.ListN.{length, getD, drop, set, drop-of-length-le, length-drop, length-take, length-set}
+use lib.Seq.{drop-cons, drop-drop, take-suc, getD-drop, getD-set-same, getD-set-other}
 use lib.Dec.{ltb, leb, eqb, lit<}
 use native.Mathlib.Decide.{decLt}
 use borrow.Author.Tests.{lt-ltb, le-ltb, le-leb, lt-leb, eq-eqb, ne-eqb, ltb-true, ltb-false, leb-true, leb-false}
 use Rattle.words.specs.Choice.{if_then_else_}
 use Rattle.fields.specs.declared.Field.{Field}
 use Rattle.fields.specs.declared.NumberAt.{NumberAt}
+use Rattle.fields.specs.declared.NumbersAt.{NumbersAt}
+use Rattle.fields.specs.declared.OptionalAt.{OptionalAt}
 use Rattle.fields.specs.Split.{Bytes, onFirst, fieldsOf, fieldsFrom}
-use Rattle.fields.specs.Number.{isDigit, allDigits, valueFrom, valueOf, hasByte, isNumber, allNumbers, numbers}
-use Rattle.fields.specs.Reads.{noneLeft, between, ReadsField, ReadsNumber, ReadsNumberAt}
+use Rattle.fields.specs.Number.{isDigit, allDigits, valueFrom, valueOf, hasByte, isNumber, allNumbers, numbers, numberAt}
+use Rattle.fields.specs.Reads.{noneLeft, between, FirstField, ReadsField, ReadsNumber, ReadsNumberAt, leading, ReadsNumbersAt, isOptional, ReadsOptionalAt}
 
 differ : true ≡ false → ⊥
 differ h = let z : _≡_ {A = ℕ} 0 1 = cc in omega arith
@@ -412,3 +414,166 @@ pub numbers-none : (fs : List Bytes) → noneLeft fs ≡ numbers 0 fs
 unfolding allNumbers
 numbers-none [] = refl
 numbers-none (f ∷ fs) = sym (simp (sym (none-length (f ∷ fs))))
+
+-- ---- the numbers that are read, one after the other
+
+leading-more : (k : ℕ) (fs : List Bytes) → isNumber (getD fs 0 []) ≡ true → leading (k + 1) fs ≡ leading k (drop 1 fs) + 1
+unfolding leading
+leading-more k fs e = rw (add-one k, add-one (leading k (drop 1 fs)), e)
+
+leading-other : (k : ℕ) (fs : List Bytes) → isNumber (getD fs 0 []) ≡ false → leading (k + 1) fs ≡ 0
+unfolding leading
+leading-other k fs e = rw (add-one k, e)
+
+leading-none : (fs : List Bytes) → leading 0 fs ≡ 0
+unfolding leading
+leading-none fs = refl
+
+leading-by : (k : ℕ) (fs : List Bytes) (b : Bool) → isNumber (getD fs 0 []) ≡ b → leading k (drop 1 fs) ≤ k → leading (k + 1) fs ≤ k + 1
+leading-by k fs true e h = rw (leading-more k fs e) (omega arith)
+leading-by k fs false e h = rw (leading-other k fs e) (omega arith)
+
+pub leading-le : (k : ℕ) (fs : List Bytes) → leading k fs ≤ k
+leading-le zero fs = rw (leading-none fs) (omega arith)
+leading-le (suc k) fs = (rw (add-one k) at (leading-by k fs (isNumber (getD fs 0 [])) refl (leading-le k (drop 1 fs))))
+
+-- i of k numbers are read, and the others begin at next
+pub record Took (s : Bytes) (at k : ℕ) (out₀ out : List ℕ) (next i : ℕ) : Type 0 where
+  pub count : i ≤ k
+  pub left : fieldsFrom s next ≡ drop i (fieldsFrom s at)
+  pub lead : leading (k - i) (fieldsFrom s next) + i ≡ leading k (fieldsFrom s at)
+  pub values : (j : ℕ) → j < i → getD out j 0 ≡ numberAt (fieldsFrom s at) j
+  pub rest : (j : ℕ) → i ≤ j → getD out j 0 ≡ getD out₀ j 0
+  pub size : length out ≡ length out₀
+  pub stands : i ≡ 0 → next ≡ at
+  pub high : 0 < i → next ≤ length s + 1
+
+pub took-none : (s : Bytes) (at k : ℕ) (out : List ℕ) → Took s at k out out at 0
+took-none s at k out =
+    let z : k - 0 ≡ k = omega arith in
+    record { count = omega arith; left = refl; lead = rw (z, add-zero (leading k (fieldsFrom s at))); values = λ j h. absurd (omega arith); rest = λ j h. refl; size = refl; stands = λ _. refl; high = λ h. absurd (omega arith) }
+
+module _ (s : Bytes) (at k : ℕ) (out₀ out : List ℕ) (next i : ℕ) (p : Took s at k out₀ out next i) where
+  pub took-more : (r : NumberAt) → i < k → k ≤ length out₀ → ReadsNumberAt s next r → r .good ≡ true → Took s at k out₀ (set out i (r .value)) (r .next) (i + 1)
+  took-more r h l a g =
+      let z : i < length out = omega (arith, p .size) in
+      let f = a .first g in
+      let e : k - i ≡ k - (i + 1) + 1 = omega arith in
+      let d : drop 1 (fieldsFrom s next) ≡ fieldsFrom s (r .next) = ap (drop 1) (f .here) in
+      let n : leading (k - i) (fieldsFrom s next) ≡ leading (k - (i + 1)) (fieldsFrom s (r .next)) + 1 = rw e (leading-more (k - (i + 1)) (fieldsFrom s next) (sym (a .good) ∙ g) ∙ ap (λ (x : List Bytes). leading (k - (i + 1)) x + 1) d) in
+      let w : r .value ≡ numberAt (fieldsFrom s at) i = f .value ∙ ap (λ (l : List Bytes). valueOf (getD l 0 [])) (p .left) ∙ rw (getD-drop i (fieldsFrom s at) 0 [], add-zero i) in
+      let m : leading (k - (i + 1)) (fieldsFrom s (r .next)) + (i + 1) ≡ leading k (fieldsFrom s at) = omega (arith, n, p .lead) in
+      record {
+        count = omega arith;
+        left = ap (drop 1) (sym (f .here) ∙ p .left) ∙ drop-drop 1 i (fieldsFrom s at);
+        lead = m;
+        values = λ j b. elim (decLt j i) [ yes y ↦ getD-set-other out i j (r .value) 0 (omega arith) ∙ p .values j y | no y ↦ (let q : j ≡ i = omega arith in rw q (getD-set-same out i (r .value) 0 z ∙ w)) ];
+        rest = λ j b. getD-set-other out i j (r .value) 0 (omega arith) ∙ p .rest j (omega arith);
+        size = length-set out i (r .value) ∙ p .size;
+        stands = λ z. absurd (omega arith);
+        high = λ _. f .high;
+      }
+
+  read : (b : Bool) → leading k (fieldsFrom s at) ≡ i → b ≡ eqb i k → ReadsNumbersAt s at k out₀ (record { good = b; next = next }) out
+  read b e g = record { good = rw e g; values = rw e (p .values); rest = rw e (p .rest); size = p .size; left = rw e (p .left); stands = rw e (p .stands); high = rw e (p .high) }
+
+  pub took-bad : (r : NumberAt) → i < k → ReadsNumberAt s next r → r .good ≡ false → ReadsNumbersAt s at k out₀ (record { good = false; next = next }) out
+  took-bad r h a g =
+      let e : k - i ≡ k - (i + 1) + 1 = omega arith in
+      let n : leading (k - i) (fieldsFrom s next) ≡ 0 = rw e (leading-other (k - (i + 1)) (fieldsFrom s next) (sym (a .good) ∙ g)) in
+      let m : leading k (fieldsFrom s at) ≡ i = omega (arith, n, p .lead) in
+      read false m (sym (ne-eqb i k (omega arith)))
+
+  pub took-all : k ≤ i → ReadsNumbersAt s at k out₀ (record { good = true; next = next }) out
+  took-all h =
+      let q : i ≡ k = omega (arith, p .count) in
+      let z : k - i ≡ 0 = omega arith in
+      let n : leading (k - i) (fieldsFrom s next) ≡ 0 = rw z (leading-none (fieldsFrom s next)) in
+      let m : leading k (fieldsFrom s at) ≡ i = omega (arith, n, p .lead) in
+      read true m (sym (eq-eqb i k q))
+
+-- all fields that are left are k numbers
+eqb-suc : (a b : ℕ) → eqb (suc a) (suc b) ≡ eqb a b
+eqb-suc a b = simp (compare·suc-suc)
+
+exact-by : (k : ℕ) (f : Bytes) (fs : List Bytes) (b : Bool) → isNumber f ≡ b → numbers k fs ≡ (eqb (leading k fs) k && noneLeft (drop k fs)) → numbers (suc k) (f ∷ fs) ≡ (eqb (leading (suc k) (f ∷ fs)) (suc k) && noneLeft (drop k fs))
+unfolding leading
+exact-by k f fs true e h = (rw (add-one k) at (numbers-more k f fs e)) ∙ h ∙ rw (e, eqb-suc (leading k fs) k)
+exact-by k f fs false e h = (rw (add-one k) at (numbers-other k (f ∷ fs) e)) ∙ (let z : eqb 0 (suc k) ≡ false = ne-eqb 0 (suc k) (omega arith) in rw (e, z))
+
+pub numbers-exact : (k : ℕ) (fs : List Bytes) → numbers k fs ≡ (eqb (leading k fs) k && noneLeft (drop k fs))
+unfolding leading
+numbers-exact zero fs = sym (numbers-none fs)
+numbers-exact (suc k) [] = let z : eqb 0 (suc k) ≡ false = ne-eqb 0 (suc k) (omega arith) in rw (none-number, z)
+numbers-exact (suc k) (f ∷ fs) = exact-by k f fs (isNumber f) refl (numbers-exact k fs)
+
+-- where there is no number the position stands, so a number is read only after a number
+pub number-before : (s : Bytes) (at : ℕ) (x y : NumberAt) → ReadsNumberAt s at x → ReadsNumberAt s (x .next) y → y .good ≡ true → x .good ≡ true
+number-before s at x y h i g = go (x .good) refl
+  where
+    go : (b : Bool) → x .good ≡ b → b ≡ true
+    go true e = refl
+    go false e =
+        let n : x .next ≡ at = ap (λ (z : NumberAt). z .next) (h .none e) in
+        let w : y .good ≡ x .good = i .good ∙ ap (λ (k : ℕ). isNumber (getD (fieldsFrom s k) 0 [])) n ∙ sym (h .good) in
+        sym e ∙ sym w ∙ g
+
+-- ---- a number or an empty field
+
+has-byte : (f : Bytes) → isNumber f ≡ true → hasByte f ≡ true
+unfolding isNumber
+has-byte f e = both-first (hasByte f) (allDigits f) (both-first (hasByte f && allDigits f) (ltb (valueOf f) (2 ^ 64)) e)
+
+in-line : (s : Bytes) (at : ℕ) → noneLeft (fieldsFrom s at) ≡ false → at ≤ length s
+in-line s at e = ltb-false (length s) at (none-left s at ∙ e)
+
+some-byte : (f : Bytes) → 0 < length f → hasByte f ≡ true
+some-byte [] h = absurd (omega arith)
+some-byte (c ∷ f) h = refl
+
+no-value : valueOf [] ≡ 0
+unfolding valueFrom
+no-value = refl
+
+abbrev noOptional : ℕ → OptionalAt
+noOptional at = record { good = false; count = 0; value = 0; next = at }
+
+no-optional : (s : Bytes) (at : ℕ) (v : OptionalAt) → isOptional (fieldsFrom s at) ≡ false → v ≡ noOptional at → ReadsOptionalAt s at v
+no-optional s at v e k = rw k (record { good = sym e; first = λ z. absurd (differ (sym z)); none = λ _. refl })
+
+module _ (s : Bytes) (at : ℕ) (n : NumberAt) (a : ReadsNumberAt s at n) where
+  pub optional-number : n .good ≡ true → ReadsOptionalAt s at (record { good = true; count = 1; value = n .value; next = n .next })
+  optional-number g =
+      let f = a .first g in
+      let e : isNumber (getD (fieldsFrom s at) 0 []) ≡ true = sym (a .good) ∙ g in
+      let b : hasByte (getD (fieldsFrom s at) 0 []) ≡ true = has-byte (getD (fieldsFrom s at) 0 []) e in
+      let l : noneLeft (fieldsFrom s at) ≡ false = ap noneLeft (f .here) in
+      record { good = sym (rw (l, b, e)); first = λ _. record { count = rw b; value = f .value; low = f .low; high = f .high; here = f .here }; none = λ z. absurd (differ z) }
+
+  pub optional-ended : (t : Bool) (v : OptionalAt) → t ≡ noneLeft (fieldsFrom s at) → t ≡ true → v ≡ noOptional at → ReadsOptionalAt s at v
+  optional-ended t v e h k = let l : noneLeft (fieldsFrom s at) ≡ true = sym e ∙ h in no-optional s at v (rw l) k
+
+  module _ (t : Bool) (f : Field) (e : t ≡ noneLeft (fieldsFrom s at)) (h : t ≡ false) (r : ReadsField s at f) where
+    field : FirstField s at f
+    field = r .first (in-line s at (sym e ∙ h))
+
+    here : fieldsFrom s at ≡ between s at (f .end) ∷ fieldsFrom s (f .next)
+    here = field .here ∙ ap {B = List Bytes} (λ (k : ℕ). between s k (f .end) ∷ fieldsFrom s (f .next)) (field .start)
+
+    first-field : getD (fieldsFrom s at) 0 [] ≡ between s at (f .end)
+    first-field = ap (λ (l : List Bytes). getD l 0 []) here
+
+    pub optional-empty : f .end ≡ at → ReadsOptionalAt s at (record { good = true; count = 0; value = 0; next = f .next })
+    optional-empty z =
+        let b : getD (fieldsFrom s at) 0 [] ≡ [] = first-field ∙ ap (between s at) z ∙ between-none s at in
+        let l : noneLeft (fieldsFrom s at) ≡ false = sym e ∙ h in
+        let w : fieldsFrom s at ≡ getD (fieldsFrom s at) 0 [] ∷ fieldsFrom s (f .next) = here ∙ ap {B = List Bytes} (λ (x : Bytes). x ∷ fieldsFrom s (f .next)) (sym first-field) in
+        record { good = sym (rw (l, b)); first = λ _. record { count = rw b; value = rw b (sym no-value); low = omega (arith, field .next); high = omega (arith, field .next, field .high); here = w }; none = λ y. absurd (differ y) }
+
+    pub optional-other : (v : OptionalAt) → n .good ≡ false → (f .end ≡ at → ⊥) → v ≡ noOptional at → ReadsOptionalAt s at v
+    optional-other v g z k =
+        let l : noneLeft (fieldsFrom s at) ≡ false = sym e ∙ h in
+        let m : 0 < length (between s at (f .end)) = rw (length-between s at (f .end) (field .high)) (omega (arith, field .low)) in
+        let b : hasByte (getD (fieldsFrom s at) 0 []) ≡ true = rw first-field (some-byte (between s at (f .end)) m) in
+        let i : isNumber (getD (fieldsFrom s at) 0 []) ≡ false = sym (a .good) ∙ g in
+        no-optional s at v (rw (l, b, i)) k

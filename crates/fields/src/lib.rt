@@ -7,7 +7,7 @@ ghost use lib.ListN.{length};
 ghost use Rattle.fields.specs.Split.{fieldsFrom};
 ghost use Rattle.fields.specs.Number.{isDigit};
 ghost use Rattle.fields.specs.Kind.{kindOf, wordOf, kindBy};
-ghost use Rattle.fields.specs.Reads.{noneLeft, ReadsField, ReadsNumber, ReadsNumberAt};
+ghost use Rattle.fields.specs.Reads.{noneLeft, ReadsField, ReadsNumber, ReadsNumberAt, ReadsNumbersAt, ReadsOptionalAt};
 
 pub struct Field {
     pub start: usize,
@@ -22,6 +22,20 @@ pub struct Number {
 
 pub struct NumberAt {
     pub good: bool,
+    pub value: u64,
+    pub next: usize,
+}
+
+// Whether as many numbers were read as asked, and where the field after the last one begins.
+pub struct NumbersAt {
+    pub good: bool,
+    pub next: usize,
+}
+
+// A field that is a number, of count 1, or empty, of count 0.
+pub struct OptionalAt {
+    pub good: bool,
+    pub count: u64,
     pub value: u64,
     pub next: usize,
 }
@@ -137,6 +151,65 @@ pub fn number_at(line: &[u8], at: usize) -> NumberAt
         }
     }
     closed(at, i, acc)
+}
+
+// Up to k numbers from a position on, put into `out` up to the first field that is none.
+pub fn numbers_at(line: &[u8], at: usize, k: usize, out: &mut [u64]) -> NumbersAt
+    requires { ⌜ k ≤ length (now out) ⌝ }
+    ensures { λ r. ⌜ ReadsNumbersAt (now (line .entry)) at k (now (out .entry)) r (now (out .exit)) ⌝ }
+{
+    let mut next = at;
+    let mut i = 0;
+    while i < k {
+        let n = number_at(line, next);
+        if n.good {
+            out[i] = n.value;
+            next = n.next;
+            i += 1;
+        } else {
+            return NumbersAt { good: false, next };
+        }
+    }
+    NumbersAt { good: true, next }
+}
+
+fn no_optional(at: usize) -> OptionalAt
+    ensures { λ r. ⌜ r ≡ record { good = false; count = 0; value = 0; next = at } ⌝ }
+{
+    OptionalAt {
+        good: false,
+        count: 0,
+        value: 0,
+        next: at,
+    }
+}
+
+// The number or the empty field that begins at a position. Where there is neither the position stands.
+pub fn optional_at(line: &[u8], at: usize) -> OptionalAt
+    ensures { λ r. ⌜ ReadsOptionalAt (now (line .entry)) at r ⌝ }
+{
+    let n = number_at(line, at);
+    if n.good {
+        return OptionalAt {
+            good: true,
+            count: 1,
+            value: n.value,
+            next: n.next,
+        };
+    }
+    if ended(line, at) {
+        return no_optional(at);
+    }
+    let f = field_at(line, at);
+    if f.end == at {
+        return OptionalAt {
+            good: true,
+            count: 0,
+            value: 0,
+            next: f.next,
+        };
+    }
+    no_optional(at)
 }
 
 // The number that bytes are.

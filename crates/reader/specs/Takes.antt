@@ -1,17 +1,18 @@
 -- Document 01, "The event program": "The line reader keeps its line and its position". Assumes nothing: these are definitions.
-use Prim.Native.Nat.{ℕ, _<_}
+use Prim.Native.Nat.{ℕ}
 use mathlib.Core.Path.{_≡_}
-use mathlib.Core.Bool.{true}
-use mathlib.Core.List.{List, [], _∷_}
-use lib.ListN.{getD}
+use mathlib.Core.Bool.{Bool}
+use mathlib.Core.List.{List}
 use denote.Ref.{now}
 use Rattle.fields.specs.declared.Field.{Field}
 use Rattle.fields.specs.declared.NumberAt.{NumberAt}
-use Rattle.fields.specs.Split.{Bytes, fieldsFrom}
-use Rattle.fields.specs.Number.{numbers, numberAt}
-use Rattle.fields.specs.Reads.{ReadsField, ReadsNumberAt}
+use Rattle.fields.specs.declared.OptionalAt.{OptionalAt}
+use Rattle.fields.specs.Split.{Bytes}
+use Rattle.fields.specs.Reads.{ReadsField, ReadsNumberAt, ReadsNumbersAt, ReadsOptionalAt}
 use Rattle.reader.specs.declared.LineReader.{LineReader}
-use Rattle.reader.specs.declared.NumberFields.{NumberFields}
+use Rattle.reader.specs.declared.FieldsNumber.{FieldsNumber}
+use Rattle.reader.specs.declared.NumbersField.{NumbersField}
+use Rattle.reader.specs.declared.RequestFields.{RequestFields}
 
 -- the same line, at another position
 abbrev pub movedTo : LineReader → ℕ → LineReader
@@ -26,10 +27,30 @@ pub record TakesNumber (r : LineReader) (n : NumberAt) (r′ : LineReader) : Typ
   pub reads : ReadsNumberAt (now (r .line)) (r .at) n
   pub moves : r′ ≡ movedTo r (n .next)
 
--- exactly k fields are left, each a number, and which
-abbrev pub valuesOf : NumberFields → List ℕ
-valuesOf r = r .first ∷ r .second ∷ r .third ∷ r .fourth ∷ r .fifth ∷ r .sixth ∷ []
+pub record TakesOptional (r : LineReader) (n : OptionalAt) (r′ : LineReader) : Type 0 where
+  pub reads : ReadsOptionalAt (now (r .line)) (r .at) n
+  pub moves : r′ ≡ movedTo r (n .next)
 
-pub record ReadsAs (s : Bytes) (at k : ℕ) (r : NumberFields) : Type 0 where
-  pub good : r .good ≡ numbers k (fieldsFrom s at)
-  pub values : r .good ≡ true → (i : ℕ) → i < k → getD (valuesOf r) i 0 ≡ numberAt (fieldsFrom s at) i
+-- the numbers that are read at the reader's position, and the reader then: at the field after the last of them
+pub record TakesNumbers (r : LineReader) (k : ℕ) (out : List ℕ) (good : Bool) (r′ : LineReader) (out′ : List ℕ) : Type 0 where
+  pub reads : ReadsNumbersAt (now (r .line)) (r .at) k out (record { good = good; next = r′ .at }) out′
+  pub moves : r′ ≡ movedTo r (r′ .at)
+
+-- ---- several fields, one after the other
+
+pub record ReadsFieldsNumber (s : Bytes) (at : ℕ) (r : FieldsNumber) : Type 0 where
+  pub first : ReadsField s at (r .first)
+  pub second : ReadsField s (r .first .next) (r .second)
+  pub number : ReadsNumberAt s (r .second .next) (r .number)
+
+pub record ReadsNumbersField (s : Bytes) (at : ℕ) (r : NumbersField) : Type 0 where
+  pub first : ReadsNumberAt s at (r .first)
+  pub second : ReadsNumberAt s (r .first .next) (r .second)
+  pub third : ReadsNumberAt s (r .second .next) (r .third)
+  pub field : ReadsField s (r .third .next) (r .field)
+
+pub record ReadsRequest (s : Bytes) (at : ℕ) (r : RequestFields) : Type 0 where
+  pub client : ReadsNumberAt s at (r .client)
+  pub request : ReadsNumberAt s (r .client .next) (r .request)
+  pub key : ReadsField s (r .request .next) (r .key)
+  pub value : ReadsOptionalAt s (r .key .next) (r .value)

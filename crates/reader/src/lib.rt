@@ -1,26 +1,41 @@
-// A reader that keeps its line and its position. Each function over it is thin, with the work in `fields`; those with plain parameters stand above it.
+// A reader that keeps its line and its position. Each function over it is thin, with the work in `fields`; those with plain
+// parameters stand above it, and read all fields that they are asked for through one reader.
 use fields::Field;
 use fields::NumberAt;
+use fields::NumbersAt;
+use fields::OptionalAt;
 ghost use mathlib.Core.Path.{_≡_};
 ghost use Prim.Native.Nat.{_≤_};
 ghost use lib.ListN.{length};
-ghost use Rattle.fields.specs.Reads.{ReadsField, ReadsNumberAt, ReadsNumbers};
-ghost use Rattle.reader.specs.Takes.{TakesField, TakesNumber, ReadsAs};
+ghost use Rattle.fields.specs.Reads.{ReadsField, ReadsNumbersAt, ReadsNumbers};
+ghost use Rattle.reader.specs.Takes.{TakesField, TakesNumber, TakesNumbers, TakesOptional, ReadsFieldsNumber, ReadsNumbersField, ReadsRequest};
 
 pub struct LineReader<'a> {
     pub line: &'a [u8],
     pub at: usize,
 }
 
-// The fields of a line as numbers: whether they are as many as asked, and which.
-pub struct NumberFields {
-    pub good: bool,
-    pub first: u64,
-    pub second: u64,
-    pub third: u64,
-    pub fourth: u64,
-    pub fifth: u64,
-    pub sixth: u64,
+// Two fields and a number, one after the other.
+pub struct FieldsNumber {
+    pub first: Field,
+    pub second: Field,
+    pub number: NumberAt,
+}
+
+// Three numbers and a field, one after the other.
+pub struct NumbersField {
+    pub first: NumberAt,
+    pub second: NumberAt,
+    pub third: NumberAt,
+    pub field: Field,
+}
+
+// Two numbers, a field, and a number or an empty field, one after the other.
+pub struct RequestFields {
+    pub client: NumberAt,
+    pub request: NumberAt,
+    pub key: Field,
+    pub value: OptionalAt,
 }
 
 pub fn new<'a>(line: &'a [u8], at: usize) -> LineReader<'a>
@@ -38,13 +53,6 @@ pub fn next_field<'s, 'a>(r: &'s mut LineReader<'a>) -> Field
     f
 }
 
-pub fn field_from(line: &[u8], at: usize) -> Field
-    ensures { λ r. ⌜ ReadsField (now (line .entry)) at r ⌝ }
-{
-    let mut r = LineReader { line, at };
-    next_field(&mut r)
-}
-
 // The first field that is left, if it is a number. The reader then moves on to the one after it.
 pub fn next_number<'s, 'a>(r: &'s mut LineReader<'a>) -> NumberAt
     ensures { λ n. ⌜ TakesNumber (now (r .entry)) n (now (r .exit)) ⌝ }
@@ -54,11 +62,39 @@ pub fn next_number<'s, 'a>(r: &'s mut LineReader<'a>) -> NumberAt
     n
 }
 
-pub fn number_from(line: &[u8], at: usize) -> NumberAt
-    ensures { λ r. ⌜ ReadsNumberAt (now (line .entry)) at r ⌝ }
+// The same for a field that is a number or empty.
+pub fn next_optional<'s, 'a>(r: &'s mut LineReader<'a>) -> OptionalAt
+    ensures { λ n. ⌜ TakesOptional (now (r .entry)) n (now (r .exit)) ⌝ }
+{
+    let n = fields::optional_at(r.line, r.at);
+    r.at = n.next;
+    n
+}
+
+// The first k fields that are left, if they are numbers. The reader moves on past those that are, up to the first that is none.
+pub fn next_numbers<'s, 'a>(r: &'s mut LineReader<'a>, k: usize, out: &mut [u64]) -> bool
+    requires { ⌜ k ≤ length (now out) ⌝ }
+    ensures { λ n. ⌜ TakesNumbers (now (r .entry)) k (now (out .entry)) n (now (r .exit)) (now (out .exit)) ⌝ }
+{
+    let n = fields::numbers_at(r.line, r.at, k, out);
+    r.at = n.next;
+    n.good
+}
+
+pub fn field_from(line: &[u8], at: usize) -> Field
+    ensures { λ r. ⌜ ReadsField (now (line .entry)) at r ⌝ }
 {
     let mut r = LineReader { line, at };
-    next_number(&mut r)
+    next_field(&mut r)
+}
+
+pub fn numbers_from(line: &[u8], at: usize, k: usize, out: &mut [u64]) -> NumbersAt
+    requires { ⌜ k ≤ length (now out) ⌝ }
+    ensures { λ r. ⌜ ReadsNumbersAt (now (line .entry)) at k (now (out .entry)) r (now (out .exit)) ⌝ }
+{
+    let mut r = LineReader { line, at };
+    let good = next_numbers(&mut r, k, out);
+    NumbersAt { good, next: r.at }
 }
 
 // The fields from a position on: whether they are k numbers, and which.
@@ -66,35 +102,55 @@ pub fn numbers(line: &[u8], at: usize, k: usize, out: &mut [u64]) -> bool
     requires { ⌜ k ≤ length (now out) ⌝ }
     ensures { λ r. ⌜ ReadsNumbers (now (line .entry)) at k (now (out .entry)) r (now (out .exit)) ⌝ }
 {
-    let mut next = at;
-    let mut i = 0;
-    while i < k {
-        let r = number_from(line, next);
-        if r.good {
-            out[i] = r.value;
-            next = r.next;
-            i += 1;
-        } else {
-            return false;
-        }
+    let n = numbers_from(line, at, k, out);
+    if !n.good {
+        return false;
     }
-    fields::ended(line, next)
+    fields::ended(line, n.next)
 }
 
-// The same for at most six numbers.
-pub fn number_fields(line: &[u8], at: usize, k: usize) -> NumberFields
-    requires { ⌜ k ≤ 6 ⌝ }
-    ensures { λ r. ⌜ ReadsAs (now (line .entry)) at k r ⌝ }
+pub fn fields_number_from(line: &[u8], at: usize) -> FieldsNumber
+    ensures { λ r. ⌜ ReadsFieldsNumber (now (line .entry)) at r ⌝ }
 {
-    let mut a = [0u64; 6];
-    let good = numbers(line, at, k, &mut a);
-    NumberFields {
-        good,
-        first: a[0],
-        second: a[1],
-        third: a[2],
-        fourth: a[3],
-        fifth: a[4],
-        sixth: a[5],
+    let mut r = LineReader { line, at };
+    let first = next_field(&mut r);
+    let second = next_field(&mut r);
+    let number = next_number(&mut r);
+    FieldsNumber {
+        first,
+        second,
+        number,
+    }
+}
+
+pub fn numbers_field_from(line: &[u8], at: usize) -> NumbersField
+    ensures { λ r. ⌜ ReadsNumbersField (now (line .entry)) at r ⌝ }
+{
+    let mut r = LineReader { line, at };
+    let first = next_number(&mut r);
+    let second = next_number(&mut r);
+    let third = next_number(&mut r);
+    let field = next_field(&mut r);
+    NumbersField {
+        first,
+        second,
+        third,
+        field,
+    }
+}
+
+pub fn request_from(line: &[u8], at: usize) -> RequestFields
+    ensures { λ r. ⌜ ReadsRequest (now (line .entry)) at r ⌝ }
+{
+    let mut r = LineReader { line, at };
+    let client = next_number(&mut r);
+    let request = next_number(&mut r);
+    let key = next_field(&mut r);
+    let value = next_optional(&mut r);
+    RequestFields {
+        client,
+        request,
+        key,
+        value,
     }
 }

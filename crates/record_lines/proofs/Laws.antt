@@ -1,4 +1,4 @@
--- A VALUE, a group, the rows of the groups and the record line, with premises as the code has them. Assumes nothing.
+-- A group, the rows of the groups and the record line, with premises as the code has them. Assumes nothing.
 use mathlib.Core.Path.{_≡_, refl, sym, ap, _∙_}
 use mathlib.Core.Bool.{Bool, true, false, _&&_, _||_, not, true≢false, and-false}
 use mathlib.Core.List.{List, [], _∷_, _++_, append-assoc, append-nil}
@@ -7,20 +7,26 @@ use Prim.Native.Nat.{ℕ, _+_, _-_, _*_, _/_, _^_, _≤_, _<_}
 use native.Mathlib.Nat.{add-zero, zero-add, sub-zero}
 use native.Mathlib.Decide.{decLt}
 use native.Mathlib.Omega.{arith}
-use lib.Dec.{ltb, leb}
+use lib.Dec.{leb, eqb}
 use lib.ListN.{length, getD, take, drop}
 use lib.Seq.{getD-take, length-take-le}
-use borrow.Author.Tests.{le-leb, ltb-false, not-true, not-false}
+use borrow.Author.Tests.{le-leb, eqb-true, not-true, not-false}
+use Rattle.words.specs.Choice.{if_then_else_}
 use Rattle.words.specs.Part.{part}
 use Rattle.words.specs.Tab.{tab, tab-ext, tab-snoc}
 use Rattle.words.specs.Writes.{writes, Agrees, writes-other, writes-same, length-writes}
 use Rattle.fields.specs.declared.Field.{Field}
 use Rattle.fields.specs.declared.NumberAt.{NumberAt}
+use Rattle.fields.specs.declared.NumbersAt.{NumbersAt}
+use Rattle.fields.specs.declared.OptionalAt.{OptionalAt}
 use Rattle.fields.specs.Split.{Bytes, fieldsFrom}
-use Rattle.fields.specs.Number.{allDigits, valueOf, hasByte, isNumber, numberAt}
-use Rattle.fields.specs.Reads.{noneLeft, between, FirstField, ReadsField, ReadsNumberAt}
-use Rattle.fields.proofs.Laws.{both-first, from-past, none-left, some-left, between-none, length-between}
-use Rattle.bodega.specs.Replica.{Request, Call, Record}
+use Rattle.fields.specs.Number.{valueOf, hasByte, isNumber, numberAt}
+use Rattle.fields.specs.Reads.{noneLeft, between, ReadsField, ReadsNumberAt, leading, ReadsNumbersAt, isOptional, ReadsOptionalAt}
+use Rattle.fields.proofs.Laws.{from-past, some-left, none-number, number-before}
+use Rattle.reader.specs.declared.RequestFields.{RequestFields}
+use Rattle.reader.specs.Takes.{ReadsRequest}
+use Rattle.bodega.specs.Replica.{Request, Command, Put, Get, Call, Record}
+use Rattle.batch.specs.Batch.{commandAt}
 use Rattle.requests.specs.Given.{givenFrom, givenAt, given}
 use Rattle.bodega.specs.Answers.{Answers}
 use Rattle.node.specs.declared.Node.{Node}
@@ -28,66 +34,9 @@ use Rattle.node.specs.declared.Answered.{Answered}
 use Rattle.node.specs.View.{view, ready, givenOf}
 use Rattle.hosts.specs.Line.{areGroups, commandOf, batchOf, isRecord}
 use Rattle.hosts.specs.Acts.{AnswersLine}
-use Rattle.record_lines.specs.declared.Value.{Value}
 use Rattle.record_lines.specs.declared.Group.{Group}
 use Rattle.record_lines.specs.declared.Groups.{Groups}
-use Rattle.record_lines.specs.Groups.{isValue, ReadsValue, requestIn, rowOf, ReadsGroup, ReadsGroups}
-
--- ---- a VALUE
-
-has-byte : (f : Bytes) → isNumber f ≡ true → hasByte f ≡ true
-unfolding isNumber
-has-byte f e = both-first (hasByte f) (allDigits f) (both-first (hasByte f && allDigits f) (ltb (valueOf f) (2 ^ 64)) e)
-
-in-line : (s : Bytes) (at : ℕ) → noneLeft (fieldsFrom s at) ≡ false → at ≤ length s
-in-line s at e = ltb-false (length s) at (none-left s at ∙ e)
-
-some-byte : (f : Bytes) → 0 < length f → hasByte f ≡ true
-some-byte [] h = absurd (omega arith)
-some-byte (c ∷ f) h = refl
-
-abbrev noValue : ℕ → Value
-noValue at = record { good = false; kind = 0; value = 0; next = at }
-
-no-value : (s : Bytes) (at : ℕ) (v : Value) → isValue (fieldsFrom s at) ≡ false → v ≡ noValue at → ReadsValue s at v
-no-value s at v e k = rw k (record { good = sym e; first = λ z. absurd (true≢false (sym z)) })
-
-module _ (s : Bytes) (at : ℕ) (n : NumberAt) (a : ReadsNumberAt s at n) where
-  pub value-number : n .good ≡ true → ReadsValue s at (record { good = true; kind = 1; value = n .value; next = n .next })
-  value-number g =
-      let f = a .first g in
-      let e : isNumber (getD (fieldsFrom s at) 0 []) ≡ true = sym (a .good) ∙ g in
-      let b : hasByte (getD (fieldsFrom s at) 0 []) ≡ true = has-byte (getD (fieldsFrom s at) 0 []) e in
-      let l : noneLeft (fieldsFrom s at) ≡ false = ap noneLeft (f .here) in
-      record { good = sym (rw (l, b, e)); first = λ _. record { command = rw (b, f .value); low = f .low; here = f .here } }
-
-  pub value-ended : (t : Bool) (v : Value) → t ≡ noneLeft (fieldsFrom s at) → t ≡ true → v ≡ noValue at → ReadsValue s at v
-  value-ended t v e h k = let l : noneLeft (fieldsFrom s at) ≡ true = sym e ∙ h in no-value s at v (rw l) k
-
-  module _ (t : Bool) (f : Field) (e : t ≡ noneLeft (fieldsFrom s at)) (h : t ≡ false) (r : ReadsField s at f) where
-    field : FirstField s at f
-    field = r .first (in-line s at (sym e ∙ h))
-
-    here : fieldsFrom s at ≡ between s at (f .end) ∷ fieldsFrom s (f .next)
-    here = field .here ∙ ap {B = List Bytes} (λ (k : ℕ). between s k (f .end) ∷ fieldsFrom s (f .next)) (field .start)
-
-    first-field : getD (fieldsFrom s at) 0 [] ≡ between s at (f .end)
-    first-field = ap (λ (l : List Bytes). getD l 0 []) here
-
-    pub value-empty : f .end ≡ at → ReadsValue s at (record { good = true; kind = 0; value = 0; next = f .next })
-    value-empty z =
-        let b : getD (fieldsFrom s at) 0 [] ≡ [] = first-field ∙ ap (between s at) z ∙ between-none s at in
-        let l : noneLeft (fieldsFrom s at) ≡ false = sym e ∙ h in
-        let w : fieldsFrom s at ≡ getD (fieldsFrom s at) 0 [] ∷ fieldsFrom s (f .next) = here ∙ ap {B = List Bytes} (λ (x : Bytes). x ∷ fieldsFrom s (f .next)) (sym first-field) in
-        record { good = sym (rw (l, b)); first = λ _. record { command = rw b; low = omega (arith, field .next); here = w } }
-
-    pub value-other : (v : Value) → n .good ≡ false → (f .end ≡ at → ⊥) → v ≡ noValue at → ReadsValue s at v
-    value-other v g z k =
-        let l : noneLeft (fieldsFrom s at) ≡ false = sym e ∙ h in
-        let m : 0 < length (between s at (f .end)) = rw (length-between s at (f .end) (field .high)) (omega (arith, field .low)) in
-        let b : hasByte (getD (fieldsFrom s at) 0 []) ≡ true = rw first-field (some-byte (between s at (f .end)) m) in
-        let i : isNumber (getD (fieldsFrom s at) 0 []) ≡ false = sym (a .good) ∙ g in
-        no-value s at v (rw (l, b, i)) k
+use Rattle.record_lines.specs.Groups.{requestIn, rowOf, ReadsGroup, ReadsGroups}
 
 -- ---- a group
 
@@ -113,7 +62,7 @@ no-request a (b ∷ []) e = refl
 no-request a (b ∷ c ∷ []) e = refl
 no-request a (b ∷ c ∷ d ∷ fs) e = rw (e, and-false)
 
-no-command : (a b c : Bytes) (fs : List Bytes) → isValue fs ≡ false → areGroups (a ∷ b ∷ c ∷ fs) ≡ false
+no-command : (a b c : Bytes) (fs : List Bytes) → isOptional fs ≡ false → areGroups (a ∷ b ∷ c ∷ fs) ≡ false
 unfolding areGroups
 no-command a b c [] e = refl
 no-command a b c (d ∷ fs) e = rw (e, and-false)
@@ -130,6 +79,11 @@ one-request : (a b c d : Bytes) (fs : List Bytes) → batchOf (a ∷ b ∷ c ∷
 unfolding batchOf
 one-request a b c d fs = refl
 
+-- "empty VALUE meaning a Get"
+command-is : (b : Bool) (c v w : ℕ) → c ≡ (if b then 1 else 0) → v ≡ w → commandAt c v ≡ (if b then Put w else Get)
+command-is true c v w e f = rw (e, f)
+command-is false c v w e f = rw (e)
+
 abbrev noGroup : ℕ → Group
 noGroup at = record { good = false; client = 0; request = 0; kind = 0; value = 0; start = 0; length = 0; next = at }
 
@@ -137,7 +91,7 @@ no-group : (s : Bytes) (at : ℕ) (g : Group) → (at ≤ length s → areGroups
 no-group s at g e k = rw k (record { first = λ z. absurd (true≢false (sym z)); bad = λ h _. e h })
 
 module _ (s : Bytes) (at : ℕ) (client : NumberAt) (a : ReadsNumberAt s at client) where
-  pub group-client : (g : Group) → not (client .good) ≡ true → g ≡ noGroup at → ReadsGroup s at g
+  group-client : (g : Group) → not (client .good) ≡ true → g ≡ noGroup at → ReadsGroup s at g
   group-client g e k =
       no-group s at g (λ h. no-client (fieldsFrom s at) (ap noneLeft (some-left s at h)) (sym (a .good) ∙ not-true (client .good) e)) k
 
@@ -145,13 +99,13 @@ module _ (s : Bytes) (at : ℕ) (client : NumberAt) (a : ReadsNumberAt s at clie
     is-client : client .good ≡ true
     is-client = not-false (client .good) e
 
-    pub group-request : (g : Group) → not (request .good) ≡ true → g ≡ noGroup at → ReadsGroup s at g
+    group-request : (g : Group) → not (request .good) ≡ true → g ≡ noGroup at → ReadsGroup s at g
     group-request g f k =
         let h : areGroups (fieldsFrom s at) ≡ false =
         rw (a .first is-client .here) (no-request (getD (fieldsFrom s at) 0 []) (fieldsFrom s (client .next)) (sym (b .good) ∙ not-true (request .good) f)) in
         no-group s at g (λ _. h) k
 
-    module _ (f : not (request .good) ≡ false) (key : Field) (c : ReadsField s (request .next) key) (value : Value) (d : ReadsValue s (key .next) value) where
+    module _ (f : not (request .good) ≡ false) (key : Field) (c : ReadsField s (request .next) key) (value : OptionalAt) (d : ReadsOptionalAt s (key .next) value) where
       is-request : request .good ≡ true
       is-request = not-false (request .good) f
 
@@ -162,9 +116,9 @@ module _ (s : Bytes) (at : ℕ) (client : NumberAt) (a : ReadsNumberAt s at clie
           → fieldsFrom s at ≡ getD (fieldsFrom s at) 0 [] ∷ getD (fieldsFrom s (client .next)) 0 [] ∷ between s (key .start) (key .end) ∷ fieldsFrom s (key .next)
       three h = two ∙ ap {B = List Bytes} (λ l. getD (fieldsFrom s at) 0 [] ∷ getD (fieldsFrom s (client .next)) 0 [] ∷ l) (c .first h .here)
 
-      pub group-value : (g : Group) → not (value .good) ≡ true → g ≡ noGroup at → ReadsGroup s at g
+      group-value : (g : Group) → not (value .good) ≡ true → g ≡ noGroup at → ReadsGroup s at g
       group-value g v k =
-          let w : isValue (fieldsFrom s (key .next)) ≡ false = sym (d .good) ∙ not-true (value .good) v in
+          let w : isOptional (fieldsFrom s (key .next)) ≡ false = sym (d .good) ∙ not-true (value .good) v in
           let e : areGroups (fieldsFrom s at) ≡ false =
           elim (decLt (length s) (request .next)) [
             | yes h ↦ ap areGroups (two ∙ ap {B = List Bytes} (λ l. getD (fieldsFrom s at) 0 [] ∷ getD (fieldsFrom s (client .next)) 0 [] ∷ l) (c .past h .none)) ∙ two-alone (getD (fieldsFrom s at) 0 []) (getD (fieldsFrom s (client .next)) 0 [])
@@ -193,10 +147,10 @@ module _ (s : Bytes) (at : ℕ) (client : NumberAt) (a : ReadsNumberAt s at clie
             three key-in
             ∙ ap {B = List Bytes} (λ l. getD (fieldsFrom s at) 0 [] ∷ getD (fieldsFrom s (client .next)) 0 [] ∷ between s (key .start) (key .end) ∷ l) (d .first is-value .here)
 
-        pub group-whole : ReadsGroup s at (record { good = true; client = client .value; request = request .value; kind = value .kind; value = value .value; start = key .start; length = key .end - key .start; next = value .next })
+        group-whole : ReadsGroup s at (record { good = true; client = client .value; request = request .value; kind = value .count; value = value .value; start = key .start; length = key .end - key .start; next = value .next })
         unfolding part
         group-whole =
-            let n : isValue (fieldsFrom s (key .next)) ≡ true = sym (d .good) ∙ is-value in
+            let n : isOptional (fieldsFrom s (key .next)) ≡ true = sym (d .good) ∙ is-value in
             let x = a .first is-client in
             let y = b .first is-request in
             let z = c .first key-in in
@@ -214,10 +168,30 @@ module _ (s : Bytes) (at : ℕ) (client : NumberAt) (a : ReadsNumberAt s at clie
                     batch =
                         ap batchOf four
                         ∙ one-request (getD (fieldsFrom s at) 0 []) (getD (fieldsFrom s (client .next)) 0 []) (between s (key .start) (key .end)) (getD (fieldsFrom s (key .next)) 0 []) (fieldsFrom s (value .next))
-                        ∙ rw (x .value, y .value, w .command);
+                        ∙ rw (x .value, y .value, command-is (hasByte (getD (fieldsFrom s (key .next)) 0 [])) (value .count) (value .value) (valueOf (getD (fieldsFrom s (key .next)) 0 [])) (w .count) (w .value));
                   };
               bad = λ _ z. absurd (true≢false z);
             }
+
+-- the two numbers of a group are one by one, so the second tells of both
+module _ (s : Bytes) (at : ℕ) (f : RequestFields) (h : ReadsRequest s at f) where
+  pub no-numbers : (g : Group) → not (f .request .good) ≡ true → g ≡ noGroup at → ReadsGroup s at g
+  no-numbers g e k = by-client (not (f .client .good)) refl
+    where
+      by-client : (b : Bool) → not (f .client .good) ≡ b → ReadsGroup s at g
+      by-client true d = group-client s at (f .client) (h .client) g d k
+      by-client false d = group-request s at (f .client) (h .client) d (f .request) (h .request) g e k
+
+  module _ (e : not (f .request .good) ≡ false) where
+    not-client : not (f .client .good) ≡ false
+    not-client = ap not (number-before s at (f .client) (f .request) (h .client) (h .request) (not-false (f .request .good) e))
+
+    pub no-optional : (g : Group) → not (f .value .good) ≡ true → g ≡ noGroup at → ReadsGroup s at g
+    no-optional g v k = group-value s at (f .client) (h .client) not-client (f .request) (h .request) e (f .key) (h .key) (f .value) (h .value) g v k
+
+    pub whole-group : not (f .value .good) ≡ false
+        → ReadsGroup s at (record { good = true; client = f .client .value; request = f .request .value; kind = f .value .count; value = f .value .value; start = f .key .start; length = f .key .end - f .key .start; next = f .value .next })
+    whole-group v = group-whole s at (f .client) (h .client) not-client (f .request) (h .request) e (f .key) (h .key) (f .value) (h .value) v
 
 -- ---- the rows of the groups
 
@@ -298,51 +272,52 @@ module _ (s : Bytes) (at : ℕ) (rows₀ rows : List ℕ) (next n : ℕ) (p : Gr
 
 -- ---- the line
 
--- not well-formed: the first field is no number, the second one, the others are no groups
-no-slot : (fs : List Bytes) → isNumber (getD fs 0 []) ≡ false → isRecord fs ≡ false
-no-slot fs e = rw (e, and-false (leb 2 (length fs)))
-
-no-ballot : (a : Bytes) (fs : List Bytes) → isNumber (getD fs 0 []) ≡ false → isRecord (a ∷ fs) ≡ false
-no-ballot a fs e = rw (e, and-false (leb 2 (length (a ∷ fs)) && isNumber a))
-
-two-numbers : (a b : Bytes) (fs : List Bytes) → isNumber a ≡ true → isNumber b ≡ true → isRecord (a ∷ b ∷ fs) ≡ areGroups fs
-two-numbers a b fs e f = rw (le-leb 2 (length (a ∷ b ∷ fs)) (omega arith), e, f)
+-- two numbers, and groups after them
+record-by : (fs : List Bytes) → isRecord fs ≡ (eqb (leading 2 fs) 2 && areGroups (drop 2 fs))
+unfolding leading
+record-by [] = rw none-number
+record-by (a ∷ []) = by-one (isNumber a) refl
+  where
+    by-one : (x : Bool) → isNumber a ≡ x → isRecord (a ∷ []) ≡ (eqb (leading 2 (a ∷ [])) 2 && areGroups [])
+    by-one true e = rw (e, none-number)
+    by-one false e = rw e
+record-by (a ∷ b ∷ fs) = by-two (isNumber a) (isNumber b) refl refl
+  where
+    by-two : (x y : Bool) → isNumber a ≡ x → isNumber b ≡ y → isRecord (a ∷ b ∷ fs) ≡ (eqb (leading 2 (a ∷ b ∷ fs)) 2 && areGroups fs)
+    by-two true true e f = rw (le-leb 2 (length (a ∷ b ∷ fs)) (omega arith), e, f)
+    by-two true false e f = rw (le-leb 2 (length (a ∷ b ∷ fs)) (omega arith), e, f)
+    by-two false y e f = rw (le-leb 2 (length (a ∷ b ∷ fs)) (omega arith), e)
 
 module _ (node : Node) (mem area : List ℕ) where
   refused : (c : Call) (good : Bool) (r : Answered) → good ≡ false → r ≡ record { number = 1; count = 0; node = node } → AnswersLine good c node mem area r mem area
   refused c good r e k = rw k (record { bad = λ _. record { number = refl; count = refl; sameNode = refl; sameMem = refl; sameArea = refl }; well = λ z. absurd (true≢false (sym z ∙ e)) })
 
-  module _ (s : Bytes) (at : ℕ) (slot : NumberAt) (a : ReadsNumberAt s at slot) where
-    pub line-slot : (c : Call) (r : Answered) → not (slot .good) ≡ true → r ≡ record { number = 1; count = 0; node = node } → AnswersLine (isRecord (fieldsFrom s at)) c node mem area r mem area
-    line-slot c r e k = refused c (isRecord (fieldsFrom s at)) r (no-slot (fieldsFrom s at) (sym (a .good) ∙ not-true (slot .good) e)) k
+  module _ (s : Bytes) (at : ℕ) (out xs : List ℕ) (n : NumbersAt) (a : ReadsNumbersAt s at 2 out n xs) where
+    pub line-numbers : (c : Call) (r : Answered) → not (n .good) ≡ true → r ≡ record { number = 1; count = 0; node = node } → AnswersLine (isRecord (fieldsFrom s at)) c node mem area r mem area
+    line-numbers c r e k =
+        let g : eqb (leading 2 (fieldsFrom s at)) 2 ≡ false = sym (a .good) ∙ not-true (n .good) e in
+        refused c (isRecord (fieldsFrom s at)) r (record-by (fieldsFrom s at) ∙ rw g) k
 
-    module _ (e : not (slot .good) ≡ false) (ballot : NumberAt) (b : ReadsNumberAt s (slot .next) ballot) where
-      is-slot : slot .good ≡ true
-      is-slot = not-false (slot .good) e
+    module _ (e : not (n .good) ≡ false) (batch : Groups) (rows : List ℕ) (d : ReadsGroups s (n .next) batch rows) where
+      numbers : eqb (leading 2 (fieldsFrom s at)) 2 ≡ true
+      numbers = sym (a .good) ∙ not-false (n .good) e
 
-      pub line-ballot : (c : Call) (r : Answered) → not (ballot .good) ≡ true → r ≡ record { number = 1; count = 0; node = node } → AnswersLine (isRecord (fieldsFrom s at)) c node mem area r mem area
-      line-ballot c r f k =
-          let n : isRecord (fieldsFrom s at) ≡ false = ap isRecord (a .first is-slot .here) ∙ no-ballot (getD (fieldsFrom s at) 0 []) (fieldsFrom s (slot .next)) (sym (b .good) ∙ not-true (ballot .good) f) in
-          refused c (isRecord (fieldsFrom s at)) r n k
+      both : leading 2 (fieldsFrom s at) ≡ 2
+      both = eqb-true (leading 2 (fieldsFrom s at)) 2 numbers
 
-      module _ (f : not (ballot .good) ≡ false) (batch : Groups) (rows : List ℕ) (d : ReadsGroups s (ballot .next) batch rows) where
-        is-ballot : ballot .good ≡ true
-        is-ballot = not-false (ballot .good) f
+      after : fieldsFrom s (n .next) ≡ drop 2 (fieldsFrom s at)
+      after = a .left ∙ ap (λ (i : ℕ). drop i (fieldsFrom s at)) both
 
-        both : fieldsFrom s at ≡ getD (fieldsFrom s at) 0 [] ∷ getD (fieldsFrom s (slot .next)) 0 [] ∷ fieldsFrom s (ballot .next)
-        both = a .first is-slot .here ∙ ap {B = List Bytes} (λ l. getD (fieldsFrom s at) 0 [] ∷ l) (b .first is-ballot .here)
+      by-groups : isRecord (fieldsFrom s at) ≡ areGroups (fieldsFrom s (n .next))
+      by-groups = record-by (fieldsFrom s at) ∙ rw (numbers, after)
 
-        by-groups : isRecord (fieldsFrom s at) ≡ areGroups (fieldsFrom s (ballot .next))
-        by-groups = ap isRecord both ∙ two-numbers (getD (fieldsFrom s at) 0 []) (getD (fieldsFrom s (slot .next)) 0 []) (fieldsFrom s (ballot .next)) (sym (a .good) ∙ is-slot) (sym (b .good) ∙ is-ballot)
+      pub line-groups : (c : Call) (r : Answered) → not (batch .good) ≡ true → r ≡ record { number = 1; count = 0; node = node } → AnswersLine (isRecord (fieldsFrom s at)) c node mem area r mem area
+      line-groups c r g k = refused c (isRecord (fieldsFrom s at)) r (by-groups ∙ sym (d .good) ∙ not-true (batch .good) g) k
 
-        pub line-groups : (c : Call) (r : Answered) → not (batch .good) ≡ true → r ≡ record { number = 1; count = 0; node = node } → AnswersLine (isRecord (fieldsFrom s at)) c node mem area r mem area
-        line-groups c r g k = refused c (isRecord (fieldsFrom s at)) r (by-groups ∙ sym (d .good) ∙ not-true (batch .good) g) k
-
-        pub line-whole : (r : Answered) (mem′ : List ℕ) → not (batch .good) ≡ false → Answers ready view (Record (slot .value) (ballot .value) (given (take (batch .count * 6 - 0) rows) s)) node mem area (givenOf r) mem′ area
-            → AnswersLine (isRecord (fieldsFrom s at)) (Record (numberAt (fieldsFrom s at) 0) (numberAt (fieldsFrom s at) 1) (batchOf (drop 2 (fieldsFrom s at)))) node mem area r mem′ area
-        line-whole r mem′ g w =
-            let t : batch .good ≡ true = not-false (batch .good) g in
-            let n : isRecord (fieldsFrom s at) ≡ true = by-groups ∙ sym (d .good) ∙ t in
-            let x : ballot .value ≡ numberAt (fieldsFrom s at) 1 = b .first is-ballot .value ∙ ap (λ (l : List Bytes). numberAt l 1) (sym both) in
-            let y : given (take (batch .count * 6 - 0) rows) s ≡ batchOf (drop 2 (fieldsFrom s at)) = rw (sub-zero (batch .count * 6)) (d .batch t ∙ ap (λ (l : List Bytes). batchOf (drop 2 l)) (sym both)) in
-            record { bad = λ z. absurd (true≢false (sym n ∙ z)); well = λ _. (rw (a .first is-slot .value, x, y) at w) }
+      pub line-whole : (r : Answered) (mem′ : List ℕ) → not (batch .good) ≡ false → Answers ready view (Record (getD xs 0 0) (getD xs 1 0) (given (take (batch .count * 6 - 0) rows) s)) node mem area (givenOf r) mem′ area
+          → AnswersLine (isRecord (fieldsFrom s at)) (Record (numberAt (fieldsFrom s at) 0) (numberAt (fieldsFrom s at) 1) (batchOf (drop 2 (fieldsFrom s at)))) node mem area r mem′ area
+      line-whole r mem′ g w =
+          let t : batch .good ≡ true = not-false (batch .good) g in
+          let q : isRecord (fieldsFrom s at) ≡ true = by-groups ∙ sym (d .good) ∙ t in
+          let y : given (take (batch .count * 6 - 0) rows) s ≡ batchOf (drop 2 (fieldsFrom s at)) = rw (sub-zero (batch .count * 6)) (d .batch t ∙ ap batchOf after) in
+          record { bad = λ z. absurd (true≢false (sym q ∙ z)); well = λ _. (rw (a .values 0 (omega (arith, both)), a .values 1 (omega (arith, both)), y) at w) }

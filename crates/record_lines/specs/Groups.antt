@@ -1,33 +1,17 @@
 -- Document 01, "The event program": what is read of a record line's groups CLIENT,REQUEST,KEY,VALUE. Assumes nothing: these are definitions.
 use mathlib.Core.Path.{_≡_}
-use mathlib.Core.Bool.{Bool, true, false, _&&_, _||_, not}
+use mathlib.Core.Bool.{true, false}
 use mathlib.Core.List.{List, [], _∷_}
-use Prim.Native.Nat.{ℕ, _+_, _*_, _≤_, _<_}
-use lib.ListN.{length, getD, take}
+use Prim.Native.Nat.{ℕ, _+_, _*_, _≤_}
+use lib.ListN.{length, take}
 use Rattle.words.specs.Part.{part}
 use Rattle.fields.specs.Split.{Bytes, fieldsFrom}
-use Rattle.fields.specs.Number.{hasByte, isNumber}
-use Rattle.fields.specs.Reads.{noneLeft}
 use Rattle.bodega.specs.Replica.{Request}
 use Rattle.batch.specs.Batch.{commandAt}
 use Rattle.requests.specs.Given.{given}
-use Rattle.hosts.specs.Line.{areGroups, commandOf, batchOf}
-use Rattle.record_lines.specs.declared.Value.{Value}
+use Rattle.hosts.specs.Line.{areGroups, batchOf}
 use Rattle.record_lines.specs.declared.Group.{Group}
 use Rattle.record_lines.specs.declared.Groups.{Groups}
-
--- "empty VALUE meaning a Get": there is a field, empty or a number
-abbrev pub isValue : List Bytes → Bool
-isValue fs = not (noneLeft fs) && (not (hasByte (getD fs 0 [])) || isNumber (getD fs 0 []))
-
-pub record FirstValue (s : Bytes) (at : ℕ) (v : Value) : Type 0 where
-  pub command : commandAt (v .kind) (v .value) ≡ commandOf (getD (fieldsFrom s at) 0 [])
-  pub low : at < v .next
-  pub here : fieldsFrom s at ≡ getD (fieldsFrom s at) 0 [] ∷ fieldsFrom s (v .next)
-
-pub record ReadsValue (s : Bytes) (at : ℕ) (v : Value) : Type 0 where
-  pub good : v .good ≡ isValue (fieldsFrom s at)
-  pub first : v .good ≡ true → FirstValue s at v
 
 -- ---- one group, and the fields that are left after it
 

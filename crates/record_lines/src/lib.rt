@@ -1,11 +1,8 @@
 // The record line of the event program: slot, ballot, and a request for each group of four fields.
-use fields::ended;
 use ids::Ballot;
 use ids::Slot;
 use node::Answered;
 use node::Node;
-use reader::field_from;
-use reader::number_from;
 ghost use mathlib.Core.Path.{_≡_};
 ghost use mathlib.Core.Bool.{false};
 ghost use Prim.Native.Nat.{_+_, _*_, _≤_};
@@ -16,15 +13,7 @@ ghost use Rattle.fields.specs.Number.{numberAt};
 ghost use Rattle.bodega.specs.Replica.{Record};
 ghost use Rattle.hosts.specs.Line.{isRecord, batchOf};
 ghost use Rattle.hosts.specs.Acts.{AnswersLine};
-ghost use Rattle.record_lines.specs.Groups.{rowOf, ReadsValue, ReadsGroup, ReadsGroups};
-
-// A VALUE: of kind 1 a Put's, else a Get's empty one.
-struct Value {
-    good: bool,
-    kind: u64,
-    value: u64,
-    next: usize,
-}
+ghost use Rattle.record_lines.specs.Groups.{rowOf, ReadsGroup, ReadsGroups};
 
 // CLIENT,REQUEST,KEY,VALUE, the key by its start and length in the line.
 struct Group {
@@ -43,45 +32,6 @@ struct Groups {
     count: usize,
 }
 
-fn no_value(at: usize) -> Value
-    ensures { λ r. ⌜ r ≡ record { good = false; kind = 0; value = 0; next = at } ⌝ }
-{
-    Value {
-        good: false,
-        kind: 0,
-        value: 0,
-        next: at,
-    }
-}
-
-// The VALUE that begins at a position.
-fn value_at(line: &[u8], at: usize) -> Value
-    ensures { λ r. ⌜ ReadsValue (now (line .entry)) at r ⌝ }
-{
-    let n = number_from(line, at);
-    if n.good {
-        return Value {
-            good: true,
-            kind: 1,
-            value: n.value,
-            next: n.next,
-        };
-    }
-    if ended(line, at) {
-        return no_value(at);
-    }
-    let f = field_from(line, at);
-    if f.end == at {
-        return Value {
-            good: true,
-            kind: 0,
-            value: 0,
-            next: f.next,
-        };
-    }
-    no_value(at)
-}
-
 fn no_group(at: usize) -> Group
     ensures { λ r. ⌜ r ≡ record { good = false; client = 0; request = 0; kind = 0; value = 0; start = 0; length = 0; next = at } ⌝ }
 {
@@ -97,20 +47,19 @@ fn no_group(at: usize) -> Group
     }
 }
 
-// The group that begins at a position.
+// The group that begins at a position. The reader stands at a field that is no number, so the second number is one only after
+// the first.
 fn group_at(line: &[u8], at: usize) -> Group
     ensures { λ r. ⌜ ReadsGroup (now (line .entry)) at r ⌝ }
 {
-    let client = number_from(line, at);
-    if !client.good {
-        return no_group(at);
-    }
-    let request = number_from(line, client.next);
+    let f = reader::request_from(line, at);
+    let client = f.client;
+    let request = f.request;
+    let key = f.key;
+    let value = f.value;
     if !request.good {
         return no_group(at);
     }
-    let key = field_from(line, request.next);
-    let value = value_at(line, key.next);
     if !value.good {
         return no_group(at);
     }
@@ -118,7 +67,7 @@ fn group_at(line: &[u8], at: usize) -> Group
         good: true,
         client: client.value,
         request: request.value,
-        kind: value.kind,
+        kind: value.count,
         value: value.value,
         start: key.start as u64,
         length: (key.end - key.start) as u64,
@@ -193,20 +142,17 @@ pub fn record_line(
     requires { ⌜ (length (now line) ≤ 1024) × (1542 ≤ length (now groups)) ⌝ }
     ensures { λ r. ⌜ AnswersLine (isRecord (fieldsFrom (now (line .entry)) at)) (Record (numberAt (fieldsFrom (now (line .entry)) at) 0) (numberAt (fieldsFrom (now (line .entry)) at) 1) (batchOf (drop 2 (fieldsFrom (now (line .entry)) at)))) node (now (mem .entry)) (now (area .entry)) r (now (mem .exit)) (now (area .entry)) ⌝ }
 {
-    let slot = number_from(line, at);
-    if !slot.good {
+    let mut a = [0u64; 2];
+    let n = reader::numbers_from(line, at, 2, &mut a);
+    if !n.good {
         return malformed(node);
     }
-    let ballot = number_from(line, slot.next);
-    if !ballot.good {
-        return malformed(node);
-    }
-    let batch = groups_at(line, ballot.next, groups);
+    let batch = groups_at(line, n.next, groups);
     if !batch.good {
         return malformed(node);
     }
     let words = batch.count * 6;
-    let to = Slot(slot.value);
-    let of = Ballot(ballot.value);
+    let to = Slot(a[0]);
+    let of = Ballot(a[1]);
     record::record(node, mem, area, to, of, &groups[0..words], line)
 }

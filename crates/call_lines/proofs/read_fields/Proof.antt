@@ -3,75 +3,55 @@ use borrow.Author.Needs.{needs}
 use Rattle.call_lines.proofs.read_fields.Statement.{statement}
 use Rattle.call_lines.proofs.read_fields.Tie as tie
 
-number-from-requires : tie.Need-number-from-requires
-number-from-requires c κs = search needs
+numbers-field-from-requires : tie.Need-numbers-field-from-requires
+numbers-field-from-requires c κs = search needs
 
 no-read-requires : tie.Need-no-read-requires
 no-read-requires c κs = search needs
 
 returns : tie.Need-returns
-returns c = law.bad-client _ _ _ (c .before .before .before .number-from .ensures) _ (c .before .if1 .taken) (c .no-read .ensures)
+returns c = law.bad-numbers _ _ _ (c .before .before .before .before .before .before .before .numbers-field-from .ensures) _ (c .before .if1 .taken) (c .no-read .ensures)
 
-number-from-requires-2 : tie.Need-number-from-requires-2
-number-from-requires-2 c κs = search needs
+ended-requires : tie.Need-ended-requires
+ended-requires c κs = search needs
 
 no-read-requires-2 : tie.Need-no-read-requires-2
 no-read-requires-2 c κs = search needs
 
 returns-2 : tie.Need-returns-2
-returns-2 c = law.bad-request _ _ _ (c .before .before .before .before .before .before .number-from .ensures) (c .before .before .before .before .if1 .left) _ (c .before .before .before .number-from2 .ensures) _ (c .before .if2 .taken) (c .no-read2 .ensures)
+returns-2 c =
+    let e = c .before .before in
+    law.numbers-alone _ _ _ (e .before .before .before .before .before .before .before .numbers-field-from .ensures) (e .before .if1 .left) _ _ (e .ended .ensures) (c .before .if2 .taken) (c .no-read2 .ensures)
 
-number-from-requires-3 : tie.Need-number-from-requires-3
-number-from-requires-3 c κs = search needs
+ended-requires-2 : tie.Need-ended-requires-2
+ended-requires-2 c κs = search needs
 
 no-read-requires-3 : tie.Need-no-read-requires-3
 no-read-requires-3 c κs = search needs
 
 returns-3 : tie.Need-returns-3
-returns-3 c = law.bad-leases _ _ _ (c .before .before .before .before .before .before .before .before .before .number-from .ensures) (c .before .before .before .before .before .before .before .if1 .left) _ (c .before .before .before .before .before .before .number-from2 .ensures) (c .before .before .before .before .if2 .left) _ (c .before .before .before .number-from3 .ensures) _ (c .before .if3 .taken) (c .no-read3 .ensures)
-
-ended-requires : tie.Need-ended-requires
-ended-requires c κs = search needs
-
-no-read-requires-4 : tie.Need-no-read-requires-4
-no-read-requires-4 c κs = search needs
+returns-3 c =
+    let l = c .before .before in
+    let e = l .before .before in
+    law.one-too-many _ _ _ (e .before .before .before .before .before .before .before .numbers-field-from .ensures) (e .before .if1 .left) _ (e .ended .ensures) (l .before .if2 .left) _ (l .ended2 .ensures) _ (c .before .if3 .taken) (c .no-read3 .ensures)
 
 returns-4 : tie.Need-returns-4
-returns-4 c = law.no-key _ _ _ (c .before .before .before .before .before .before .before .before .before .before .before .number-from .ensures) (c .before .before .before .before .before .before .before .before .before .if1 .left) _ (c .before .before .before .before .before .before .before .before .number-from2 .ensures) (c .before .before .before .before .before .before .if2 .left) _ (c .before .before .before .before .before .number-from3 .ensures) (c .before .before .before .if3 .left) _ _ (c .before .before .ended .ensures) (c .before .if4 .taken) (c .no-read4 .ensures)
-
-field-from-requires : tie.Need-field-from-requires
-field-from-requires c κs = search needs
-
-ended-requires-2 : tie.Need-ended-requires-2
-ended-requires-2 c κs = search needs
-
-no-read-requires-5 : tie.Need-no-read-requires-5
-no-read-requires-5 c κs = search needs
-
-returns-5 : tie.Need-returns-5
-returns-5 c = law.fifth _ _ _ (c .before .before .before .before .before .before .before .before .before .before .before .before .before .before .number-from .ensures) (c .before .before .before .before .before .before .before .before .before .before .before .before .if1 .left) _ (c .before .before .before .before .before .before .before .before .before .before .before .number-from2 .ensures) (c .before .before .before .before .before .before .before .before .before .if2 .left) _ (c .before .before .before .before .before .before .before .before .number-from3 .ensures) (c .before .before .before .before .before .before .if3 .left) _ (c .before .before .before .before .before .ended .ensures) (c .before .before .before .before .if4 .left) _ (c .before .before .before .field-from .ensures) _ (c .before .before .ended2 .ensures) _ (c .before .if5 .taken) (c .no-read5 .ensures)
-
-returns-6 : tie.Need-returns-6
-returns-6 c = law.is-read _ _ _ (c .before .before .before .before .before .before .before .before .before .before .before .before .before .number-from .ensures) (c .before .before .before .before .before .before .before .before .before .before .before .if1 .left) _ (c .before .before .before .before .before .before .before .before .before .before .number-from2 .ensures) (c .before .before .before .before .before .before .before .before .if2 .left) _ (c .before .before .before .before .before .before .before .number-from3 .ensures) (c .before .before .before .before .before .if3 .left) _ (c .before .before .before .before .ended .ensures) (c .before .before .before .if4 .left) _ (c .before .before .field-from .ensures) _ (c .before .ended2 .ensures) (c .if5 .left)
+returns-4 c =
+    let l = c .before in
+    let e = l .before .before in
+    law.whole-read _ _ _ (e .before .before .before .before .before .before .before .numbers-field-from .ensures) (e .before .if1 .left) _ (e .ended .ensures) (l .before .if2 .left) _ (l .ended2 .ensures) (c .if3 .left)
 
 pub read-fields-spec : {M : Type 1} → statement M
 read-fields-spec =
     tie.close
     (tie.spec
-    number-from-requires
+    numbers-field-from-requires
     no-read-requires
     returns
-    number-from-requires-2
+    ended-requires
     no-read-requires-2
     returns-2
-    number-from-requires-3
+    ended-requires-2
     no-read-requires-3
     returns-3
-    ended-requires
-    no-read-requires-4
-    returns-4
-    field-from-requires
-    ended-requires-2
-    no-read-requires-5
-    returns-5
-    returns-6)
+    returns-4)

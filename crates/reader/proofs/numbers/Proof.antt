@@ -1,68 +1,25 @@
-use Prim.Native.Nat.{_-_}
 use borrow.Author.Needs.{needs}
 use Rattle.reader.proofs.Laws as law
-use Rattle.reader.proofs.Laws.{Took}
-use native.Mathlib.Omega.{arith}
 use Rattle.reader.proofs.numbers.Statement.{statement}
 use Rattle.reader.proofs.numbers.Tie as tie
 
-abbrev Inv-loop : tie.InvT-loop
-Inv-loop line at k out₀ next₀ i₀ out next i = Took line at k out₀ out next i
+numbers-from-requires : tie.Need-numbers-from-requires
+numbers-from-requires c κs = search needs
 
-abbrev μ-loop : tie.MeasureT-loop
-μ-loop line at k out₀ next₀ i₀ out next i = k - i
+same-length : tie.Need-same-length
+same-length c = search needs
 
-loop-holds : tie.Need-loop-holds Inv-loop μ-loop
-loop-holds c = law.took-none _ _ _ _
+returns : tie.Need-returns
+returns c = search (needs, law.numbers-bad)
 
-number-from-requires : tie.Need-number-from-requires Inv-loop μ-loop
-number-from-requires c κs = omega arith
+ended-requires : tie.Need-ended-requires
+ended-requires c κs = search needs
 
-mul-out : tie.Need-mul-out Inv-loop μ-loop
-mul-out c = omega arith
+same-length-2 : tie.Need-same-length-2
+same-length-2 c = search needs
 
-slice-write-out : tie.Need-slice-write-out Inv-loop μ-loop
-slice-write-out c = omega (arith, c .before .before .before .loop .inv .size)
-
-add-i : tie.Need-add-i Inv-loop μ-loop
-add-i c = omega arith
-
-loop-less : tie.Need-loop-less Inv-loop μ-loop
-loop-less c = omega arith
-
-loop-again : tie.Need-loop-again Inv-loop μ-loop
-loop-again c = law.took-more _ _ _ _ _ _ _ (c .before .before .before .loop .inv) _ (omega arith) (search needs) (c .before .number-from .ensures) (c .if1 .taken)
-
-same-length : tie.Need-same-length Inv-loop μ-loop
-same-length c = c .before .before .before .loop .inv .size
-
-returns : tie.Need-returns Inv-loop μ-loop
-returns c = law.took-bad _ _ _ _ _ _ _ (c .before .before .before .loop .inv) _ (omega arith) (c .before .number-from .ensures) (c .if1 .left)
-
-ended-requires : tie.Need-ended-requires Inv-loop μ-loop
-ended-requires c κs = omega arith
-
-same-length-2 : tie.Need-same-length-2 Inv-loop μ-loop
-same-length-2 c = c .before .before .loop .inv .size
-
-returns-2 : tie.Need-returns-2 Inv-loop μ-loop
-returns-2 c = law.took-all _ _ _ _ _ _ _ (c .before .before .loop .inv) _ (omega arith) (c .ended .ensures)
+returns-2 : tie.Need-returns-2
+returns-2 c = search (needs, law.numbers-ended)
 
 pub numbers-spec : {M : Type 1} → statement M
-numbers-spec =
-    tie.close
-    (tie.spec
-    Inv-loop
-    μ-loop
-    loop-holds
-    number-from-requires
-    mul-out
-    slice-write-out
-    add-i
-    loop-less
-    loop-again
-    same-length
-    returns
-    ended-requires
-    same-length-2
-    returns-2)
+numbers-spec = tie.close (tie.spec numbers-from-requires same-length returns ended-requires same-length-2 returns-2)
