@@ -314,9 +314,9 @@ module _ (node : Node) (mem area : List ℕ) where
       pub line-groups : (c : Call) (r : Answered) → not (batch .good) ≡ true → r ≡ record { number = 1; count = 0; node = node } → AnswersLine (isRecord (fieldsFrom s at)) c node mem area r mem area
       line-groups c r g k = refused c (isRecord (fieldsFrom s at)) r (by-groups ∙ sym (d .good) ∙ not-true (batch .good) g) k
 
-      pub line-whole : (r : Answered) (mem′ : List ℕ) → not (batch .good) ≡ false → Answers ready view (Record (getD xs 0 0) (getD xs 1 0) (given (take (batch .count * 6 - 0) rows) s)) node mem area (givenOf r) mem′ area
-          → AnswersLine (isRecord (fieldsFrom s at)) (Record (numberAt (fieldsFrom s at) 0) (numberAt (fieldsFrom s at) 1) (batchOf (drop 2 (fieldsFrom s at)))) node mem area r mem′ area
-      line-whole r mem′ g w =
+      pub line-whole : (r : Answered) (mem′ area′ : List ℕ) → not (batch .good) ≡ false → Answers ready view (Record (getD xs 0 0) (getD xs 1 0) (given (take (batch .count * 6 - 0) rows) s)) node mem area (givenOf r) mem′ area′
+          → AnswersLine (isRecord (fieldsFrom s at)) (Record (numberAt (fieldsFrom s at) 0) (numberAt (fieldsFrom s at) 1) (batchOf (drop 2 (fieldsFrom s at)))) node mem area r mem′ area′
+      line-whole r mem′ area′ g w =
           let t : batch .good ≡ true = not-false (batch .good) g in
           let q : isRecord (fieldsFrom s at) ≡ true = by-groups ∙ sym (d .good) ∙ t in
           let y : given (take (batch .count * 6 - 0) rows) s ≡ batchOf (drop 2 (fieldsFrom s at)) = rw (sub-zero (batch .count * 6)) (d .batch t ∙ ap batchOf after) in

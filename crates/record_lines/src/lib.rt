@@ -1,4 +1,5 @@
 // The record line of the event program: slot, ballot, and a request for each group of four fields.
+use apply::Call;
 use ids::Ballot;
 use ids::Slot;
 use node::Answered;
@@ -134,13 +135,13 @@ fn malformed(node: Node) -> Answered
 pub fn record_line(
     node: Node,
     mem: &mut [u64],
-    area: &[u64],
+    area: &mut [u64],
     groups: &mut [u64],
     line: &[u8],
     at: usize,
 ) -> Answered
     requires { ⌜ (length (now line) ≤ 1024) × (1542 ≤ length (now groups)) ⌝ }
-    ensures { λ r. ⌜ AnswersLine (isRecord (fieldsFrom (now (line .entry)) at)) (Record (numberAt (fieldsFrom (now (line .entry)) at) 0) (numberAt (fieldsFrom (now (line .entry)) at) 1) (batchOf (drop 2 (fieldsFrom (now (line .entry)) at)))) node (now (mem .entry)) (now (area .entry)) r (now (mem .exit)) (now (area .entry)) ⌝ }
+    ensures { λ r. ⌜ AnswersLine (isRecord (fieldsFrom (now (line .entry)) at)) (Record (numberAt (fieldsFrom (now (line .entry)) at) 0) (numberAt (fieldsFrom (now (line .entry)) at) 1) (batchOf (drop 2 (fieldsFrom (now (line .entry)) at)))) node (now (mem .entry)) (now (area .entry)) r (now (mem .exit)) (now (area .exit)) ⌝ }
 {
     let mut a = [0u64; 2];
     let n = reader::numbers_from(line, at, 2, &mut a);
@@ -154,5 +155,6 @@ pub fn record_line(
     let words = batch.count * 6;
     let to = Slot(a[0]);
     let of = Ballot(a[1]);
-    record::record(node, mem, area, to, of, &groups[0..words], line)
+    let call = Call::Record(to, of);
+    apply::apply(node, mem, area, call, &groups[0..words], line)
 }

@@ -119,7 +119,7 @@ same-length-12 : tie.Need-same-length-12
 same-length-12 c = search needs
 
 returns-5 : tie.Need-returns-5
-returns-5 c = law.of-kind _ Record _ _ _ _ _ _ _ _ _ (c .before .before .before .before .before .before .before .before .before .enum-told4 .given .1) (law.call-line _ _ _ _ _ _ _ _ _ _ (c .called3 .ensures) (c .before .before .before .before .before .before .before .before .before .before .before .before .before .before .before .before .before .before .pre .0) (c .before .before .before .before .before .before .before .before .before .before .before .before .before .before .before .before .before .before .pre .1) (c .before .before .before .before .before .record-line .ensures))
+returns-5 c = law.of-kind _ Record _ _ _ _ _ _ _ _ _ (c .before .before .before .before .before .before .before .before .before .before .before .enum-told4 .given .1) (law.call-line _ _ _ _ _ _ _ _ _ _ (c .called3 .ensures) (c .before .before .before .before .before .before .before .before .before .before .before .before .before .before .before .before .before .before .before .before .pre .0) (c .before .before .before .before .before .before .before .before .before .before .before .before .before .before .before .before .before .before .before .before .pre .1) (c .before .before .before .before .before .before .before .record-line .ensures))
 
 same-length-13 : tie.Need-same-length-13
 same-length-13 c = search needs

@@ -33,23 +33,23 @@ returns-2 c =
 mul-words : tie.Need-mul-words
 mul-words c = omega (arith, c .before .before .before .before .before .groups-at .ensures .few)
 
-array-read-t20 : tie.Need-array-read-t20
-array-read-t20 c = search needs
+array-read-t21 : tie.Need-array-read-t21
+array-read-t21 c = search needs
 
-array-read-t20-2 : tie.Need-array-read-t20-2
-array-read-t20-2 c = search needs
+array-read-t21-2 : tie.Need-array-read-t21-2
+array-read-t21-2 c = search needs
 
-sub-record : tie.Need-sub-record
-sub-record c = search needs
+sub-apply : tie.Need-sub-apply
+sub-apply c = search needs
 
-part-record-start : tie.Need-part-record-start
-part-record-start c = search needs
+part-apply-start : tie.Need-part-apply-start
+part-apply-start c = search needs
 
-part-record-end : tie.Need-part-record-end
-part-record-end c = search needs
+part-apply-end : tie.Need-part-apply-end
+part-apply-end c = search needs
 
-record-requires : tie.Need-record-requires
-record-requires c κs = search needs
+apply-requires : tie.Need-apply-requires
+apply-requires c κs = search needs
 
 same-length-2 : tie.Need-same-length-2
 same-length-2 c = search needs
@@ -57,12 +57,15 @@ same-length-2 c = search needs
 same-length-3 : tie.Need-same-length-3
 same-length-3 c = search needs
 
+same-length-4 : tie.Need-same-length-4
+same-length-4 c = search needs
+
 returns-3 : tie.Need-returns-3
 returns-3 c =
-    let r = c .before .before in
-    let e = r .before .before .before .before .before in
+    let r = c .before .before .before .before in
+    let e = r .before .before .before .before .before .before in
     let g = e .before .before .before .before in
-    law.line-whole _ _ _ _ _ _ _ _ (g .before .before .before .before .before .numbers-from .ensures) (g .before .before .if1 .left) _ _ (g .groups-at .ensures) _ _ (e .if2 .left) (r .«record» .ensures)
+    law.line-whole _ _ _ _ _ _ _ _ (g .before .before .before .before .before .numbers-from .ensures) (g .before .before .if1 .left) _ _ (g .groups-at .ensures) _ _ _ (e .if2 .left) (r .apply .ensures)
 
 pub record-line-spec : {M : Type 1} → statement M
 record-line-spec =
@@ -77,12 +80,13 @@ record-line-spec =
     same-length
     returns-2
     mul-words
-    array-read-t20
-    array-read-t20-2
-    sub-record
-    part-record-start
-    part-record-end
-    record-requires
+    array-read-t21
+    array-read-t21-2
+    sub-apply
+    part-apply-start
+    part-apply-end
+    apply-requires
     same-length-2
     same-length-3
+    same-length-4
     returns-3)

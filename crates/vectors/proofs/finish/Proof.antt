@@ -1,8 +1,8 @@
 -- `finish` ends and does nothing undefined. Assumes nothing.
 use native.Mathlib.Omega.{arith}
 use borrow.Author.Needs.{needs}
-use Rattle.vectors.proofs.runs.finish.Statement.{statement}
-use Rattle.vectors.proofs.runs.finish.Tie as tie
+use Rattle.vectors.proofs.finish.Statement.{statement}
+use Rattle.vectors.proofs.finish.Tie as tie
 
 sub-last-line : tie.Need-sub-last-line
 sub-last-line c = search needs

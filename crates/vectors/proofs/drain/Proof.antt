@@ -6,8 +6,8 @@ use Prim.Native.Nat.{_-_, _≤_}
 use lib.ListN.{length}
 use Rattle.lines.specs.Fed.{Lent}
 use borrow.Author.Needs.{needs}
-use Rattle.vectors.proofs.runs.drain.Statement.{statement}
-use Rattle.vectors.proofs.runs.drain.Tie as tie
+use Rattle.vectors.proofs.drain.Statement.{statement}
+use Rattle.vectors.proofs.drain.Tie as tie
 
 abbrev Inv-loop : tie.InvT-loop
 Inv-loop piece answers mem₀ rows₀ area₀ groups₀ out₀ place₀ met₀ mem rows area groups out place met = (place .at ≤ length piece) × (met .at ≤ length answers) × Lent (place .state .host) mem rows area groups × (length mem ≡ length mem₀) × (length rows ≡ length rows₀) × (length area ≡ length area₀) × (length groups ≡ length groups₀) × (length out ≡ length out₀)

@@ -1,8 +1,8 @@
 -- `hear` ends and does nothing undefined. Assumes nothing.
 use mathlib.Core.Path.{_∙_}
 use borrow.Author.Needs.{needs}
-use Rattle.vectors.proofs.runs.hear.Statement.{statement}
-use Rattle.vectors.proofs.runs.hear.Tie as tie
+use Rattle.vectors.proofs.hear.Statement.{statement}
+use Rattle.vectors.proofs.hear.Tie as tie
 
 put-requires : tie.Need-put-requires
 put-requires c κs = search needs

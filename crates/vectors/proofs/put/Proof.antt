@@ -3,8 +3,8 @@ use mathlib.Core.Path.{_≡_}
 use Prim.Native.Nat.{_-_, _≤_}
 use lib.ListN.{length}
 use borrow.Author.Needs.{needs}
-use Rattle.vectors.proofs.runs.put.Statement.{statement}
-use Rattle.vectors.proofs.runs.put.Tie as tie
+use Rattle.vectors.proofs.put.Statement.{statement}
+use Rattle.vectors.proofs.put.Tie as tie
 
 abbrev Inv-loop : tie.InvT-loop
 Inv-loop buf₀ at bytes i₀ buf i = (i ≤ length bytes) × (length buf ≡ length buf₀)

@@ -3,8 +3,8 @@ use mathlib.Core.Path.{sym}
 use native.Mathlib.Omega.{arith}
 use Rattle.lines.proofs.Laws as law
 use borrow.Author.Needs.{needs}
-use Rattle.vectors.proofs.runs.run.Statement.{statement}
-use Rattle.vectors.proofs.runs.run.Tie as tie
+use Rattle.vectors.proofs.run.Statement.{statement}
+use Rattle.vectors.proofs.run.Tie as tie
 
 piece-space-requires : tie.Need-piece-space-requires
 piece-space-requires c κs = search needs
