@@ -1,5 +1,5 @@
 -- What the steps of the program leave, with the premises as the code has them. Assumes nothing.
-use mathlib.Core.Path.{_≡_, refl, sym, ap, _∙_}
+use mathlib.Core.Path.{_≡_, refl, sym}
 use mathlib.Core.Bool.{Bool, true, false, true≢false}
 use mathlib.Core.List.{List, [], _∷_, _++_}
 use Prim.Native.Nat.{ℕ, zero, suc, _≤_, _<_}
@@ -11,7 +11,6 @@ use lib.Signed.{ltZ}
 use borrow.Author.Tests.{ltb-true, ltb-false}
 use Rattle.words.specs.Part.{splice}
 use Rattle.fields.specs.Split.{Bytes}
-use Rattle.lines.specs.Fed.{Lent}
 use Rattle.lines.proofs.Laws.{fresh-lent}
 use Rattle.turns.specs.declared.Stream.{Stream}
 use Rattle.turns.specs.declared.Turned.{Turned}

@@ -1,6 +1,5 @@
 -- What a read comes to. Assumes nothing: these are definitions.
 use mathlib.Core.Bool.{Bool}
-use mathlib.Core.List.{List}
 use Prim.Native.Nat.{ℕ, zero, suc}
 use lib.IntN.{ℤ, pos, negsuc}
 use Rattle.words.specs.Choice.{if_then_else_}

@@ -1,7 +1,7 @@
 -- What a turn leaves, with the premises as the code has them. Assumes nothing.
 use mathlib.Core.Path.{_≡_, refl, sym, ap, _∙_}
 use mathlib.Core.Bool.{true, false, true≢false}
-use mathlib.Core.List.{List, [], _++_, append-nil}
+use mathlib.Core.List.{List, [], append-nil}
 use Prim.Native.Nat.{ℕ, _+_, _-_, _≤_}
 use native.Mathlib.Omega.{arith}
 use lib.ListN.{length, take, drop, take-append-drop}
@@ -9,7 +9,7 @@ use lib.Seq.{take-add, drop-at, drop-drop, length-take-le}
 use Rattle.fields.specs.Split.{Bytes}
 use Rattle.pieces.specs.declared.Carry.{Carry}
 use Rattle.pieces.specs.Pieces.{Begun, kept}
-use Rattle.pieces.specs.Runs.{Run, prepend, runs, Done, done}
+use Rattle.pieces.specs.Runs.{Run, runs, Done, done}
 use Rattle.pieces.proofs.Laws.{cut, runs-none}
 use Rattle.lines.specs.declared.Counted.{Counted}
 use Rattle.lines.specs.declared.Fed.{Fed}

@@ -12,7 +12,7 @@ use Rattle.words.specs.Writes.{writes, length-writes, run-writes}
 use Rattle.fields.specs.Split.{Bytes}
 use Rattle.hosts.specs.Host.{freshHost}
 use Rattle.pieces.specs.Pieces.{Begun, fresh, kept, concat}
-use Rattle.pieces.specs.Runs.{Run, prepend, runs, lastLine, total, Done, done}
+use Rattle.pieces.specs.Runs.{Run, prepend, runs, lastLine, total, Done}
 use Rattle.pieces.proofs.Laws.{cut, runs-none}
 use Rattle.pieces.proofs.Stream.{Plain, plain-kept, plain-runs, resumed, total-alike, out-alike}
 use Rattle.lines.specs.Lines.{State, start, says}
@@ -20,7 +20,7 @@ use Rattle.lines.specs.Fed.{stateOf}
 use Rattle.lines.proofs.Stream.{alike, numbered}
 use Rattle.turns.specs.declared.Stream.{Stream}
 use Rattle.turns.specs.declared.Turned.{Turned}
-use Rattle.turns.specs.Turns.{Turns, Rests, Stops, waiting, runsOn, keeping}
+use Rattle.turns.specs.Turns.{Turns, Rests, Stops, waiting, runsOn}
 use Rattle.turns.specs.Went as spec
 
 concat-snoc : (ps : List Bytes) (p l : Bytes) → concat (ps ++ (p ∷ [])) ++ l ≡ concat ps ++ (p ++ l)

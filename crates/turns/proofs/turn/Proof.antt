@@ -1,7 +1,5 @@
 use Rattle.turns.proofs.Laws as law
 use borrow.Author.Needs.{needs}
-use borrow.Author.Tests.{not-true}
-use native.Mathlib.Omega.{arith}
 use Rattle.turns.proofs.turn.Statement.{statement}
 use Rattle.turns.proofs.turn.Tie as tie
 
