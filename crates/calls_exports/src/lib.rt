@@ -1,12 +1,11 @@
-// The calls for Rust and C: the node is a plain struct, since an exported function takes and gives no enum.
+// The calls for Rust and C, over plain structs.
 use ids::Ballot;
-use ids::Leader;
 use ids::Replica;
 use ids::Slot;
-use node::Answered;
-use node::Fresh;
 use node::Node;
-use responders::RespondersConf;
+use plain_nodes::Called;
+use plain_nodes::Plain;
+use plain_nodes::Roster;
 ghost use mathlib.Core.Path.{_≡_};
 ghost use mathlib.Core.Bool.{_&&_};
 ghost use Rattle.bodega.specs.Replica.{Guard, Prepared, Bars, Record, Heartbeat, Reply, Notice, CommitNotice, Read, Release};
@@ -16,208 +15,14 @@ ghost use Rattle.heartbeat.specs.Heartbeat.{fitting, carried};
 ghost use Rattle.bodega.specs.Answers.{Answers};
 ghost use Rattle.node.specs.View.{view, ready};
 ghost use Rattle.node.specs.Begins.{Begins};
-ghost use Rattle.calls_exports.specs.Plain.{leaderAt, hasLeader, leaderIn, nodeOf, plainOf, calledOf, given, freshOf, confOf};
-
-// A node; has_leader is 0 where there is no leader.
-#[repr(C)]
-pub struct Plain {
-    pub id: u8,
-    pub population: u8,
-    pub quorum: u8,
-    pub leader: u8,
-    pub has_leader: u64,
-    pub ranges: usize,
-    pub default: u64,
-    pub bal_max_seen: u64,
-    pub bal_prep_sent: u64,
-    pub bal_prepared: u64,
-    pub start_slot: u64,
-    pub accept_bar: u64,
-    pub commit_bar: u64,
-    pub exec_bar: u64,
-    pub snap_bar: u64,
-    pub peer_accept_max: u64,
-    pub slots: usize,
-}
-
-// A roster but for its rows.
-#[repr(C)]
-pub struct Roster {
-    pub leader: u8,
-    pub has_leader: u64,
-    pub ranges: usize,
-    pub default: u64,
-}
-
-// number is 0 where the call is taken, or the refusal.
-#[repr(C)]
-pub struct Called {
-    pub number: u64,
-    pub count: usize,
-    pub node: Plain,
-}
-
-fn leader_at(has: u64, l: u8) -> Leader
-    ensures { λ r. ⌜ r ≡ leaderAt has l ⌝ }
-{
-    if has == 0 {
-        return Leader::None;
-    }
-    let r = Replica(l);
-    Leader::Some(r)
-}
-
-fn has_leader(leader: Leader) -> u64
-    ensures { λ r. ⌜ r ≡ hasLeader leader ⌝ }
-{
-    match leader {
-        Leader::None => 0,
-        Leader::Some(_l) => 1,
-    }
-}
-
-fn leader_in(leader: Leader) -> u8
-    ensures { λ r. ⌜ r ≡ leaderIn leader ⌝ }
-{
-    match leader {
-        Leader::None => 0,
-        Leader::Some(l) => l.0,
-    }
-}
-
-fn conf_of(r: Roster) -> RespondersConf
-    ensures { λ c. ⌜ c ≡ confOf r ⌝ }
-{
-    let leader = leader_at(r.has_leader, r.leader);
-    RespondersConf {
-        leader,
-        count: r.ranges,
-        default: r.default,
-    }
-}
-
-fn node_of(p: Plain) -> Node
-    ensures { λ r. ⌜ r ≡ nodeOf p ⌝ }
-{
-    let leader = leader_at(p.has_leader, p.leader);
-    let conf = RespondersConf {
-        leader,
-        count: p.ranges,
-        default: p.default,
-    };
-    let id = Replica(p.id);
-    let max_seen = Ballot(p.bal_max_seen);
-    let prep_sent = Ballot(p.bal_prep_sent);
-    let prepared = Ballot(p.bal_prepared);
-    let start = Slot(p.start_slot);
-    let accept = Slot(p.accept_bar);
-    let commit = Slot(p.commit_bar);
-    let exec = Slot(p.exec_bar);
-    let snap = Slot(p.snap_bar);
-    let max = Slot(p.peer_accept_max);
-    Node {
-        id,
-        population: p.population,
-        quorum: p.quorum,
-        bodega_conf: conf,
-        bal_max_seen: max_seen,
-        bal_prep_sent: prep_sent,
-        bal_prepared: prepared,
-        start_slot: start,
-        accept_bar: accept,
-        commit_bar: commit,
-        exec_bar: exec,
-        snap_bar: snap,
-        peer_accept_max: max,
-        slots: p.slots,
-    }
-}
-
-fn plain_of(n: Node) -> Plain
-    ensures { λ r. ⌜ r ≡ plainOf n ⌝ }
-{
-    let conf = n.bodega_conf;
-    let leader = conf.leader;
-    Plain {
-        id: n.id.0,
-        population: n.population,
-        quorum: n.quorum,
-        leader: leader_in(leader),
-        has_leader: has_leader(leader),
-        ranges: conf.count,
-        default: conf.default,
-        bal_max_seen: n.bal_max_seen.0,
-        bal_prep_sent: n.bal_prep_sent.0,
-        bal_prepared: n.bal_prepared.0,
-        start_slot: n.start_slot.0,
-        accept_bar: n.accept_bar.0,
-        commit_bar: n.commit_bar.0,
-        exec_bar: n.exec_bar.0,
-        snap_bar: n.snap_bar.0,
-        peer_accept_max: n.peer_accept_max.0,
-        slots: n.slots,
-    }
-}
-
-fn told(a: Answered) -> Called
-    ensures { λ r. ⌜ r ≡ calledOf a ⌝ }
-{
-    let node = plain_of(a.node);
-    Called {
-        number: a.number,
-        count: a.count,
-        node,
-    }
-}
-
-fn made(node: Plain) -> Called
-    ensures { λ r. ⌜ r ≡ record { number = 0; count = 0; node = node } ⌝ }
-{
-    Called {
-        number: 0,
-        count: 0,
-        node,
-    }
-}
-
-// No node: all fields are 0.
-fn refused(number: u64) -> Called
-    ensures { λ r. ⌜ r .number ≡ number ⌝ }
-{
-    let node = Plain {
-        id: 0,
-        population: 0,
-        quorum: 0,
-        leader: 0,
-        has_leader: 0,
-        ranges: 0,
-        default: 0,
-        bal_max_seen: 0,
-        bal_prep_sent: 0,
-        bal_prepared: 0,
-        start_slot: 0,
-        accept_bar: 0,
-        commit_bar: 0,
-        exec_bar: 0,
-        snap_bar: 0,
-        peer_accept_max: 0,
-        slots: 0,
-    };
-    Called {
-        number,
-        count: 0,
-        node,
-    }
-}
+ghost use Rattle.plain_nodes.specs.Plain.{nodeOf, confOf, given, freshOf, noNode, GivesBack};
 
 #[no_mangle]
 pub extern "C" fn bodega_fresh(mem: &mut [u64], id: u8, population: u8, quorum: u8) -> Called
-    ensures { λ r. ⌜ Begins id population quorum (now (mem .entry)) (freshOf r) (now (mem .exit)) ⌝ }
+    ensures { λ r. ⌜ Begins id population quorum (now (mem .entry)) (freshOf r) (now (mem .exit)) × GivesBack noNode r × (r .count ≡ 0) ⌝ }
 {
-    match Node::fresh(mem, Replica(id), population, quorum) {
-        Fresh::Made(node) => made(plain_of(node)),
-        Fresh::Refused(number) => refused(number),
-    }
+    let fresh = Node::fresh(mem, Replica(id), population, quorum);
+    plain_nodes::begun(fresh)
 }
 
 #[no_mangle]
@@ -229,20 +34,20 @@ pub extern "C" fn bodega_guard(
     number: u64,
     bar: u64,
 ) -> Called
-    ensures { λ r. ⌜ Answers ready view (Guard peer number bar) (nodeOf node) (now (mem .entry)) (now (area .entry)) (given r) (now (mem .exit)) (now (area .entry)) ⌝ }
+    ensures { λ r. ⌜ Answers ready view (Guard peer number bar) (nodeOf node) (now (mem .entry)) (now (area .entry)) (given r) (now (mem .exit)) (now (area .entry)) × GivesBack node r ⌝ }
 {
-    let n = node_of(node);
+    let n = plain_nodes::node_of(node);
     let a = guard::guard(n, mem, area, Replica(peer), Ballot(number), Slot(bar));
-    told(a)
+    plain_nodes::told(node, a)
 }
 
 #[no_mangle]
 pub extern "C" fn bodega_prepared(node: Plain, mem: &[u64], area: &[u64], ballot: u64) -> Called
-    ensures { λ r. ⌜ Answers ready view (Prepared ballot) (nodeOf node) (now (mem .entry)) (now (area .entry)) (given r) (now (mem .entry)) (now (area .entry)) ⌝ }
+    ensures { λ r. ⌜ Answers ready view (Prepared ballot) (nodeOf node) (now (mem .entry)) (now (area .entry)) (given r) (now (mem .entry)) (now (area .entry)) × GivesBack node r ⌝ }
 {
-    let n = node_of(node);
+    let n = plain_nodes::node_of(node);
     let a = prepared::prepared(n, mem, area, Ballot(ballot));
-    told(a)
+    plain_nodes::told(node, a)
 }
 
 #[no_mangle]
@@ -255,9 +60,9 @@ pub extern "C" fn bodega_bars(
     commit: u64,
     exec: u64,
 ) -> Called
-    ensures { λ r. ⌜ Answers ready view (Bars start accept commit exec) (nodeOf node) (now (mem .entry)) (now (area .entry)) (given r) (now (mem .exit)) (now (area .entry)) ⌝ }
+    ensures { λ r. ⌜ Answers ready view (Bars start accept commit exec) (nodeOf node) (now (mem .entry)) (now (area .entry)) (given r) (now (mem .exit)) (now (area .entry)) × GivesBack node r ⌝ }
 {
-    let n = node_of(node);
+    let n = plain_nodes::node_of(node);
     let a = bars::bars(
         n,
         mem,
@@ -267,7 +72,7 @@ pub extern "C" fn bodega_bars(
         Slot(commit),
         Slot(exec),
     );
-    told(a)
+    plain_nodes::told(node, a)
 }
 
 #[no_mangle]
@@ -280,11 +85,11 @@ pub extern "C" fn bodega_record(
     rows: &[u64],
     text: &[u8],
 ) -> Called
-    ensures { λ r. ⌜ Answers ready view (Record slot ballot (batchOf (now (rows .entry)) (now (text .entry)))) (nodeOf node) (now (mem .entry)) (now (area .entry)) (given r) (now (mem .exit)) (now (area .entry)) ⌝ }
+    ensures { λ r. ⌜ Answers ready view (Record slot ballot (batchOf (now (rows .entry)) (now (text .entry)))) (nodeOf node) (now (mem .entry)) (now (area .entry)) (given r) (now (mem .exit)) (now (area .entry)) × GivesBack node r ⌝ }
 {
-    let n = node_of(node);
+    let n = plain_nodes::node_of(node);
     let a = record::record(n, mem, area, Slot(slot), Ballot(ballot), rows, text);
-    told(a)
+    plain_nodes::told(node, a)
 }
 
 #[no_mangle]
@@ -301,10 +106,10 @@ pub extern "C" fn bodega_heartbeat(
     exec: u64,
     snap: u64,
 ) -> Called
-    ensures { λ r. ⌜ Answers (λ n m. ready n m && fitting attached (roster .ranges) (now (rows .entry))) view (Heartbeat peer ballot (carried attached (rosterOf (confOf roster) (now (rows .entry)))) commit exec snap) (nodeOf node) (now (mem .entry)) (now (area .entry)) (given r) (now (mem .exit)) (now (area .exit)) ⌝ }
+    ensures { λ r. ⌜ Answers (λ n m. ready n m && fitting attached (roster .ranges) (now (rows .entry))) view (Heartbeat peer ballot (carried attached (rosterOf (confOf roster) (now (rows .entry)))) commit exec snap) (nodeOf node) (now (mem .entry)) (now (area .entry)) (given r) (now (mem .exit)) (now (area .exit)) × GivesBack node r ⌝ }
 {
-    let n = node_of(node);
-    let conf = conf_of(roster);
+    let n = plain_nodes::node_of(node);
+    let conf = plain_nodes::conf_of(roster);
     let commit = Slot(commit);
     let exec = Slot(exec);
     let snap = Slot(snap);
@@ -321,7 +126,7 @@ pub extern "C" fn bodega_heartbeat(
         exec,
         snap,
     );
-    told(a)
+    plain_nodes::told(node, a)
 }
 
 #[no_mangle]
@@ -333,11 +138,11 @@ pub extern "C" fn bodega_reply(
     slot: u64,
     ballot: u64,
 ) -> Called
-    ensures { λ r. ⌜ Answers ready view (Reply peer slot ballot) (nodeOf node) (now (mem .entry)) (now (area .entry)) (given r) (now (mem .exit)) (now (area .exit)) ⌝ }
+    ensures { λ r. ⌜ Answers ready view (Reply peer slot ballot) (nodeOf node) (now (mem .entry)) (now (area .entry)) (given r) (now (mem .exit)) (now (area .exit)) × GivesBack node r ⌝ }
 {
-    let n = node_of(node);
+    let n = plain_nodes::node_of(node);
     let a = reply::reply(n, mem, area, Replica(peer), Slot(slot), Ballot(ballot));
-    told(a)
+    plain_nodes::told(node, a)
 }
 
 #[no_mangle]
@@ -349,11 +154,11 @@ pub extern "C" fn bodega_notice(
     slot: u64,
     ballot: u64,
 ) -> Called
-    ensures { λ r. ⌜ Answers ready view (Notice peer slot ballot) (nodeOf node) (now (mem .entry)) (now (area .entry)) (given r) (now (mem .exit)) (now (area .exit)) ⌝ }
+    ensures { λ r. ⌜ Answers ready view (Notice peer slot ballot) (nodeOf node) (now (mem .entry)) (now (area .entry)) (given r) (now (mem .exit)) (now (area .exit)) × GivesBack node r ⌝ }
 {
-    let n = node_of(node);
+    let n = plain_nodes::node_of(node);
     let a = notice::notice(n, mem, area, Replica(peer), Slot(slot), Ballot(ballot));
-    told(a)
+    plain_nodes::told(node, a)
 }
 
 #[no_mangle]
@@ -365,11 +170,11 @@ pub extern "C" fn bodega_commit(
     ballot: u64,
     bar: u64,
 ) -> Called
-    ensures { λ r. ⌜ Answers ready view (CommitNotice peer ballot bar) (nodeOf node) (now (mem .entry)) (now (area .entry)) (given r) (now (mem .exit)) (now (area .exit)) ⌝ }
+    ensures { λ r. ⌜ Answers ready view (CommitNotice peer ballot bar) (nodeOf node) (now (mem .entry)) (now (area .entry)) (given r) (now (mem .exit)) (now (area .exit)) × GivesBack node r ⌝ }
 {
-    let n = node_of(node);
+    let n = plain_nodes::node_of(node);
     let a = commit::commit(n, mem, area, Replica(peer), Ballot(ballot), Slot(bar));
-    told(a)
+    plain_nodes::told(node, a)
 }
 
 #[no_mangle]
@@ -382,11 +187,11 @@ pub extern "C" fn bodega_read(
     leases: u64,
     key: &[u8],
 ) -> Called
-    ensures { λ r. ⌜ Answers ready view (Read leases (record { client = client; request = request; key = now (key .entry) })) (nodeOf node) (now (mem .entry)) (now (area .entry)) (given r) (now (mem .exit)) (now (area .exit)) ⌝ }
+    ensures { λ r. ⌜ Answers ready view (Read leases (record { client = client; request = request; key = now (key .entry) })) (nodeOf node) (now (mem .entry)) (now (area .entry)) (given r) (now (mem .exit)) (now (area .exit)) × GivesBack node r ⌝ }
 {
-    let n = node_of(node);
+    let n = plain_nodes::node_of(node);
     let a = read::read(n, mem, area, client, request, leases, key);
-    told(a)
+    plain_nodes::told(node, a)
 }
 
 #[no_mangle]
@@ -396,9 +201,9 @@ pub extern "C" fn bodega_release(
     area: &mut [u64],
     slot: u64,
 ) -> Called
-    ensures { λ r. ⌜ Answers ready view (Release slot) (nodeOf node) (now (mem .entry)) (now (area .entry)) (given r) (now (mem .exit)) (now (area .exit)) ⌝ }
+    ensures { λ r. ⌜ Answers ready view (Release slot) (nodeOf node) (now (mem .entry)) (now (area .entry)) (given r) (now (mem .exit)) (now (area .exit)) × GivesBack node r ⌝ }
 {
-    let n = node_of(node);
+    let n = plain_nodes::node_of(node);
     let a = release::release(n, mem, area, Slot(slot));
-    told(a)
+    plain_nodes::told(node, a)
 }

@@ -22,7 +22,7 @@ same-length-2 : tie.Need-same-length-2
 same-length-2 c = search needs
 
 returns : tie.Need-returns
-returns c = search (needs, law.heard)
+returns c = search (needs, law.heard, law.gives-back)
 
 pub bodega-heartbeat-spec : {M : Type 1} → statement M
 bodega-heartbeat-spec =

@@ -13,7 +13,7 @@ told-requires : tie.Need-told-requires
 told-requires c κs = search needs
 
 returns : tie.Need-returns
-returns c = search (needs, law.answers)
+returns c = search (needs, law.answers, law.gives-back)
 
 pub bodega-prepared-spec : {M : Type 1} → statement M
 bodega-prepared-spec =

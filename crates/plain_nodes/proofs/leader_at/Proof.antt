@@ -1,6 +1,6 @@
-use Rattle.calls_exports.proofs.Laws as law
-use Rattle.calls_exports.proofs.leader_at.Statement.{statement}
-use Rattle.calls_exports.proofs.leader_at.Tie as tie
+use Rattle.plain_nodes.proofs.Laws as law
+use Rattle.plain_nodes.proofs.leader_at.Statement.{statement}
+use Rattle.plain_nodes.proofs.leader_at.Tie as tie
 
 returns : tie.Need-returns
 returns c = law.leader-none _ _ (c .if1 .taken)

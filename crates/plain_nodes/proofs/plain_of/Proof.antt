@@ -1,7 +1,7 @@
-use Rattle.calls_exports.proofs.Laws as law
+use Rattle.plain_nodes.proofs.Laws as law
 use borrow.Author.Needs.{needs}
-use Rattle.calls_exports.proofs.plain_of.Statement.{statement}
-use Rattle.calls_exports.proofs.plain_of.Tie as tie
+use Rattle.plain_nodes.proofs.plain_of.Statement.{statement}
+use Rattle.plain_nodes.proofs.plain_of.Tie as tie
 
 leader-in-requires : tie.Need-leader-in-requires
 leader-in-requires c κs = search needs

@@ -1,4 +1,5 @@
 -- The node and a roster as plain structs, for a caller that has no enums. Assumes nothing: these are definitions.
+use mathlib.Core.Path.{_≡_}
 use Prim.Native.Nat.{ℕ}
 use lib.Dec.{eqb}
 use Rattle.words.specs.Choice.{if_then_else_}
@@ -10,9 +11,9 @@ use Rattle.node.specs.declared.Answered.{Answered}
 use Rattle.node.specs.declared.Fresh.{Fresh}
 use Rattle.node.specs.declared.Fresh.the-variants.{Made, Refused}
 use Rattle.bodega.specs.Answers.{Given}
-use Rattle.calls_exports.specs.declared.Plain.{Plain}
-use Rattle.calls_exports.specs.declared.Called.{Called}
-use Rattle.calls_exports.specs.declared.Roster.{Roster}
+use Rattle.plain_nodes.specs.declared.Plain.{Plain}
+use Rattle.plain_nodes.specs.declared.Called.{Called}
+use Rattle.plain_nodes.specs.declared.Roster.{Roster}
 
 abbrev pub leaderAt : ℕ → ℕ → Leader
 leaderAt has l = if eqb has 0 then None else Some (record { 0 = l })
@@ -78,12 +79,49 @@ plainWith l has n =
 abbrev pub plainOf : Node → Plain
 plainOf n = plainWith (leaderIn (n .«bodega_conf» .leader)) (hasLeader (n .«bodega_conf» .leader)) n
 
-abbrev pub calledOf : Answered → Called
-calledOf a = record { number = a .number; count = a .count; node = plainOf (a .node) }
+-- all fields are 0
+abbrev pub noNode : Plain
+noNode =
+    record {
+      id = 0;
+      population = 0;
+      quorum = 0;
+      leader = 0;
+      «has_leader» = 0;
+      ranges = 0;
+      default = 0;
+      «bal_max_seen» = 0;
+      «bal_prep_sent» = 0;
+      «bal_prepared» = 0;
+      «start_slot» = 0;
+      «accept_bar» = 0;
+      «commit_bar» = 0;
+      «exec_bar» = 0;
+      «snap_bar» = 0;
+      «peer_accept_max» = 0;
+      slots = 0;
+    }
 
--- read back
+-- ---- what the functions give
+
+abbrev pub shownOf : Plain → Answered → Plain
+shownOf p a = if eqb (a .number) 0 then plainOf (a .node) else p
+
+abbrev pub toldOf : Plain → Answered → Called
+toldOf p a = record { number = a .number; count = a .count; node = shownOf p a }
+
+unfoldable pub begunOf : Fresh → Called
+begunOf (Made n) = record { number = 0; count = 0; node = plainOf n }
+begunOf (Refused k) = record { number = k; count = 0; node = noNode }
+
+-- ---- read back
+
 abbrev pub given : Called → Given Node
 given r = record { number = r .number; count = r .count; node = nodeOf (r .node) }
 
 abbrev pub freshOf : Called → Fresh
 freshOf r = if eqb (r .number) 0 then Made (nodeOf (r .node)) else Refused (r .number)
+
+-- No field is free: a call that is taken gives what `plainOf` makes of its node, one that is refused what it was handed.
+unfoldable pub GivesBack : Plain → Called → Type 0
+GivesBack p r = r .node ≡ (if eqb (r .number) 0 then plainOf (nodeOf (r .node)) else p)
