@@ -1,11 +1,14 @@
 // A sum over a whole node, or over a roster, to compare with one made elsewhere.
 use ids::Leader;
+use ids::Replica;
+use ids::Slot;
 use node::Node;
 use responders::RespondersConf;
 ghost use mathlib.Core.Path.{_≡_};
 ghost use Prim.Native.Nat.{_+_, _-_, _<_, _≤_, min};
 ghost use lib.ListN.{getD};
 ghost use Rattle.words.specs.Tab.{run};
+ghost use Rattle.ids.specs.Limits.{window};
 ghost use Rattle.decimal.specs.Digits.{decimal};
 ghost use Rattle.node_sum.specs.Sum.{plusByte, plusBytes, plusNumber, plusNumbers, sumOf};
 ghost use Rattle.node_sum.specs.Numbers.{leaderNumber, rosterNumbers, tableOf, ifAny, cellOf, readsOf, slotOf, slotsOf, shortOf, peersOf, nodeNumbers};
@@ -159,15 +162,16 @@ fn plus_slot(sum: u32, m: &[u64], c: usize) -> u32
     ensures { λ r. ⌜ r ≡ plusNumbers sum (slotOf (now (m .entry)) c) ⌝ }
 {
     let a = plus_cell(sum, m, CELLS + 8 * c);
-    let b = plus_table(a, m, BATCHES + 89 * c, 11, 8);
+    let b = plus_table(a, m, BATCHES + 89 * c, 11, batch::BATCH);
     plus_reads(b, m, c)
 }
 
-fn plus_slots(sum: u32, m: &[u64], start: u64, n: usize) -> u32
-    requires { ⌜ n ≤ 32 ⌝ }
-    ensures { λ r. ⌜ r ≡ plusNumbers sum (slotsOf (now (m .entry)) start n) ⌝ }
+fn plus_slots(sum: u32, m: &[u64], start: Slot, n: usize) -> u32
+    requires { ⌜ n ≤ window ⌝ }
+    ensures { λ r. ⌜ r ≡ plusNumbers sum (slotsOf (now (m .entry)) (start .0) n) ⌝ }
 {
-    let first = (start % 32) as usize;
+    let from = start.0;
+    let first = (from % 32) as usize;
     let mut s = sum;
     let mut i = 0;
     while i < n {
@@ -216,10 +220,10 @@ fn above(id: usize, population: usize) -> usize
 }
 
 // All guard pairs, and the exec bars but for the own one.
-fn plus_peers(sum: u32, m: &[u64], id: u8, population: u8) -> u32
-    ensures { λ r. ⌜ r ≡ plusNumbers sum (peersOf id population (now (m .entry))) ⌝ }
+fn plus_peers(sum: u32, m: &[u64], id: Replica, population: u8) -> u32
+    ensures { λ r. ⌜ r ≡ plusNumbers sum (peersOf (id .0) population (now (m .entry))) ⌝ }
 {
-    let me = id as usize;
+    let me = id.0 as usize;
     let n = population as usize;
     let a = plus_words(sum, m, 0, n);
     let b = plus_words(a, m, BARS, n);
@@ -231,13 +235,13 @@ pub fn of_node(node: Node, mem: &[u64]) -> u32
     ensures { λ r. ⌜ r ≡ sumOf (nodeNumbers node (now (mem .entry))) ⌝ }
 {
     let a = of_short(node);
-    let b = plus_peers(a, mem, node.id.0, node.population);
+    let b = plus_peers(a, mem, node.id, node.population);
     let c = plus_words(
         b,
         mem,
         ROWS,
         5 * least(node.bodega_conf.count, RespondersConf::RANGES),
     );
-    let d = plus_slots(c, mem, node.start_slot.0, least(node.slots, Node::WINDOW));
+    let d = plus_slots(c, mem, node.start_slot, least(node.slots, Node::WINDOW));
     plus_table(d, mem, WRITTEN, 8, Node::KEYS)
 }

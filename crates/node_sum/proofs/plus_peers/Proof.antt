@@ -3,6 +3,9 @@ use Rattle.node_sum.proofs.Laws as law
 use Rattle.node_sum.proofs.plus_peers.Statement.{statement}
 use Rattle.node_sum.proofs.plus_peers.Tie as tie
 
+cast-me : tie.Need-cast-me
+cast-me c = search needs
+
 plus-words-requires : tie.Need-plus-words-requires
 plus-words-requires c κs = search needs
 
@@ -31,6 +34,7 @@ pub plus-peers-spec : {M : Type 1} → statement M
 plus-peers-spec =
     tie.close
     (tie.spec
+    cast-me
     plus-words-requires
     plus-words-requires-2
     plus-words-requires-3

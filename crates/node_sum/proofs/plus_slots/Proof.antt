@@ -9,10 +9,10 @@ use Rattle.node_sum.proofs.plus_slots.Statement.{statement}
 use Rattle.node_sum.proofs.plus_slots.Tie as tie
 
 abbrev Inv-loop : tie.InvT-loop
-Inv-loop sum m start n first s₀ i₀ s i = (i ≤ n) × (plusNumbers s (slotsOf m (start + i) (n - i)) ≡ plusNumbers sum (slotsOf m start n))
+Inv-loop sum m n from first s₀ i₀ s i = (i ≤ n) × (plusNumbers s (slotsOf m (from + i) (n - i)) ≡ plusNumbers sum (slotsOf m from n))
 
 abbrev μ-loop : tie.MeasureT-loop
-μ-loop sum m start n first s₀ i₀ s i = n - i
+μ-loop sum m n from first s₀ i₀ s i = n - i
 
 loop-holds : tie.Need-loop-holds Inv-loop μ-loop
 loop-holds c = search (needs, law.slots-begin)
