@@ -61,7 +61,8 @@ unfoldable pub leading : ℕ → List Bytes → ℕ
 leading zero fs = 0
 leading (suc k) fs = if isNumber (getD fs 0 []) then suc (leading k (drop 1 fs)) else 0
 
--- so many numbers are put into `out`, whose other words stay; the fields after them are left, and where there is no number the position stands
+-- so many numbers are put into `out`, whose other words stay; the fields after them are left, and where there is no
+-- number the position stands
 pub record ReadsNumbersAt (s : Bytes) (at k : ℕ) (out : List ℕ) (r : NumbersAt) (out′ : List ℕ) : Type 0 where
   pub good : r .good ≡ eqb (leading k (fieldsFrom s at)) k
   pub values : (i : ℕ) → i < leading k (fieldsFrom s at) → getD out′ i 0 ≡ numberAt (fieldsFrom s at) i

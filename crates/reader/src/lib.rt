@@ -1,5 +1,5 @@
-// A reader that keeps its line and its position. Each function over it is thin, with the work in `fields`; those with plain
-// parameters stand above it, and read all fields that they are asked for through one reader.
+// A reader that keeps its line and its position. Each function over it is thin, with the work in `fields`; those with
+// plain parameters stand above it, and read all fields that they are asked for through one reader.
 use fields::Field;
 use fields::NumberAt;
 use fields::NumbersAt;
@@ -71,7 +71,8 @@ pub fn next_optional<'s, 'a>(r: &'s mut LineReader<'a>) -> OptionalAt
     n
 }
 
-// The first k fields that are left, if they are numbers. The reader moves on past those that are, up to the first that is none.
+// The first k fields that are left, if they are numbers. The reader moves on past those that are, up to the first that
+// is none.
 pub fn next_numbers<'s, 'a>(r: &'s mut LineReader<'a>, k: usize, out: &mut [u64]) -> bool
     requires { ⌜ k ≤ length (now out) ⌝ }
     ensures { λ n. ⌜ TakesNumbers (now (r .entry)) k (now (out .entry)) n (now (r .exit)) (now (out .exit)) ⌝ }

@@ -48,8 +48,8 @@ fn no_group(at: usize) -> Group
     }
 }
 
-// The group that begins at a position. The reader stands at a field that is no number, so the second number is one only after
-// the first.
+// The group that begins at a position. The reader stands at a field that is no number, so the second number is one only
+// after the first.
 fn group_at(line: &[u8], at: usize) -> Group
     ensures { λ r. ⌜ ReadsGroup (now (line .entry)) at r ⌝ }
 {
