@@ -204,9 +204,8 @@ fn drafted(from: State, population: u64) -> State {
 }
 
 // Start, commit and exec bar at a slot: no list of calls gets there soon.
-fn jumped(from: State, slot: u64) -> State {
+fn jumped(from: State, bar: Slot) -> State {
     let mut node = from.node;
-    let bar = Slot(slot);
     node.start_slot = bar;
     node.commit_bar = bar;
     node.exec_bar = bar;
@@ -231,7 +230,7 @@ fn prepare(from: State, line: &[u8]) -> State {
             s
         }
         b'd' => drafted(s, a.value),
-        b'j' => jumped(s, a.value),
+        b'j' => jumped(s, Slot(a.value)),
         _ => s,
     }
 }
