@@ -24,8 +24,8 @@ use mathlib.Core.List.{List, [], _∷_, map}
 use mathlib.Core.Option.{none, some}
 use mathlib.Core.Path.{_≡_, refl}
 use Rattle.items.specs.Item.{Item, Value, Absent, Store, Pass, Hold, Retry, Resend, Commit, Lead, Prelog, Prepare}
-use Rattle.responders.specs.Conf.{empty, setLeader, setFull, intoFiltered, resetFull}
-use Rattle.responders.specs.Edit.{edit, SetResponders}
+use Rattle.roster_conf.specs.Conf.{empty, setLeader, setFull, intoFiltered, resetFull}
+use Rattle.roster_conf.specs.Edit.{edit, SetResponders}
 use Rattle.bodega.specs.Replica.{Request, ReadReq, Put, Get, Replica, fresh, Call, Heartbeat, Guard, Prepared, Record, Reply, Notice, CommitNotice, Bars, Read, Release}
 use Rattle.bodega.specs.Step.{Step, Refused, Taken, answers}
 use Rattle.bodega.specs.Text.{bytes}
@@ -169,9 +169,9 @@ def main():
         body = "\n    ".join(f"({c}) gives ({a}) then" for c, a in pairs)
         texts.append(f"abbrev {name} : List Told\n{name} =\n    ({body}\n    [])\n\nplays-{name} : Plays (fresh {node}) {name}\nunfolding computes edit\nplays-{name} = refl\n\n")
     repo = os.path.join(work, "repo")
-    shutil.copytree(os.path.join(ROOT, "crates"), os.path.join(repo, "crates"), ignore=shutil.ignore_patterns("must-fail", "inty_keys", "inty_lines", "exports"))
+    shutil.copytree(os.path.join(ROOT, "crates"), os.path.join(repo, "crates"), ignore=shutil.ignore_patterns("must-fail", "key_program", "key_lines", "exports"))
     with open(os.path.join(ROOT, "crates.txt"), encoding="utf-8") as f:
-        listed = [l for l in f if not l.startswith(("#", "inty_keys", "inty_lines", "exports"))]
+        listed = [l for l in f if not l.startswith(("#", "key_program", "key_lines", "exports"))]
     crate = os.path.join(repo, "crates", "definitions")
     for part in ("src", "specs", "proofs"):
         os.makedirs(os.path.join(crate, part))

@@ -13,8 +13,8 @@ if [ "${1:-}" = --there ]; then
     there
     exit
 fi
-if ! cmp recorded/scripts.rec ../crates/vectors/stdin; then
-    echo "oracle: crates/vectors/stdin is not recorded/scripts.rec"
+if ! cmp recorded/scripts.rec ../crates/test_scripts/stdin; then
+    echo "oracle: crates/test_scripts/stdin is not recorded/scripts.rec"
     exit 1
 fi
 if ! command -v cargo >/dev/null 2>&1 || ! there; then

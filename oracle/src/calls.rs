@@ -1,4 +1,4 @@
-//! Recorded calls for the program `crates/calls_main`: the ten calls of
+//! Recorded calls for the program `crates/test_calls`: the ten calls of
 //! document 01 and edits of a draft, the oracle's answer to each, and a sum
 //! over the whole node and one over the draft after it.
 

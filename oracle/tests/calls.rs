@@ -33,7 +33,7 @@ fn calls(recording: &Recording, name: &str) -> u64 {
 
 #[test]
 fn files_are_the_oracles() {
-    let folder = Path::new(env!("CARGO_MANIFEST_DIR")).join("../crates/calls_main");
+    let folder = Path::new(env!("CARGO_MANIFEST_DIR")).join("../crates/test_calls");
     let recording = make();
     assert!(std::fs::read(folder.join("stdin")).unwrap() == recording.input);
     assert!(std::fs::read(folder.join("stdout")).unwrap() == recording.output);

@@ -55,7 +55,7 @@ fn every_line_kind_refusal_and_item_kind_is_reached() {
     assert!(sent.iter().all(|&s| s), "{sent:?}");
 }
 
-// test.sh holds the copy that crates/vectors reads to the file
+// test.sh holds the copy that crates/test_scripts reads to the file
 #[test]
 fn the_gate_expects_the_numbers_of_the_file() {
     let scripts = file();
@@ -63,7 +63,7 @@ fn the_gate_expects_the_numbers_of_the_file() {
         .iter()
         .map(|script| Script::of(&script.input).lines.len())
         .sum();
-    let folder = Path::new(env!("CARGO_MANIFEST_DIR")).join("../crates/vectors");
+    let folder = Path::new(env!("CARGO_MANIFEST_DIR")).join("../crates/test_scripts");
     assert_eq!(
         std::fs::read_to_string(folder.join("stdout")).unwrap(),
         format!("{} scripts, {lines} lines, 0 differ\n", scripts.len())

@@ -1,10 +1,10 @@
 -- Every definition of the machine open at once, for proofs by computing. Assumes nothing.
 use Rattle.bitmap.specs.Bitmap.{tally, every, get, mark, unmark, setTo, count, isSuperset, fits}
-use Rattle.responders.specs.Conf.{getRespondersByKey, setResponders, intoFiltered, same}
+use Rattle.roster_conf.specs.Conf.{getRespondersByKey, setResponders, intoFiltered, same}
 use Rattle.keys.specs.Read.{readKey}
 use Rattle.keys.specs.Same.{sameBytes}
-use Rattle.ranges.specs.Range.{overwrite, remasked}
-use Rattle.ranges.specs.Canon.{isCanon}
+use Rattle.roster_ranges.specs.Range.{overwrite, remasked}
+use Rattle.roster_ranges.specs.Canon.{isCanon}
 use Rattle.bodega.specs.Replica.{fresh, instAt, setInst, pad}
 use Rattle.bodega.specs.Localread.{isStableLeader, commitCondition, raise, refreshHighestSlot, highestOf, isBound, lastPut, inspectHighestSlot, inspectLatestWrite, holdRead, releaseHeldReadReqs, releaseFrom}
 use Rattle.bodega.specs.Request.{settled, readAnswer, treatRead}

@@ -5,8 +5,8 @@ use mathlib.Core.List.{List, [], _∷_, _++_}
 use mathlib.Core.Option.{Option, none, some}
 use mathlib.Core.Path.{_≡_, refl, sym, _∙_}
 use native.Mathlib.Omega.{arith}
-use Rattle.responders.specs.Ground.{Ground, Ascends, refusal}
-use Rattle.responders.proofs.Grounds.{zero-one, lowest, NoneApply, none-apply, none-before, Positive, not-0}
+use Rattle.roster_conf.specs.Ground.{Ground, Ascends, refusal}
+use Rattle.roster_conf.proofs.Grounds.{zero-one, lowest, NoneApply, none-apply, none-before, Positive, not-0}
 use Rattle.bodega.specs.Replica.{Replica, Call, Heartbeat, Guard, Prepared, Record, Reply, Notice, CommitNotice, Bars, Read, Release, Done}
 use Rattle.bodega.specs.Grounds.{grounds}
 use Rattle.bodega.specs.Step.{effect, allGrounds, turnedAway, LowestFirst, step, stepBy, isTaken}

@@ -8,7 +8,7 @@ use lib.ListN.{length, getD, set, replicate}
 use Rattle.rank.specs.Sort.{sort}
 use Rattle.words.specs.Choice.{if_then_else_}
 use Rattle.ids.specs.Limits.{beyond}
-use Rattle.responders.specs.Conf.{Conf}
+use Rattle.roster_conf.specs.Conf.{Conf}
 use Rattle.items.specs.Item.{Item, Lead, Prelog, Prepare}
 use Rattle.bodega.specs.Replica.{Instance, Preparing, Replica, Pair, pair, freshPair, Done, done, _andThen_, isOpen, isLeader, nullInstance, withBal, withPeerAccept, withPeerExecBar, withConf, withInsts, withMaxSeen}
 use Rattle.bodega.specs.Localread.{releaseFrom}

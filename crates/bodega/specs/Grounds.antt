@@ -6,14 +6,14 @@ use mathlib.Core.List.{List, [], _∷_}
 use mathlib.Core.Option.{Option}
 use lib.Dec.{ltb, leb, eqb}
 use lib.ListN.{length, take}
-use Rattle.ranges.specs.Range.{Range}
-use Rattle.responders.specs.Ground.{Ground, _when_or_}
-use Rattle.responders.specs.Edit.{longKey}
+use Rattle.roster_ranges.specs.Range.{Range}
+use Rattle.roster_conf.specs.Ground.{Ground, _when_or_}
+use Rattle.roster_conf.specs.Edit.{longKey}
 use Rattle.words.specs.Choice.{if_then_else_, ifNone_then_else_}
 use Rattle.ids.specs.Limits.{window, hold, keys, batch, top}
 use Rattle.bitmap.specs.Bitmap.{fits}
-use Rattle.responders.specs.Conf.{Conf, leads}
-use Rattle.responders.specs.Run.{isGood}
+use Rattle.roster_conf.specs.Conf.{Conf, leads}
+use Rattle.roster_conf.specs.Run.{isGood}
 use Rattle.bodega.specs.Replica.{Request, Instance, Replica, Call, Heartbeat, Guard, Prepared, Record, Reply, Notice, CommitNotice, Bars, Read, Release, isOpen, isLeader, end, instAt}
 use Rattle.bodega.specs.Localread.{refreshHighestSlot, Answer, Found, Missing, FromStore, Consensus, HeldBy, Again}
 use Rattle.bodega.specs.Request.{readAnswer}

@@ -7,7 +7,7 @@ use lib.Dec.{ltb, leb, eqb}
 use lib.ListN.{getD, take, drop, set}
 use Rattle.words.specs.Choice.{if_then_else_, ifNone_then_else_}
 use Rattle.bitmap.specs.Bitmap.{every}
-use Rattle.responders.specs.Conf.{Conf, intoFiltered, same}
+use Rattle.roster_conf.specs.Conf.{Conf, intoFiltered, same}
 use Rattle.items.specs.Item.{Item, Lead, Commit}
 use Rattle.bodega.specs.Replica.{Instance, Committed, Replica, Done, done, _andThen_, order, isOpen, isLeader, withStatus, withConf, withInsts, withPeerExecBar, withMaxSeen, withSnap}
 use Rattle.bodega.specs.Conflease.{heardNewConf}

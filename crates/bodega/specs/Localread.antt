@@ -7,7 +7,7 @@ use lib.Dec.{ltb, leb, eqb}
 use Rattle.words.specs.Choice.{if_then_else_, ifNone_then_else_}
 use Rattle.keys.specs.Same.{sameBytes}
 use Rattle.bitmap.specs.Bitmap.{count, isSuperset}
-use Rattle.responders.specs.Conf.{Conf, getRespondersByKey}
+use Rattle.roster_conf.specs.Conf.{Conf, getRespondersByKey}
 use Rattle.items.specs.Item.{Item, Value, Retry}
 use Rattle.bodega.specs.Replica.{Bytes, Command, Get, Put, Request, ReadReq, Instance, Highest, Replica, Done, done, _andThen_, order, isAccepting, isOpen, withReplicaBk, withHolding, isLeader, instAt, setInst}
 

@@ -4,9 +4,9 @@ use mathlib.Core.Bool.{true, false}
 use mathlib.Core.Path.{_≡_}
 use mathlib.Core.List.{List, [], _∷_}
 use mathlib.Core.Option.{none, some}
-use Rattle.ranges.specs.Range.{Range}
+use Rattle.roster_ranges.specs.Range.{Range}
 use Rattle.bodega.specs.Text.{bytes, reads}
-use Rattle.responders.specs.Conf.{Conf, empty, setResponders, setFull, intoFiltered}
+use Rattle.roster_conf.specs.Conf.{Conf, empty, setResponders, setFull, intoFiltered}
 use Rattle.bodega.specs.Replica.{Request, Put}
 use Rattle.bodega.specs.Localread.{commitCondition}
 

@@ -10,7 +10,7 @@ use lib.ListN.{length, replicate, set, getElem?}
 use Rattle.words.specs.Choice.{if_then_else_}
 use Rattle.ids.specs.Limits.{beyond}
 use Rattle.items.specs.Item.{Item}
-use Rattle.responders.specs.Conf.{Conf, empty, leads}
+use Rattle.roster_conf.specs.Conf.{Conf, empty, leads}
 
 -- ---- requests and reads
 

@@ -6,7 +6,7 @@ use lib.Dec.{ltb}
 use Rattle.words.specs.Choice.{if_then_else_, ifNone_then_else_}
 use Rattle.bitmap.specs.Bitmap.{get}
 use Rattle.keys.specs.Read.{readKey}
-use Rattle.ranges.specs.Range.{at, maskAt}
+use Rattle.roster_ranges.specs.Range.{at, maskAt}
 use Rattle.items.specs.Item.{Value, Absent, Store, Pass, Hold}
 use Rattle.bodega.specs.Replica.{Bytes, ReadReq, Replica, Done, done}
 use Rattle.bodega.specs.Localread.{isStableLeader, inspectLatestWrite, Settled, StableLeader, FewLeases, UnreadKey, StoredRange, DefaultRoster, Bar, Answer, Found, Missing, FromStore, Consensus, HeldBy, Again, answerOf, holdRead, retry}

@@ -14,7 +14,7 @@ use Rattle.bodega.specs.Conflease.{guardAcceptBar}
 use Rattle.bodega.specs.Heartbeat.{heardHeartbeat, heardCommitNotice}
 use Rattle.bodega.specs.Messages.{handleMsgAcceptReply, handleMsgAcceptNotice}
 use Rattle.bodega.specs.Events.{prepared, recorded, bars}
-use Rattle.responders.specs.Ground.{Ground, _when_or_, refusal, Applies}
+use Rattle.roster_conf.specs.Ground.{Ground, _when_or_, refusal, Applies}
 use Rattle.bodega.specs.Grounds.{grounds}
 
 -- what a call does where nothing turns it away

@@ -16,14 +16,14 @@ use Rattle.node.specs.Begins.{Gives, Begins}
 use Rattle.bodega.specs.Replica.{Call, Heartbeat}
 use Rattle.bodega.specs.Step as machine
 use Rattle.bodega.specs.Answers.{Given, due, Follows, Answers}
-use Rattle.responders.specs.Edits.{view as rosterOf}
-use Rattle.responders.specs.declared.RespondersConf.{RespondersConf}
-use Rattle.heartbeat.specs.Heartbeat.{fitting, carried}
-use Rattle.plain_nodes.specs.declared.Plain.{Plain}
-use Rattle.plain_nodes.specs.declared.Called.{Called}
-use Rattle.plain_nodes.specs.declared.Roster.{Roster}
-use Rattle.plain_nodes.specs.Plain.{confOf, nodeOf, plainOf, noNode, shownOf, toldOf, begunOf, given, freshOf, GivesBack}
-use Rattle.plain_nodes.proofs.Laws.{back}
+use Rattle.roster_conf.specs.Edits.{view as rosterOf}
+use Rattle.roster_conf.specs.declared.RespondersConf.{RespondersConf}
+use Rattle.call_heartbeat.specs.Heartbeat.{fitting, carried}
+use Rattle.export_plain.specs.declared.Plain.{Plain}
+use Rattle.export_plain.specs.declared.Called.{Called}
+use Rattle.export_plain.specs.declared.Roster.{Roster}
+use Rattle.export_plain.specs.Plain.{confOf, nodeOf, plainOf, noNode, shownOf, toldOf, begunOf, given, freshOf, GivesBack}
+use Rattle.export_plain.proofs.Laws.{back}
 
 -- a call that is refused leaves the node
 same-node : (ok : Node → List ℕ → Bool) (c : Call) (n : Node) (mem area : List ℕ) (g : Given Node) (mem′ area′ : List ℕ) → Answers ok view c n mem area g mem′ area′ → (g .number ≡ 0 → ⊥) → g .node ≡ n

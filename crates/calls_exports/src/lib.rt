@@ -1,28 +1,28 @@
 // The calls for Rust and C, over plain structs.
+use export_plain::Called;
+use export_plain::Plain;
+use export_plain::Roster;
 use ids::Ballot;
 use ids::Replica;
 use ids::Slot;
 use node::Node;
-use plain_nodes::Called;
-use plain_nodes::Plain;
-use plain_nodes::Roster;
 ghost use mathlib.Core.Path.{_≡_};
 ghost use mathlib.Core.Bool.{_&&_};
 ghost use Rattle.bodega.specs.Replica.{Guard, Prepared, Bars, Record, Heartbeat, Reply, Notice, CommitNotice, Read, Release};
-ghost use Rattle.requests.specs.Given.{given as batchOf};
-ghost use Rattle.responders.specs.Edits.{view as rosterOf};
-ghost use Rattle.heartbeat.specs.Heartbeat.{fitting, carried};
+ghost use Rattle.req_batch.specs.Given.{given as batchOf};
+ghost use Rattle.roster_conf.specs.Edits.{view as rosterOf};
+ghost use Rattle.call_heartbeat.specs.Heartbeat.{fitting, carried};
 ghost use Rattle.bodega.specs.Answers.{Answers};
 ghost use Rattle.node.specs.View.{view, ready};
 ghost use Rattle.node.specs.Begins.{Begins};
-ghost use Rattle.plain_nodes.specs.Plain.{nodeOf, confOf, given, freshOf, noNode, GivesBack};
+ghost use Rattle.export_plain.specs.Plain.{nodeOf, confOf, given, freshOf, noNode, GivesBack};
 
 #[no_mangle]
 pub extern "C" fn bodega_fresh(mem: &mut [u64], id: u8, population: u8, quorum: u8) -> Called
     ensures { λ r. ⌜ Begins id population quorum (now (mem .entry)) (freshOf r) (now (mem .exit)) × GivesBack noNode r × (r .count ≡ 0) ⌝ }
 {
     let fresh = Node::fresh(mem, Replica(id), population, quorum);
-    plain_nodes::begun(fresh)
+    export_plain::begun(fresh)
 }
 
 #[no_mangle]
@@ -36,18 +36,18 @@ pub extern "C" fn bodega_guard(
 ) -> Called
     ensures { λ r. ⌜ Answers ready view (Guard peer number bar) (nodeOf node) (now (mem .entry)) (now (area .entry)) (given r) (now (mem .exit)) (now (area .entry)) × GivesBack node r ⌝ }
 {
-    let n = plain_nodes::node_of(node);
-    let a = guard::guard(n, mem, area, Replica(peer), Ballot(number), Slot(bar));
-    plain_nodes::told(node, a)
+    let n = export_plain::node_of(node);
+    let a = call_guard::guard(n, mem, area, Replica(peer), Ballot(number), Slot(bar));
+    export_plain::told(node, a)
 }
 
 #[no_mangle]
 pub extern "C" fn bodega_prepared(node: Plain, mem: &[u64], area: &[u64], ballot: u64) -> Called
     ensures { λ r. ⌜ Answers ready view (Prepared ballot) (nodeOf node) (now (mem .entry)) (now (area .entry)) (given r) (now (mem .entry)) (now (area .entry)) × GivesBack node r ⌝ }
 {
-    let n = plain_nodes::node_of(node);
-    let a = prepared::prepared(n, mem, area, Ballot(ballot));
-    plain_nodes::told(node, a)
+    let n = export_plain::node_of(node);
+    let a = call_prepared::prepared(n, mem, area, Ballot(ballot));
+    export_plain::told(node, a)
 }
 
 #[no_mangle]
@@ -62,8 +62,8 @@ pub extern "C" fn bodega_bars(
 ) -> Called
     ensures { λ r. ⌜ Answers ready view (Bars start accept commit exec) (nodeOf node) (now (mem .entry)) (now (area .entry)) (given r) (now (mem .exit)) (now (area .entry)) × GivesBack node r ⌝ }
 {
-    let n = plain_nodes::node_of(node);
-    let a = bars::bars(
+    let n = export_plain::node_of(node);
+    let a = call_bars::bars(
         n,
         mem,
         area,
@@ -72,7 +72,7 @@ pub extern "C" fn bodega_bars(
         Slot(commit),
         Slot(exec),
     );
-    plain_nodes::told(node, a)
+    export_plain::told(node, a)
 }
 
 #[no_mangle]
@@ -87,9 +87,9 @@ pub extern "C" fn bodega_record(
 ) -> Called
     ensures { λ r. ⌜ Answers ready view (Record slot ballot (batchOf (now (rows .entry)) (now (text .entry)))) (nodeOf node) (now (mem .entry)) (now (area .entry)) (given r) (now (mem .exit)) (now (area .entry)) × GivesBack node r ⌝ }
 {
-    let n = plain_nodes::node_of(node);
-    let a = record::record(n, mem, area, Slot(slot), Ballot(ballot), rows, text);
-    plain_nodes::told(node, a)
+    let n = export_plain::node_of(node);
+    let a = call_record::record(n, mem, area, Slot(slot), Ballot(ballot), rows, text);
+    export_plain::told(node, a)
 }
 
 #[no_mangle]
@@ -108,12 +108,12 @@ pub extern "C" fn bodega_heartbeat(
 ) -> Called
     ensures { λ r. ⌜ Answers (λ n m. ready n m && fitting attached (roster .ranges) (now (rows .entry))) view (Heartbeat peer ballot (carried attached (rosterOf (confOf roster) (now (rows .entry)))) commit exec snap) (nodeOf node) (now (mem .entry)) (now (area .entry)) (given r) (now (mem .exit)) (now (area .exit)) × GivesBack node r ⌝ }
 {
-    let n = plain_nodes::node_of(node);
-    let conf = plain_nodes::conf_of(roster);
+    let n = export_plain::node_of(node);
+    let conf = export_plain::conf_of(roster);
     let commit = Slot(commit);
     let exec = Slot(exec);
     let snap = Slot(snap);
-    let a = heartbeat::heartbeat(
+    let a = call_heartbeat::heartbeat(
         n,
         mem,
         area,
@@ -126,7 +126,7 @@ pub extern "C" fn bodega_heartbeat(
         exec,
         snap,
     );
-    plain_nodes::told(node, a)
+    export_plain::told(node, a)
 }
 
 #[no_mangle]
@@ -140,9 +140,9 @@ pub extern "C" fn bodega_reply(
 ) -> Called
     ensures { λ r. ⌜ Answers ready view (Reply peer slot ballot) (nodeOf node) (now (mem .entry)) (now (area .entry)) (given r) (now (mem .exit)) (now (area .exit)) × GivesBack node r ⌝ }
 {
-    let n = plain_nodes::node_of(node);
-    let a = reply::reply(n, mem, area, Replica(peer), Slot(slot), Ballot(ballot));
-    plain_nodes::told(node, a)
+    let n = export_plain::node_of(node);
+    let a = call_reply::reply(n, mem, area, Replica(peer), Slot(slot), Ballot(ballot));
+    export_plain::told(node, a)
 }
 
 #[no_mangle]
@@ -156,9 +156,9 @@ pub extern "C" fn bodega_notice(
 ) -> Called
     ensures { λ r. ⌜ Answers ready view (Notice peer slot ballot) (nodeOf node) (now (mem .entry)) (now (area .entry)) (given r) (now (mem .exit)) (now (area .exit)) × GivesBack node r ⌝ }
 {
-    let n = plain_nodes::node_of(node);
-    let a = notice::notice(n, mem, area, Replica(peer), Slot(slot), Ballot(ballot));
-    plain_nodes::told(node, a)
+    let n = export_plain::node_of(node);
+    let a = call_notice::notice(n, mem, area, Replica(peer), Slot(slot), Ballot(ballot));
+    export_plain::told(node, a)
 }
 
 #[no_mangle]
@@ -172,9 +172,9 @@ pub extern "C" fn bodega_commit(
 ) -> Called
     ensures { λ r. ⌜ Answers ready view (CommitNotice peer ballot bar) (nodeOf node) (now (mem .entry)) (now (area .entry)) (given r) (now (mem .exit)) (now (area .exit)) × GivesBack node r ⌝ }
 {
-    let n = plain_nodes::node_of(node);
-    let a = commit::commit(n, mem, area, Replica(peer), Ballot(ballot), Slot(bar));
-    plain_nodes::told(node, a)
+    let n = export_plain::node_of(node);
+    let a = call_commit::commit(n, mem, area, Replica(peer), Ballot(ballot), Slot(bar));
+    export_plain::told(node, a)
 }
 
 #[no_mangle]
@@ -189,9 +189,9 @@ pub extern "C" fn bodega_read(
 ) -> Called
     ensures { λ r. ⌜ Answers ready view (Read leases (record { client = client; request = request; key = now (key .entry) })) (nodeOf node) (now (mem .entry)) (now (area .entry)) (given r) (now (mem .exit)) (now (area .exit)) × GivesBack node r ⌝ }
 {
-    let n = plain_nodes::node_of(node);
-    let a = read::read(n, mem, area, client, request, leases, key);
-    plain_nodes::told(node, a)
+    let n = export_plain::node_of(node);
+    let a = call_read::read(n, mem, area, client, request, leases, key);
+    export_plain::told(node, a)
 }
 
 #[no_mangle]
@@ -203,7 +203,7 @@ pub extern "C" fn bodega_release(
 ) -> Called
     ensures { λ r. ⌜ Answers ready view (Release slot) (nodeOf node) (now (mem .entry)) (now (area .entry)) (given r) (now (mem .exit)) (now (area .exit)) × GivesBack node r ⌝ }
 {
-    let n = plain_nodes::node_of(node);
-    let a = release::release(n, mem, area, Slot(slot));
-    plain_nodes::told(node, a)
+    let n = export_plain::node_of(node);
+    let a = call_release::release(n, mem, area, Slot(slot));
+    export_plain::told(node, a)
 }

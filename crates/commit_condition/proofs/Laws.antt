@@ -13,21 +13,21 @@ use lib.Dec.{leb}
 use lib.ListN.{length, getD, take}
 use Rattle.words.specs.Choice.{if_then_else_, ifNone_then_else_}
 use Rattle.words.specs.Tab.{tab}
-use Rattle.packed.specs.Key.{keyAt, bytesOf, atMost48, bytesIn, sizeIn}
-use Rattle.packed.specs.declared.Key.{Key}
-use Rattle.packed.specs.declared.Unpacked.{Unpacked}
-use Rattle.packed.specs.declared.Unpacked.the-variants.{Bytes, Foreign}
-use Rattle.packed.proofs.Laws.{foreign-unread}
+use Rattle.key_words.specs.Key.{keyAt, bytesOf, atMost48, bytesIn, sizeIn}
+use Rattle.key_words.specs.declared.Key.{Key}
+use Rattle.key_words.specs.declared.Unpacked.{Unpacked}
+use Rattle.key_words.specs.declared.Unpacked.the-variants.{Bytes, Foreign}
+use Rattle.key_words.proofs.Laws.{foreign-unread}
 use Rattle.bitmap.specs.Bitmap.{count, isSuperset}
-use Rattle.batch.specs.Batch.{requestFrom, requestAt, requestsOf}
-use Rattle.batch.proofs.Laws.{requests-are}
+use Rattle.inst_reqs.specs.Batch.{requestFrom, requestAt, requestsOf}
+use Rattle.inst_reqs.proofs.Laws.{requests-are}
 use Rattle.bodega.specs.Localread.{acked, allAcked, commitCondition}
-use Rattle.responders.proofs.Responders.{the-type}
-use Rattle.responders.specs.declared.Responders.{Responders}
-use Rattle.responders.specs.declared.Responders.the-variants.{Mask, NoRoster}
-use Rattle.responders.specs.declared.RespondersConf.{RespondersConf}
-use Rattle.responders.specs.Conf.{Conf, getRespondersByKey}
-use Rattle.responders.specs.Edits.{view, lookup, rosterOf}
+use Rattle.roster_conf.proofs.Responders.{the-type}
+use Rattle.roster_conf.specs.declared.Responders.{Responders}
+use Rattle.roster_conf.specs.declared.Responders.the-variants.{Mask, NoRoster}
+use Rattle.roster_conf.specs.declared.RespondersConf.{RespondersConf}
+use Rattle.roster_conf.specs.Conf.{Conf, getRespondersByKey}
+use Rattle.roster_conf.specs.Edits.{view, lookup, rosterOf}
 use Rattle.commit_condition.specs.Acked.{writeAcked}
 
 -- ---- the roster of a key

@@ -2,7 +2,7 @@
 use Prim.Native.Nat.{ℕ}
 use mathlib.Core.Bool.{Bool}
 use mathlib.Core.List.{List}
-use Rattle.responders.specs.Conf.{Conf}
+use Rattle.roster_conf.specs.Conf.{Conf}
 use Rattle.bodega.specs.Replica.{Put}
 use Rattle.bodega.specs.Localread.{acked}
 

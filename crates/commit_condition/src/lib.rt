@@ -1,16 +1,16 @@
 // `commit_condition` of localread.rs: whether a slot's acks let its batch commit.
-use packed::Key;
-use packed::Unpacked;
-use responders::Responders;
-use responders::RespondersConf;
+use key_words::Key;
+use key_words::Unpacked;
+use roster_conf::Responders;
+use roster_conf::RespondersConf;
 ghost use mathlib.Core.Path.{_≡_};
 ghost use Prim.Native.Nat.{_<_, _≤_};
 ghost use lib.ListN.{length};
-ghost use Rattle.packed.specs.Key.{bytesOf};
-ghost use Rattle.batch.specs.Batch.{requestAt, requestsOf};
+ghost use Rattle.key_words.specs.Key.{bytesOf};
+ghost use Rattle.inst_reqs.specs.Batch.{requestAt, requestsOf};
 ghost use Rattle.bodega.specs.Localread.{acked, commitCondition};
-ghost use Rattle.responders.specs.Conf.{getRespondersByKey};
-ghost use Rattle.responders.specs.Edits.{view, rosterOf};
+ghost use Rattle.roster_conf.specs.Conf.{getRespondersByKey};
+ghost use Rattle.roster_conf.specs.Edits.{view, rosterOf};
 ghost use Rattle.commit_condition.specs.Acked.{writeAcked};
 
 // The roster of a key in seven words. Words that are no bytes' do not read, and have none.
@@ -19,7 +19,7 @@ fn responders_by_key(key: Key, conf: RespondersConf, rows: &[u64]) -> Responders
     ensures { λ r. ⌜ r ≡ rosterOf (getRespondersByKey (view conf (now (rows .entry))) (bytesOf key)) ⌝ }
 {
     let mut text = [0u8; 48];
-    let Unpacked::Bytes(n) = packed::unpack(key, &mut text) else {
+    let Unpacked::Bytes(n) = key_words::unpack(key, &mut text) else {
         return Responders::NoRoster;
     };
     conf.get_responders_by_key(rows, &text[0..n])
@@ -47,7 +47,7 @@ fn acked(acks: u64, batch: &[u64], i: usize, conf: RespondersConf, rows: &[u64])
     let p3 = p2 + 1;
     let p4 = p3 + 1;
     if batch[p2] == 1 {
-        return write_acked(acks, packed::get_key(batch, p4), conf, rows);
+        return write_acked(acks, key_words::get_key(batch, p4), conf, rows);
     }
     true
 }
@@ -66,7 +66,7 @@ pub fn commit_condition(
     if bitmap::count(acks) < words::wide(quorum) {
         return false;
     }
-    let n = batch::count(batch);
+    let n = inst_reqs::count(batch);
     let mut i = 0;
     while i < n {
         if !acked(acks, batch, i, conf, rows) {

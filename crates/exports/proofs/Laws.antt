@@ -17,16 +17,16 @@ use Rattle.keys.specs.declared.KeyRead.{KeyRead}
 use Rattle.keys.specs.declared.KeyRead.the-variants.{Number, Unread}
 use Rattle.keys.specs.Read.{readKey}
 use Rattle.keys.specs.Shown.{shown}
-use Rattle.responders.specs.declared.RespondersConf.{RespondersConf}
-use Rattle.responders.specs.declared.Edited.{Edited}
-use Rattle.responders.specs.declared.Edited.the-variants.{Taken, Refused}
-use Rattle.responders.specs.declared.Responders.{Responders}
-use Rattle.responders.specs.declared.Responders.the-variants.{Mask as Found, NoRoster, Refused as Short}
-use Rattle.responders.specs.Conf.{Conf, setResponders, intoFiltered}
-use Rattle.responders.specs.Ground.{refusal}
-use Rattle.responders.proofs.Grounds.{not-0, edit-positive}
-use Rattle.responders.specs.Edit.{Edit, SetLeader, SetResponders, SetFull, IntoFiltered, ResetFull, between, edit, grounds, Answer, refused, taken, answer}
-use Rattle.responders.specs.Edits.{view, holdsRows, inRange, due, Gives, Edits, lookup}
+use Rattle.roster_conf.specs.declared.RespondersConf.{RespondersConf}
+use Rattle.roster_conf.specs.declared.Edited.{Edited}
+use Rattle.roster_conf.specs.declared.Edited.the-variants.{Taken, Refused}
+use Rattle.roster_conf.specs.declared.Responders.{Responders}
+use Rattle.roster_conf.specs.declared.Responders.the-variants.{Mask as Found, NoRoster, Refused as Short}
+use Rattle.roster_conf.specs.Conf.{Conf, setResponders, intoFiltered}
+use Rattle.roster_conf.specs.Ground.{refusal}
+use Rattle.roster_conf.proofs.Grounds.{not-0, edit-positive}
+use Rattle.roster_conf.specs.Edit.{Edit, SetLeader, SetResponders, SetFull, IntoFiltered, ResetFull, between, edit, grounds, Answer, refused, taken, answer}
+use Rattle.roster_conf.specs.Edits.{view, holdsRows, inRange, due, Gives, Edits, lookup}
 use Rattle.exports.specs.declared.Key.{Key}
 use Rattle.exports.specs.declared.Count.{Count}
 use Rattle.exports.specs.declared.Mask.{Mask}

@@ -6,13 +6,13 @@ use mathlib.Core.List.{List}
 use lib.Dec.{eqb}
 use Rattle.words.specs.Choice.{if_then_else_}
 use Rattle.ids.specs.declared.Leader.the-variants.{None}
-use Rattle.responders.specs.declared.RespondersConf.{RespondersConf}
-use Rattle.responders.specs.declared.Edited.{Edited}
-use Rattle.responders.specs.declared.Edited.the-variants.{Taken, Refused}
-use Rattle.responders.specs.declared.Responders.{Responders}
-use Rattle.responders.specs.declared.Responders.the-variants.{Mask as Found, NoRoster, Refused as Short}
-use Rattle.responders.specs.Edit.{Edit}
-use Rattle.responders.specs.Edits.{Edits}
+use Rattle.roster_conf.specs.declared.RespondersConf.{RespondersConf}
+use Rattle.roster_conf.specs.declared.Edited.{Edited}
+use Rattle.roster_conf.specs.declared.Edited.the-variants.{Taken, Refused}
+use Rattle.roster_conf.specs.declared.Responders.{Responders}
+use Rattle.roster_conf.specs.declared.Responders.the-variants.{Mask as Found, NoRoster, Refused as Short}
+use Rattle.roster_conf.specs.Edit.{Edit}
+use Rattle.roster_conf.specs.Edits.{Edits}
 use Rattle.exports.specs.declared.Key.{Key}
 use Rattle.exports.specs.declared.Count.{Count}
 use Rattle.exports.specs.declared.Mask.{Mask}

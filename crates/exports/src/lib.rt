@@ -2,13 +2,13 @@
 use ids::Leader;
 use ids::Replica;
 use keys::KeyRead;
-use responders::Edited;
-use responders::Responders;
-use responders::RespondersConf;
+use roster_conf::Edited;
+use roster_conf::Responders;
+use roster_conf::RespondersConf;
 ghost use mathlib.Core.Path.{_≡_};
 ghost use Rattle.keys.specs.Read.{readKey};
-ghost use Rattle.responders.specs.Edit.{SetResponders, SetFull, IntoFiltered};
-ghost use Rattle.responders.specs.Edits.{lookup};
+ghost use Rattle.roster_conf.specs.Edit.{SetResponders, SetFull, IntoFiltered};
+ghost use Rattle.roster_conf.specs.Edits.{lookup};
 ghost use Rattle.exports.specs.Numbers.{keyOf, plain, countOf, Counts, maskOf};
 
 // read is 1, or 0 where the key does not read.

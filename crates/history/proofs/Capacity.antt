@@ -10,8 +10,8 @@ use lib.ListN.{length, getD, drop, set, replicate, length-append}
 use borrow.Author.Tests.{ltb-false, leb-false, not-false}
 use Rattle.words.specs.Choice.{ifNone_then_else_}
 use Rattle.bitmap.specs.Bitmap.{get, mark, count}
-use Rattle.responders.specs.Conf.{Conf, leads}
-use Rattle.responders.specs.Run.{Good, isGood}
+use Rattle.roster_conf.specs.Conf.{Conf, leads}
+use Rattle.roster_conf.specs.Run.{Good, isGood}
 use Rattle.items.specs.Item.{Item}
 use Rattle.ids.specs.Limits.{hold, keys, batch}
 use Rattle.bodega.specs.Replica.{Status, Committed, Executed, isOpen, isAccepting, Book, newBook, ReadReq, Request, Instance, nullInstance, Replica, fresh, freshPair, pair, Call, Heartbeat, Guard, Prepared, Record, Reply, Notice, CommitNotice, Bars, Read, Release, Done, isLeader, end, instAt, setInst, pad, withStatus, withLeaderBk, withReplicaBk, withHolding, withHighestSlot, withPeerExecBar}
@@ -27,8 +27,8 @@ use Rattle.history.specs.Invariant.{EachSlot}
 use Rattle.history.specs.Table.{Table, alters, adopts, adopting, raises, hear}
 use Rattle.history.specs.Capacity.{heldReads, SlotSmall, Each, Small, Capacity, RosterStaysGood}
 use Rattle.bodega.proofs.Choices.{of-if, of-none, by-if, by-none}
-use Rattle.responders.proofs.Grounds.{NoneApply}
-use Rattle.responders.proofs.Rosters.{good-filtered, good-true}
+use Rattle.roster_conf.proofs.Grounds.{NoneApply}
+use Rattle.roster_conf.proofs.Rosters.{good-filtered, good-true}
 use Rattle.bodega.proofs.Taken.{taken-none}
 use Rattle.history.proofs.Keeps.{release-keeps, from-keeps}
 use Rattle.history.proofs.Reach.{appended}

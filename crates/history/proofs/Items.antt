@@ -12,8 +12,8 @@ use borrow.Author.Tests.{ltb-true, ltb-false, le-ltb, eqb-true, eqb-false, ne-eq
 use Rattle.words.proofs.Tests.{or-both}
 use Rattle.words.specs.Choice.{if_then_else_, ifNone_then_else_}
 use Rattle.bitmap.specs.Bitmap.{get, mark, count}
-use Rattle.responders.specs.Conf.{Conf, leads}
-use Rattle.responders.specs.Ground.{Ground, _when_or_, refusal}
+use Rattle.roster_conf.specs.Conf.{Conf, leads}
+use Rattle.roster_conf.specs.Ground.{Ground, _when_or_, refusal}
 use Rattle.items.specs.Item.{Item, Commit}
 use Rattle.ids.specs.Limits.{window, hold, items}
 use Rattle.bodega.specs.Replica.{Status, order, isOpen, isAccepting, newBook, ReadReq, Instance, nullInstance, Replica, fresh, Call, Heartbeat, Guard, Prepared, Record, Reply, Notice, CommitNotice, Bars, Read, Release, Done, isLeader, end, instAt, setInst, pad, withReplicaBk}

@@ -9,7 +9,7 @@ use lib.ListN.{length, length-set, length-replicate}
 use borrow.Author.Tests.{leb-false}
 use Rattle.words.specs.Choice.{if_then_else_}
 use Rattle.bodega.specs.Replica.{Replica, fresh, pair, Call, Heartbeat, Guard, Prepared, Record, Reply, Notice, CommitNotice, Bars, Read, Release}
-use Rattle.responders.specs.Conf.{Conf}
+use Rattle.roster_conf.specs.Conf.{Conf}
 use Rattle.bodega.specs.Grounds.{grounds}
 use Rattle.bodega.specs.Step.{Event, step, stepOf, after, isTaken, run}
 use Rattle.history.specs.Table.{Table, Fed, freshTable, alters, adopts, adopting, raises, hear, feedAll}

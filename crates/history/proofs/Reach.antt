@@ -12,7 +12,7 @@ use borrow.Author.Tests.{ltb-true, ltb-false, leb-true, leb-false, eqb-true, le-
 use Rattle.words.proofs.Tests.{and-both, or-both}
 use Rattle.words.specs.Choice.{if_then_else_, ifNone_then_else_}
 use Rattle.ids.specs.Limits.{window}
-use Rattle.responders.specs.Conf.{Conf, leads, leaderWithout, intoFiltered, same}
+use Rattle.roster_conf.specs.Conf.{Conf, leads, leaderWithout, intoFiltered, same}
 use Rattle.items.specs.Item.{Commit, Lead}
 use Rattle.bodega.specs.Replica.{Request, Instance, nullInstance, Highest, Replica, fresh, freshPair, order, Committed, Call, Heartbeat, Guard, Prepared, Record, Reply, Notice, CommitNotice, Bars, Read, Release, Done, done, isOpen, isLeader, end, instAt, setInst, pad, withStatus, withHighestSlot, withPeerExecBar, withMaxSeen, withConf}
 use Rattle.bodega.specs.Localread.{refreshHighestSlot}
@@ -25,7 +25,7 @@ use Rattle.bodega.specs.Step.{Event, effect, turnedAway, step, stepBy, stepOf, 
 use Rattle.history.specs.Invariant.{core, Sound}
 use Rattle.bodega.proofs.Choices.{of-if, of-none}
 use Rattle.history.proofs.Keeps.{Keeps, release-keeps, from-keeps, read-keeps, reply-keeps, noticed-keeps}
-use Rattle.responders.proofs.Grounds.{NoneApply}
+use Rattle.roster_conf.proofs.Grounds.{NoneApply}
 use Rattle.bodega.proofs.Taken.{taken-none}
 
 -- ---- what keeps the core

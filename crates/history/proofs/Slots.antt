@@ -12,7 +12,7 @@ use borrow.Author.Tests.{ltb-true, ltb-false, eqb-true, not-false}
 use Rattle.words.proofs.Tests.{or-both}
 use Rattle.words.specs.Choice.{if_then_else_, ifNone_then_else_}
 use Rattle.bitmap.specs.Bitmap.{get, mark, count}
-use Rattle.responders.specs.Conf.{Conf, leads}
+use Rattle.roster_conf.specs.Conf.{Conf, leads}
 use Rattle.items.specs.Item.{Item, Commit}
 use Rattle.bodega.specs.Replica.{Status, Null, Preparing, Accepting, Committed, Executed, order, isOpen, isAccepting, Book, newBook, ReadReq, Request, Instance, nullInstance, Highest, Replica, fresh, freshPair, Call, Heartbeat, Guard, Prepared, Record, Reply, Notice, CommitNotice, Bars, Read, Release, Done, isLeader, end, instAt, setInst, pad, withStatus, withLeaderBk, withReplicaBk, withHolding, withHighestSlot, withPeerExecBar}
 use Rattle.bodega.specs.Localread.{refreshHighestSlot, commitCondition, releaseHeldReadReqs, releaseFrom, holdRead, Answer, Found, Missing, FromStore, Consensus, HeldBy, Again}
@@ -25,7 +25,7 @@ use Rattle.bodega.specs.Grounds.{grounds, any, isClosed, falls, ordered, uncomm
 use Rattle.bodega.specs.Step.{Event, effect, turnedAway, step, stepBy, stepOf, after, run}
 use Rattle.history.specs.Invariant.{core, Sound, isExecuted, bookBal, SlotSound, EachSlot, SlotsSound, ReachSound}
 use Rattle.bodega.proofs.Choices.{of-if, of-none, by-if, by-none}
-use Rattle.responders.proofs.Grounds.{NoneApply}
+use Rattle.roster_conf.proofs.Grounds.{NoneApply}
 use Rattle.bodega.proofs.Taken.{taken-none}
 use Rattle.history.proofs.Reach.{appended, step-sound, run-sound, fresh-sound}
 

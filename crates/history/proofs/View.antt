@@ -8,7 +8,7 @@ use lib.Dec.{ltb, leb, eqb}
 use lib.ListN.{getD, set}
 use borrow.Author.Tests.{ltb-true, ltb-false, le-leb, lt-leb}
 use Rattle.words.specs.Choice.{if_then_else_}
-use Rattle.responders.specs.Conf.{Conf}
+use Rattle.roster_conf.specs.Conf.{Conf}
 use Rattle.bodega.specs.Replica.{Request, Instance, Highest, Replica, Call, Heartbeat, Guard, Prepared, Record, Reply, Notice, CommitNotice, Bars, Read, Release, Done, done, freshPair, withHighestSlot, setInst, pad, instAt, isLeader, withPeerExecBar}
 use Rattle.bodega.specs.Localread.{refreshHighestSlot}
 use Rattle.bodega.specs.Conflease.{updatePeerAcceptMax, newer, guardAcceptBar, becomeALeader, adopted, heardNewConf}

@@ -5,8 +5,8 @@ use mathlib.Core.Option.{Option}
 use mathlib.Core.Path.{_≡_}
 use lib.ListN.{length}
 use Rattle.words.specs.Choice.{ifNone_then_else_}
-use Rattle.responders.specs.Ground.{refusal}
-use Rattle.responders.specs.Run.{Good}
+use Rattle.roster_conf.specs.Ground.{refusal}
+use Rattle.roster_conf.specs.Run.{Good}
 use Rattle.ids.specs.Limits.{hold, keys, batch, items}
 use Rattle.bodega.specs.Replica.{Book, Instance, Replica, fresh, Call}
 use Rattle.bodega.specs.Grounds.{grounds}

@@ -9,7 +9,7 @@ use mathlib.Core.Path.{_≡_}
 use lib.ListN.{length}
 use Rattle.words.specs.Choice.{ifNone_then_else_}
 use Rattle.ids.specs.Limits.{window}
-use Rattle.responders.specs.Conf.{Conf, leads}
+use Rattle.roster_conf.specs.Conf.{Conf, leads}
 use Rattle.bodega.specs.Replica.{Me, Ballots, Status, order, isOpen, Book, Instance, Replica, fresh}
 use Rattle.bodega.specs.Step.{Event, run}
 

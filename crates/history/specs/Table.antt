@@ -10,7 +10,7 @@ use lib.ListN.{getD, set, replicate}
 use Rattle.rank.specs.Sort.{sort}
 use Rattle.words.specs.Choice.{if_then_else_}
 use Rattle.ids.specs.Limits.{beyond}
-use Rattle.responders.specs.Conf.{Conf, empty, intoFiltered, same}
+use Rattle.roster_conf.specs.Conf.{Conf, empty, intoFiltered, same}
 use Rattle.bodega.specs.Replica.{Pair, pair, Call, Heartbeat, Guard, Prepared, Record, Reply, Notice, CommitNotice, Bars, Read, Release}
 
 pub record Table : Type 0 where

@@ -17,8 +17,8 @@ use Rattle.items.specs.Item.{Item, places, encode}
 use Rattle.words.specs.Writes.{writes}
 use Rattle.words.specs.Part.{Untouched}
 use Rattle.ids.specs.Limits.{nodeWords}
-use Rattle.responders.specs.Ground.{Ground, _when_or_, refusal}
-use Rattle.responders.proofs.Grounds.{NoneApply, Positive}
+use Rattle.roster_conf.specs.Ground.{Ground, _when_or_, refusal}
+use Rattle.roster_conf.proofs.Grounds.{NoneApply, Positive}
 use Rattle.bodega.specs.Replica as machine
 use Rattle.bodega.specs.Grounds.{grounds}
 use Rattle.bodega.specs.Step.{step, effect, turnedAway}

@@ -7,10 +7,10 @@ use lib.ListN.{length}
 use Rattle.words.specs.Tab.{run}
 use Rattle.words.specs.Part.{splice, Untouched, splice-untouched, part-here, part-before, part-after, length-splice}
 use Rattle.bodega.specs.Replica as machine
-use Rattle.responders.specs.Edits.{view as rosterOf}
-use Rattle.peers.specs.Pairs.{pairsOf}
-use Rattle.slots.specs.Slots.{instsOf}
-use Rattle.written.specs.Written.{writtenOf}
+use Rattle.roster_conf.specs.Edits.{view as rosterOf}
+use Rattle.peer_accept_bar.specs.Pairs.{pairsOf}
+use Rattle.insts.specs.Slots.{instsOf}
+use Rattle.highest_slot.specs.Written.{writtenOf}
 use Rattle.node.specs.declared.Node.{Node}
 use Rattle.node.specs.View.{view, ready}
 

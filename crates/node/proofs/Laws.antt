@@ -13,16 +13,16 @@ use borrow.Author.Tests.{lt-ltb, le-ltb, le-leb, lt-leb, leb-true, not-true, not
 use Rattle.words.specs.Part.{part, splice, part-here, part-before, part-after, length-splice, length-part, part-set-above, part-set-first, getD-part, Untouched, splice-untouched}
 use Rattle.words.specs.Counted.{counted, counted-clear}
 use Rattle.ids.specs.Limits.{keys}
-use Rattle.written.specs.Written.{highestAt, writtenOf}
+use Rattle.highest_slot.specs.Written.{highestAt, writtenOf}
 use Rattle.node.specs.View.{size, view, inRange, ready}
-use Rattle.peers.specs.Pairs.{pairsOf}
-use Rattle.slots.specs.Slots.{instsOf}
+use Rattle.peer_accept_bar.specs.Pairs.{pairsOf}
+use Rattle.insts.specs.Slots.{instsOf}
 use Rattle.node.specs.Begins.{Reset, Gives}
 use Rattle.node.specs.declared.Node.{Node}
 use Rattle.node.specs.declared.Fresh.the-variants.{Made, Refused}
 use Rattle.bodega.specs.Replica.{pair, freshPair, fresh}
-use Rattle.responders.specs.Conf.{empty}
-use Rattle.responders.specs.Edits.{view as rosterOf}
+use Rattle.roster_conf.specs.Conf.{empty}
+use Rattle.roster_conf.specs.Edits.{view as rosterOf}
 use Rattle.words.specs.Tab.{tab, run, tab-ext}
 use Rattle.words.proofs.Tests.{and-both}
 

@@ -7,9 +7,9 @@ use native.Mathlib.Omega.{arith}
 use borrow.Author.Tests.{lt-ltb, le-ltb}
 use Rattle.words.specs.Part.{part}
 use Rattle.bodega.specs.Replica as machine
-use Rattle.cells.specs.Cell.{Short}
-use Rattle.slots.specs.Slots.{instOf, instIn, instsOf, Puts}
-use Rattle.slots.proofs.Laws.{moved, inst-at, inst-none}
+use Rattle.inst_cell.specs.Cell.{Short}
+use Rattle.insts.specs.Slots.{instOf, instIn, instsOf, Puts}
+use Rattle.insts.proofs.Laws.{moved, inst-at, inst-none}
 use Rattle.node.specs.declared.Node.{Node}
 use Rattle.node.specs.View.{view}
 

@@ -7,7 +7,7 @@ use lib.Dec.{leb}
 use lib.ListN.{length, replicate}
 use Rattle.words.specs.Part.{part, Untouched}
 use Rattle.ids.specs.Limits.{beyond}
-use Rattle.written.specs.Written.{writtenOf}
+use Rattle.highest_slot.specs.Written.{writtenOf}
 use Rattle.bodega.specs.Replica.{fresh}
 use Rattle.node.specs.declared.Node.{Node}
 use Rattle.node.specs.declared.Fresh.{Fresh}

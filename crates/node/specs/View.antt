@@ -10,13 +10,13 @@ use Rattle.words.specs.Choice.{if_then_else_, ifNone_then_else_}
 use Rattle.words.specs.Tab.{run}
 use Rattle.words.specs.Part.{part}
 use Rattle.ids.specs.Limits.{window, ranges, replicas, top, nodeWords}
-use Rattle.responders.specs.Edits.{view as rosterOf}
-use Rattle.responders.specs.Ground.{Ground}
+use Rattle.roster_conf.specs.Edits.{view as rosterOf}
+use Rattle.roster_conf.specs.Ground.{Ground}
 use Rattle.bodega.specs.Replica as machine
 use Rattle.bodega.specs.Answers.{Given}
-use Rattle.peers.specs.Pairs.{pairsOf}
-use Rattle.slots.specs.Slots.{instsOf}
-use Rattle.written.specs.Written.{writtenOf}
+use Rattle.peer_accept_bar.specs.Pairs.{pairsOf}
+use Rattle.insts.specs.Slots.{instsOf}
+use Rattle.highest_slot.specs.Written.{writtenOf}
 use Rattle.node.specs.declared.Node.{Node}
 use Rattle.node.specs.declared.Answered.{Answered}
 

@@ -3,7 +3,7 @@ use ids::Ballot;
 use ids::Leader;
 use ids::Replica;
 use ids::Slot;
-use responders::RespondersConf;
+use roster_conf::RespondersConf;
 ghost use mathlib.Core.Path.{_≡_};
 ghost use mathlib.Core.Bool.{_&&_};
 ghost use Prim.Native.Nat.{_≤_};
@@ -159,11 +159,11 @@ impl Node {
 
     pub const REPLICAS: u8 = Replica::LIMIT;
 
-    pub const WINDOW: usize = slots::WINDOW;
+    pub const WINDOW: usize = insts::WINDOW;
 
-    pub const HOLD: usize = held::HOLD;
+    pub const HOLD: usize = inst_holding::HOLD;
 
-    pub const KEYS: usize = written::KEYS;
+    pub const KEYS: usize = highest_slot::KEYS;
 
     // The starting state: ballot 0, no leader, no slots.
     pub fn fresh(mem: &mut [u64], id: Replica, population: u8, quorum: u8) -> Fresh

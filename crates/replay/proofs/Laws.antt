@@ -10,12 +10,12 @@ use lib.IntN.{ℤ, pos, negsuc}
 use lib.Signed.{ltZ}
 use borrow.Author.Tests.{ltb-true, ltb-false}
 use Rattle.words.specs.Part.{splice}
-use Rattle.fields.specs.Split.{Bytes}
-use Rattle.lines.proofs.Laws.{fresh-lent}
-use Rattle.turns.specs.declared.Stream.{Stream}
-use Rattle.turns.specs.declared.Turned.{Turned}
-use Rattle.turns.specs.Turns.{Begins, Turns}
-use Rattle.turns.specs.Went as spec
+use Rattle.line_fields.specs.Split.{Bytes}
+use Rattle.stream_events.proofs.Laws.{fresh-lent}
+use Rattle.stream_turns.specs.declared.Stream.{Stream}
+use Rattle.stream_turns.specs.declared.Turned.{Turned}
+use Rattle.stream_turns.specs.Turns.{Begins, Turns}
+use Rattle.stream_turns.specs.Went as spec
 use Rattle.replay.specs.declared.Filled.{Filled}
 use Rattle.replay.specs.declared.Filled.the-variants.{Piece, Ended, Failed}
 use Rattle.replay.specs.Reads.{came, Filling}

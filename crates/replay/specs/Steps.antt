@@ -4,10 +4,10 @@ use mathlib.Core.Bool.{false}
 use mathlib.Core.List.{List}
 use Prim.Native.Nat.{ℕ, _≤_}
 use lib.ListN.{length}
-use Rattle.fields.specs.Split.{Bytes}
-use Rattle.lines.specs.Fed.{Lent}
-use Rattle.turns.specs.declared.Stream.{Stream}
-use Rattle.turns.specs.Went.{Went}
+use Rattle.line_fields.specs.Split.{Bytes}
+use Rattle.stream_events.specs.Fed.{Lent}
+use Rattle.stream_turns.specs.declared.Stream.{Stream}
+use Rattle.stream_turns.specs.Went.{Went}
 
 -- the bytes that wait are in the buffer, and where no line ends in them there is room for a piece behind them
 pub record Stands (s : Stream) (buf : Bytes) (mem rows area groups : List ℕ) : Type 0 where

@@ -3,7 +3,7 @@
 // without a newline counts if it has a byte. The answers to a piece are written after it, or before, where the output
 // has no room for another answer. The program ends when the input does, or when a read or a write fails, which it says
 // on standard error. After a read that failed, the line that has begun is not answered.
-use turns::Stream;
+use stream_turns::Stream;
 ghost use mathlib.Core.Path.{_≡_};
 ghost use mathlib.Core.Bool.{true};
 ghost use Prim.Native.Nat.{_≤_, _<_};
@@ -81,7 +81,7 @@ fn step(
     ensures { λ r. ⌜ (r .on ≡ true → Steps from (now (buf .entry)) (now (mem .entry)) (now (rows .entry)) (r .stream) (now (buf .exit)) (now (mem .exit)) (now (rows .exit)) (now (area .exit)) (now (groups .exit))) ⌝ }
 {
     if from.more {
-        let turned = turns::turn(buf, from, mem, rows, area, groups, out);
+        let turned = stream_turns::turn(buf, from, mem, rows, area, groups, out);
         let on = flush(out, turned.used);
         let stream = turned.stream;
         return Next { stream, on };
@@ -98,7 +98,7 @@ fn step(
             on: true,
         },
         Filled::Ended => {
-            let said = lines::last_line(
+            let said = stream_events::last_line(
                 place.state,
                 mem,
                 rows,

@@ -10,12 +10,12 @@ use Rattle.words.specs.Writes.{writes}
 use Rattle.items.specs.Item.{Item, Rest, encode, places}
 use Rattle.items.specs.Area.{Put, putItem}
 use Rattle.items.proofs.Laws.{put-encoded}
-use Rattle.ranges.specs.Range.{Range}
-use Rattle.keyrange.specs.Rows.{rangeAt, rangesOf}
-use Rattle.keyrange.proofs.Laws.{more-is, length-ranges}
-use Rattle.responders.specs.declared.RespondersConf.{RespondersConf}
+use Rattle.roster_ranges.specs.Range.{Range}
+use Rattle.roster_map.specs.Rows.{rangeAt, rangesOf}
+use Rattle.roster_map.proofs.Laws.{more-is, length-ranges}
+use Rattle.roster_conf.specs.declared.RespondersConf.{RespondersConf}
 use Rattle.roster_show.specs.declared.Shown.the-variants.{Items, Refused}
-use Rattle.responders.specs.Edits.{view, holdsRows}
+use Rattle.roster_conf.specs.Edits.{view, holdsRows}
 use Rattle.roster_show.specs.Show.{spanOf, spansOf, show, Listing, listing}
 
 pub span-is : (r x : Range) → r ≡ x → spanOf r ≡ spanOf x

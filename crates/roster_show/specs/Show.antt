@@ -6,12 +6,12 @@ use lib.ListN.{length}
 use Rattle.words.specs.Choice.{if_then_else_}
 use Rattle.words.specs.Writes.{writes}
 use Rattle.items.specs.Item.{Item, Span, Rest, encode, places}
-use Rattle.ranges.specs.Range.{Range}
-use Rattle.responders.specs.declared.RespondersConf.{RespondersConf}
+use Rattle.roster_ranges.specs.Range.{Range}
+use Rattle.roster_conf.specs.declared.RespondersConf.{RespondersConf}
 use Rattle.roster_show.specs.declared.Shown.{Shown}
 use Rattle.roster_show.specs.declared.Shown.the-variants.{Items, Refused}
-use Rattle.responders.specs.Conf.{Conf}
-use Rattle.responders.specs.Edits.{view, holdsRows}
+use Rattle.roster_conf.specs.Conf.{Conf}
+use Rattle.roster_conf.specs.Edits.{view, holdsRows}
 
 abbrev pub spanOf : Range → Item
 spanOf r = Span (r .from) (r .to) (r .mask)

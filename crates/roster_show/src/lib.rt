@@ -1,12 +1,12 @@
 // `show`: a roster's ranges ascending, then its default, as items.
 use items::Item;
-use responders::RespondersConf;
+use roster_conf::RespondersConf;
 ghost use mathlib.Core.Path.{_≡_};
 ghost use Prim.Native.Nat.{_+_, _*_, _≤_};
 ghost use lib.ListN.{length};
 ghost use Rattle.words.specs.Writes.{writes};
 ghost use Rattle.items.specs.Item.{itemOf, encode, places};
-ghost use Rattle.keyrange.specs.Rows.{rangeAt, rangesOf};
+ghost use Rattle.roster_map.specs.Rows.{rangeAt, rangesOf};
 ghost use Rattle.roster_show.specs.Show.{spanOf, spansOf, Listing, listing};
 
 pub enum Shown {
@@ -18,7 +18,7 @@ fn span(rows: &[u64], i: usize) -> Item
     requires { ⌜ i * 5 + 5 ≤ length (now rows) ⌝ }
     ensures { λ x. ⌜ itemOf x ≡ spanOf (rangeAt (now (rows .entry)) (i * 5)) ⌝ }
 {
-    let row = keyrange::get_row(rows, i);
+    let row = roster_map::get_row(rows, i);
     let start = row.start;
     let end = row.end;
     Item::Span {
@@ -43,7 +43,7 @@ fn put_spans(rows: &[u64], count: usize, area: &mut [u64])
 pub fn show(conf: RespondersConf, rows: &[u64], area: &mut [u64]) -> Shown
     ensures { λ r. ⌜ _≡_ {A = Listing} (record { answer = r; area = now (area .exit) }) (listing conf (now (rows .entry)) (now (area .entry))) ⌝ }
 {
-    if !responders::is_whole(rows.len(), conf.count) {
+    if !roster_conf::is_whole(rows.len(), conf.count) {
         return Shown::Refused(2);
     }
     if area.len() / 6 <= conf.count {

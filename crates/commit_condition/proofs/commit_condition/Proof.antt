@@ -2,9 +2,9 @@ use mathlib.Core.Path.{_≡_, sym, _∙_}
 use Prim.Native.Nat.{_≤_, _-_}
 use native.Mathlib.Omega.{arith}
 use borrow.Author.Needs.{needs}
-use Rattle.batch.specs.Batch.{requestsOf}
+use Rattle.inst_reqs.specs.Batch.{requestsOf}
 use Rattle.bodega.specs.Localread.{commitCondition}
-use Rattle.responders.specs.Edits.{view}
+use Rattle.roster_conf.specs.Edits.{view}
 use Rattle.commit_condition.proofs.Laws as law
 use Rattle.commit_condition.proofs.commit_condition.Statement.{statement}
 use Rattle.commit_condition.proofs.commit_condition.Tie as tie

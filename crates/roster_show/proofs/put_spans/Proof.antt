@@ -6,7 +6,7 @@ use Prim.Native.Nat.{_-_, _≤_}
 use lib.ListN.{length}
 use Rattle.words.specs.Writes.{writes}
 use Rattle.items.specs.Item.{encode}
-use Rattle.keyrange.specs.Rows.{rangesOf}
+use Rattle.roster_map.specs.Rows.{rangesOf}
 use Rattle.roster_show.specs.Show.{spansOf}
 use Rattle.roster_show.proofs.put_spans.Statement.{statement}
 use Rattle.roster_show.proofs.put_spans.Tie as tie

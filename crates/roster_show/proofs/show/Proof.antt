@@ -1,4 +1,4 @@
-use Rattle.responders.proofs.Laws.{whole-rows}
+use Rattle.roster_conf.proofs.Laws.{whole-rows}
 use Rattle.roster_show.proofs.Listing as law
 use borrow.Author.Needs.{needs}
 use Rattle.roster_show.proofs.show.Statement.{statement}

@@ -1,0 +1,37 @@
+use Rattle.node.proofs.Calls.{gives-2}
+use Rattle.call_prepared.proofs.Laws as law
+use mathlib.Core.Path.{refl}
+use Rattle.bodega.specs.Replica.{Prepared}
+use Rattle.bodega.specs.Events.{prepared}
+use Rattle.node.specs.View.{view, ready}
+use borrow.Author.Needs.{needs}
+use Rattle.call_prepared.proofs.prepared.Statement.{statement}
+use Rattle.call_prepared.proofs.prepared.Tie as tie
+
+is-ready-requires : tie.Need-is-ready-requires
+is-ready-requires c κs = search needs
+
+returns : tie.Need-returns
+returns c =
+    let a = c .before .before .before .before .args in
+    gives-2 (Prepared (a .ballot .0)) (a .node) (a .mem .now) (a .area .now) _ (c .before .is-ready .ensures) (c .if1 .taken)
+
+may-prepare-requires : tie.Need-may-prepare-requires
+may-prepare-requires c κs = search needs
+
+returns-2 : tie.Need-returns-2
+returns-2 c =
+    let b = c .before .before .before .before .before in
+    let a = b .before .before .before .before .args in
+    law.prepared-13 (a .node) (a .mem .now) (a .area .now) (a .ballot .0) _ _ (b .before .is-ready .ensures) (b .if1 .left) (c .before .may-prepare .ensures) (c .if2 .taken)
+
+returns-3 : tie.Need-returns-3
+unfolding view prepared ready
+returns-3 c =
+    let b = c .before .before .before .before .before in
+    let a = b .before .before .before .before .args in
+    law.prepared-taken (a .node) (a .mem .now) (a .area .now) (a .ballot .0) _ _ (b .before .is-ready .ensures) (b .if1 .left) (c .before .may-prepare .ensures) _ (c .if2 .left) refl refl
+
+pub prepared-spec : {M : Type 1} → statement M
+prepared-spec =
+    tie.close (tie.spec is-ready-requires returns may-prepare-requires returns-2 returns-3)

@@ -1,0 +1,53 @@
+use mathlib.Core.Path.{sym, ap}
+use lib.Dec.{ltb}
+use Rattle.bodega.specs.Replica.{order}
+use Rattle.inst_cell.specs.Cell.{statusOf}
+use Rattle.inst_cell.specs.declared.Status.{Status}
+use borrow.Author.Needs.{needs}
+use Rattle.inspect_latest_write.proofs.is_early.Statement.{statement}
+use Rattle.inspect_latest_write.proofs.is_early.Tie as tie
+
+enum-told : tie.Need-enum-told
+enum-told c = search needs
+
+enum-told-2 : tie.Need-enum-told-2
+enum-told-2 c = search needs
+
+enum-told-3 : tie.Need-enum-told-3
+enum-told-3 c = search needs
+
+enum-told-4 : tie.Need-enum-told-4
+enum-told-4 c = search needs
+
+enum-told-5 : tie.Need-enum-told-5
+enum-told-5 c = search needs
+
+returns : tie.Need-returns
+returns c = ap (λ (x : Status). ltb (order (statusOf x)) 2) (sym (c .enum-told .given .1))
+
+returns-2 : tie.Need-returns-2
+returns-2 c = ap (λ (x : Status). ltb (order (statusOf x)) 2) (sym (c .enum-told2 .given .1))
+
+returns-3 : tie.Need-returns-3
+returns-3 c = ap (λ (x : Status). ltb (order (statusOf x)) 2) (sym (c .enum-told3 .given .1))
+
+returns-4 : tie.Need-returns-4
+returns-4 c = ap (λ (x : Status). ltb (order (statusOf x)) 2) (sym (c .enum-told4 .given .1))
+
+returns-5 : tie.Need-returns-5
+returns-5 c = ap (λ (x : Status). ltb (order (statusOf x)) 2) (sym (c .enum-told5 .given .1))
+
+pub is-early-spec : {M : Type 1} → statement M
+is-early-spec =
+    tie.close
+    (tie.spec
+    enum-told
+    enum-told-2
+    enum-told-3
+    enum-told-4
+    enum-told-5
+    returns
+    returns-2
+    returns-3
+    returns-4
+    returns-5)

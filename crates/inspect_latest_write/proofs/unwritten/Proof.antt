@@ -1,0 +1,12 @@
+use Rattle.inspect_latest_write.proofs.Laws as law
+use Rattle.inspect_latest_write.proofs.unwritten.Statement.{statement}
+use Rattle.inspect_latest_write.proofs.unwritten.Tie as tie
+
+returns : tie.Need-returns
+returns c = λ rows s w. law.never-written (c .before .before .before .args .v) rows s w (c .if1 .taken)
+
+returns-2 : tie.Need-returns-2
+returns-2 c = λ rows s w. law.in-store (c .before .before .before .args .v) rows s w (c .if1 .left)
+
+pub unwritten-spec : {M : Type 1} → statement M
+unwritten-spec = tie.close (tie.spec returns returns-2)

@@ -1,0 +1,62 @@
+-- The slots that a replica holds, in 7,744 lent words: 32 cells of 8, 32 batches of 89, 32 rows of 145 for held reads; slot s has those of number s % 32.
+-- Assumes nothing: these are definitions.
+use mathlib.Core.Path.{_≡_}
+use mathlib.Core.Logic.{_≢_}
+use mathlib.Core.List.{List}
+use mathlib.Core.Option.{Option, none, some}
+use Prim.Native.Nat.{ℕ, _+_, _*_, _%_, _<_}
+use lib.ListN.{length}
+use Rattle.words.specs.Choice.{ifNone_then_else_}
+use Rattle.words.specs.Tab.{tab}
+use Rattle.words.specs.Part.{part}
+use Rattle.bodega.specs.Replica as machine
+use Rattle.inst_cell.specs.Cell.{Notices, Short, cellAt}
+use Rattle.inst_reqs.specs.Batch.{requestsOf}
+use Rattle.inst_holding.specs.Held.{readsOf}
+
+abbrev pub slotWords : ℕ
+slotWords = 7744
+
+-- ---- what stands in place c, on any words
+
+unfoldable pub shortAt : List ℕ → ℕ → Short
+shortAt s c = cellAt s (c * 8)
+
+unfoldable pub batchAt : List ℕ → ℕ → List machine.Request
+batchAt s c = requestsOf (part s (256 + c * 89) 89)
+
+unfoldable pub readsAt : List ℕ → ℕ → List machine.ReadReq
+readsAt s c = readsOf (part s (3104 + c * 145) 145)
+
+-- reads are held where there is a notice book
+abbrev pub bookOf : Option Notices → List machine.ReadReq → Option machine.Book
+bookOf o l = ifNone o then none else λ b. some (record { bal = b .bal; notices = b .notices; holding = l })
+
+abbrev pub instOf : Short → List machine.Request → List machine.ReadReq → machine.Instance
+instOf x reqs reads = record { bal = x .bal; status = x .status; reqs = reqs; leaderBk = x .leaderBk; replicaBk = bookOf (x .replicaBk) reads }
+
+unfoldable pub instIn : List ℕ → ℕ → machine.Instance
+instIn s c = instOf (shortAt s c) (batchAt s c) (readsAt s c)
+
+-- the short part of a null slot
+abbrev pub nullShort : Short
+nullShort = record { bal = 0; status = machine.Null; leaderBk = none; replicaBk = none }
+
+-- ---- n slots from start on
+
+unfoldable pub instsOf : ℕ → ℕ → List ℕ → List machine.Instance
+instsOf start n s = tab (λ i. instIn s ((start + i) % 32)) 0 n
+
+-- ---- what a change of place c comes to: the words t have these three there, and every other place is as it was
+
+pub record SamePlace (s t : List ℕ) (d : ℕ) : Type 0 where
+  pub short : shortAt t d ≡ shortAt s d
+  pub batch : batchAt t d ≡ batchAt s d
+  pub reads : readsAt t d ≡ readsAt s d
+
+pub record Puts (s : List ℕ) (c : ℕ) (x : Short) (reqs : List machine.Request) (reads : List machine.ReadReq) (t : List ℕ) : Type 0 where
+  pub short : shortAt t c ≡ x
+  pub batch : batchAt t c ≡ reqs
+  pub held : readsAt t c ≡ reads
+  pub others : (d : ℕ) → d < 32 → d ≢ c → SamePlace s t d
+  pub size : length t ≡ length s

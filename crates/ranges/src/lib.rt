@@ -1,1 +1,0 @@
-// What a table of key ranges is and means: definitions in specs/, theorems in proofs/. The code over lent words is the crate keyrange.

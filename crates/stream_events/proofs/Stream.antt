@@ -1,0 +1,52 @@
+-- A stream of event lines in pieces is answered as its lines are, one after the other. Assumes nothing.
+use mathlib.Core.Path.{_≡_, refl, sym, ap, _∙_}
+use mathlib.Core.Bool.{Bool, true, false}
+use mathlib.Core.List.{List, [], _∷_, _++_, append-assoc, append-nil}
+use Prim.Native.Nat.{ℕ, suc, _+_, _-_, _^_, _≤_, _<_}
+use native.Mathlib.Omega.{arith}
+use lib.ListN.{length}
+use lib.Dec.{ltb, eqb}
+use borrow.Author.Tests.{lt-ltb}
+use Rattle.line_fields.specs.Split.{Bytes}
+use Rattle.line_host.specs.Line.{lineOf}
+use Rattle.line_host.specs.Host.{Host, freshHost, Told, heard, heardAll, textOf}
+use Rattle.stream_pieces.specs.Pieces.{Begun, fresh, concat}
+use Rattle.stream_pieces.specs.Runs.{Said, prepend, runs, lastLine, total, LongAlike}
+use Rattle.stream_pieces.proofs.Stream as pieces
+use Rattle.stream_events.specs.Lines.{State, start, bumped, told, says, linesFrom, PiecesAsWhole}
+
+-- a line of more than 1,024 bytes is refused alike, whatever its bytes are
+told-long : (h : Host) (b : Begun) (l : Bytes) → 1024 < length (b .line) → told h b ≡ told h (record { long = true; line = l })
+unfolding told heard lineOf
+told-long h b l k = go (b .long) refl
+  where
+    go : (q : Bool) → b .long ≡ q → told h b ≡ told h (record { long = true; line = l })
+    go true p = simp p
+    go false p = simp (p, lt-ltb 1024 (length (b .line)) k)
+
+pub alike : LongAlike says
+unfolding says
+alike s b l h = ap (λ (t : Told). record { text = textOf (s .number) (t .answer); next = record { host = t .host; number = bumped (s .number) } }) (told-long (s .host) b l h)
+
+-- from the n-th line on, whose first bytes are acc
+pub numbered : (h : Host) (n : ℕ) (acc s : Bytes) → n + length (linesFrom acc s) < 2 ^ 64 → total says (runs says (record { host = h; number = n }) (record { long = false; line = acc }) s) ≡ heardAll h n (linesFrom acc s)
+unfolding runs lastLine says told linesFrom heardAll
+numbered h n acc [] k = go (ltb 0 (length acc)) refl
+  where
+    go : (q : Bool) → ltb 0 (length acc) ≡ q → total says (runs says (record { host = h; number = n }) (record { long = false; line = acc }) []) ≡ heardAll h n (linesFrom acc [])
+    go true p = simp (p, append-nil)
+    go false p = simp p
+numbered h n acc (c ∷ s) k = go (eqb c 10) refl (numbered (heard h acc .host) (n + 1) [] s) (numbered h n (acc ++ (c ∷ [])) s)
+  where
+    go : (q : Bool) → eqb c 10 ≡ q
+        → (n + 1 + length (linesFrom [] s) < 2 ^ 64 → total says (runs says (record { host = heard h acc .host; number = n + 1 }) fresh s) ≡ heardAll (heard h acc .host) (n + 1) (linesFrom [] s))
+        → (n + length (linesFrom (acc ++ (c ∷ [])) s) < 2 ^ 64 → total says (runs says (record { host = h; number = n }) (record { long = false; line = acc ++ (c ∷ []) }) s) ≡ heardAll h n (linesFrom (acc ++ (c ∷ [])) s))
+        → total says (runs says (record { host = h; number = n }) (record { long = false; line = acc }) (c ∷ s)) ≡ heardAll h n (linesFrom acc (c ∷ s))
+    go true p i j =
+        let l : n + suc (length (linesFrom [] s)) < 2 ^ 64 = simp p at k in
+        let m : n < 2 ^ 64 - 1 = omega arith in
+        simp (p, lt-ltb n (2 ^ 64 - 1) m, append-assoc) (ap (λ (x : Bytes). textOf n (heard h acc .answer) ++ x) (i (omega arith)))
+    go false p i j = simp p (j (simp p at k))
+
+pub pieces-as-whole : PiecesAsWhole
+pieces-as-whole ps h = pieces.whole says alike start ps ∙ numbered freshHost 1 [] (concat ps) (omega arith)

@@ -1,0 +1,50 @@
+-- Document 01, "The event program": what is written for a stream of event lines. Assumes nothing: these are definitions.
+use Prim.Native.Nat.{ℕ, _+_, _-_, _^_, _<_}
+use mathlib.Core.Path.{_≡_}
+use mathlib.Core.Bool.{_||_}
+use mathlib.Core.List.{List, [], _∷_, _++_}
+use lib.Dec.{ltb, eqb}
+use lib.ListN.{length}
+use Rattle.words.specs.Choice.{if_then_else_}
+use Rattle.line_fields.specs.Split.{Bytes}
+use Rattle.line_host.specs.Host.{Host, freshHost, Told, turned, heard, heardAll, textOf}
+use Rattle.stream_pieces.specs.Pieces.{Begun, fresh, concat}
+use Rattle.stream_pieces.specs.Runs.{Said, piecewise}
+
+-- what goes from line to line: the host, and the number of the next line
+pub record State : Type 0 where
+  pub host : Host
+  pub number : ℕ
+
+abbrev pub start : State
+start = record { host = freshHost; number = 1 }
+
+-- "LINE counts all lines from 1"; past the largest number it stays there
+abbrev pub bumped : ℕ → ℕ
+bumped n = if ltb n (2 ^ 64 - 1) then n + 1 else n
+
+-- refusal 1: a line "exceeds 1,024 bytes", of which some were dropped; where none were, heard tells by the length
+unfoldable pub told : Host → Begun → Told
+told h b = if b .long then turned h 1 else heard h (b .line)
+
+-- a line's text, and the state after it
+unfoldable pub says : State → Begun → Said State
+says s b = let t = told (s .host) b in record { text = textOf (s .number) (t .answer); next = record { host = t .host; number = bumped (s .number) } }
+
+-- the state after a last line without a newline, which is one if it has a byte (lastLine)
+unfoldable pub lastState : State → Begun → State
+lastState s b = if b .long || ltb 0 (length (b .line)) then says s b .next else s
+
+-- ---- the same without pieces
+
+-- the lines of a stream: each up to its newline, and a last one without a newline if it has a byte; acc is what its first line has already
+unfoldable pub linesFrom : Bytes → Bytes → List Bytes
+linesFrom acc [] = if ltb 0 (length acc) then acc ∷ [] else []
+linesFrom acc (c ∷ s) = if eqb c 10 then acc ∷ linesFrom [] s else linesFrom (acc ++ (c ∷ [])) s
+
+abbrev pub linesOf : Bytes → List Bytes
+linesOf s = linesFrom [] s
+
+-- a stream of fewer lines than the number can count, in whatever pieces it comes, is answered as its lines are one after the other
+abbrev pub PiecesAsWhole : Type 0
+PiecesAsWhole = (ps : List Bytes) → length (linesOf (concat ps)) < 2 ^ 64 - 1 → piecewise says start fresh ps ≡ heardAll freshHost 1 (linesOf (concat ps))
