@@ -13,9 +13,9 @@ use Rattle.bodega.specs.Heartbeat.{checkBallot, walk, advanceCommitBar, 
 use Rattle.bodega.specs.Messages.{resendMissedAccepts, takeAck, handleMsgAcceptReply, takeNotice, noticed, handleMsgAcceptNotice}
 use Rattle.bodega.specs.Events.{prepared, recorded, executed, bars}
 use Rattle.bodega.specs.Grounds.{grounds}
-use Rattle.bodega.specs.Step.{effect, turnedAway, step, run, answers}
+use Rattle.bodega.specs.Step.{effect, refusalOf, step, run, answers}
 use Rattle.rank.specs.Sort.{sort, insert}
 
 unfoldable pub computes : Unit {0}
-unfolding tally every get mark unmark setTo count isSuperset fits readKey overwrite remasked isCanon setResponders getRespondersByKey intoFiltered same fresh instAt setInst pad isStableLeader commitCondition sameBytes raise refreshHighestSlot highestOf isBound lastPut inspectHighestSlot inspectLatestWrite holdRead releaseHeldReadReqs releaseFrom settled readAnswer treatRead updatePeerAcceptMax guardAcceptBar firstOpen anyOpen lastOpen prelogs becomeALeader heardNewConf checkBallot walk advanceCommitBar heardCommitNotice installs heardConf heardExecBar heardBars heardHeartbeat resendMissedAccepts takeAck handleMsgAcceptReply takeNotice noticed handleMsgAcceptNotice prepared recorded executed bars grounds effect turnedAway step run answers sort insert
+unfolding tally every get mark unmark setTo count isSuperset fits readKey overwrite remasked isCanon setResponders getRespondersByKey intoFiltered same fresh instAt setInst pad isStableLeader commitCondition sameBytes raise refreshHighestSlot highestOf isBound lastPut inspectHighestSlot inspectLatestWrite holdRead releaseHeldReadReqs releaseFrom settled readAnswer treatRead updatePeerAcceptMax guardAcceptBar firstOpen anyOpen lastOpen prelogs becomeALeader heardNewConf checkBallot walk advanceCommitBar heardCommitNotice installs heardConf heardExecBar heardBars heardHeartbeat resendMissedAccepts takeAck handleMsgAcceptReply takeNotice noticed handleMsgAcceptNotice prepared recorded executed bars grounds effect refusalOf step run answers sort insert
 computes = tt

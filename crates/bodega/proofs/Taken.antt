@@ -9,15 +9,15 @@ use Rattle.roster_conf.specs.Ground.{Ground, Ascends, refusal}
 use Rattle.roster_conf.proofs.Grounds.{zero-one, lowest, NoneApply, none-apply, none-before, Positive, not-0}
 use Rattle.bodega.specs.Replica.{Replica, Call, Heartbeat, Guard, Prepared, Record, Reply, Notice, CommitNotice, Bars, Read, Release, Done}
 use Rattle.bodega.specs.Grounds.{grounds}
-use Rattle.bodega.specs.Step.{effect, allGrounds, turnedAway, LowestFirst, step, stepBy, isTaken}
+use Rattle.bodega.specs.Step.{effect, allGrounds, refusalOf, LowestFirst, step, stepBy, isTaken}
 
 is-none : (o : Option ℕ) (d : Done) → isTaken (stepBy o d) ≡ true → o ≡ none
 is-none none d h = refl
 is-none (some n) d h = let z : _≡_ {A = ℕ} 0 1 = cc in absurd (zero-one z)
 
 pub taken-none : (r : Replica) (c : Call) (places : ℕ) → isTaken (step r c places) ≡ true → NoneApply (grounds r c)
-unfolding step turnedAway
-taken-none r c places h = none-before (grounds r c) _ (none-apply (allGrounds r c places) (is-none (turnedAway r c places) (effect r c) h))
+unfolding step refusalOf
+taken-none r c places h = none-before (grounds r c) _ (none-apply (allGrounds r c places) (is-none (refusalOf r c places) (effect r c) h))
 
 -- the numbers ascend
 ascends : (r : Replica) (c : Call) (places : ℕ) → Ascends (allGrounds r c places)
@@ -35,7 +35,7 @@ ascends r (Release slot) places = (omega arith, (omega arith, (tt, tt)))
 
 -- the number of a refusal is the lowest that applies
 pub lowest-first : LowestFirst
-unfolding turnedAway
+unfolding refusalOf
 lowest-first r c places n e = lowest (allGrounds r c places) n (ascends r c places) e
 
 -- no ground has the number 0
@@ -56,6 +56,6 @@ both-positive : (gs hs : List Ground) → Positive gs → Positive hs → Positi
 both-positive [] hs p q = q
 both-positive (g ∷ gs) hs p q = (p .0, both-positive gs hs (p .1) q)
 
-pub refused-not-0 : (r : Replica) (c : Call) (places n : ℕ) → turnedAway r c places ≡ some n → 0 < n
-unfolding turnedAway
+pub refused-not-0 : (r : Replica) (c : Call) (places n : ℕ) → refusalOf r c places ≡ some n → 0 < n
+unfolding refusalOf
 refused-not-0 r c places n e = not-0 (allGrounds r c places) n (both-positive (grounds r c) _ (positive r c) (omega arith, tt)) e

@@ -13,9 +13,9 @@ use Rattle.words.specs.Choice.{if_then_else_, ifNone_then_else_}
 use Rattle.ids.specs.Limits.{window, hold, keys, batch, top}
 use Rattle.bitmap.specs.Bitmap.{fits}
 use Rattle.roster_conf.specs.Conf.{Conf, leads}
-use Rattle.roster_conf.specs.Run.{isGood}
+use Rattle.roster_conf.specs.EditList.{isGood}
 use Rattle.bodega.specs.Replica.{Request, Instance, Replica, Call, Heartbeat, Guard, Prepared, Record, Reply, Notice, CommitNotice, Bars, Read, Release, isOpen, isLeader, end, instAt}
-use Rattle.bodega.specs.Localread.{refreshHighestSlot, Answer, Found, Missing, FromStore, Consensus, HeldBy, Again}
+use Rattle.bodega.specs.Localread.{refreshHighestSlot, ReadAnswer, Found, Missing, FromStore, Consensus, HeldBy, Again}
 use Rattle.bodega.specs.Request.{readAnswer}
 use Rattle.bodega.specs.Conflease.{anyOpen}
 use Rattle.bodega.specs.Heartbeat.{installs}
@@ -81,7 +81,7 @@ noRoom r = leb window (length (r .insts)) || far (end r)
 abbrev pub full : Replica → ℕ → Bool
 full r slot = ifNone instAt r slot then false else λ i. ifNone i .replicaBk then false else λ b. leb hold (length (b .holding))
 
-abbrev pub overfills : Replica → Answer → Bool
+abbrev pub overfills : Replica → ReadAnswer → Bool
 overfills r (Found v) = false
 overfills r Missing = false
 overfills r FromStore = false

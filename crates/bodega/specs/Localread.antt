@@ -102,24 +102,24 @@ inspectLatestWrite r key = ifNone lastWritten r key then NoSlot else inspectHigh
 -- ---- `read_on_stable_leader`, `read_on_good_responder`, `read_on_improper_node`
 
 -- what a read gets: value, absent, store, pass, hold, retry
-pub data Answer : Type 0 where
-  Found : ℕ → Answer
-  Missing FromStore Consensus : Answer
-  HeldBy : ℕ → Answer
-  Again : Answer
+pub data ReadAnswer : Type 0 where
+  Found : ℕ → ReadAnswer
+  Missing FromStore Consensus : ReadAnswer
+  HeldBy : ℕ → ReadAnswer
+  Again : ReadAnswer
 
 -- a read waits where the slot is Accepting and has a notice book
 abbrev pub waits : Instance → Bool
 waits i = isAccepting (i .status) && (ifNone i .replicaBk then false else λ b. true)
 
-abbrev pub waitsAt : Replica → ℕ → Answer
+abbrev pub waitsAt : Replica → ℕ → ReadAnswer
 waitsAt r slot = ifNone instAt r slot then Again else λ i. if waits i then HeldBy slot else Again
 
 -- a prepared leader leaves the read to ordinary consensus
-abbrev pub improper : Replica → Answer
+abbrev pub improper : Replica → ReadAnswer
 improper r = if not (isLeader r) || eqb (r .bal .prepared) 0 then Again else Consensus
 
-abbrev pub answerOf : Replica → Settled → Answer
+abbrev pub answerOf : Replica → Settled → ReadAnswer
 answerOf r StableLeader = FromStore
 answerOf r FewLeases = improper r
 answerOf r UnreadKey = improper r

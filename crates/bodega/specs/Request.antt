@@ -9,7 +9,7 @@ use Rattle.keys.specs.Read.{readKey}
 use Rattle.roster_ranges.specs.Range.{at, maskAt}
 use Rattle.items.specs.Item.{Value, Absent, Store, Pass, Hold}
 use Rattle.bodega.specs.Replica.{Bytes, ReadReq, Replica, Done, done}
-use Rattle.bodega.specs.Localread.{isStableLeader, inspectLatestWrite, Settled, StableLeader, FewLeases, UnreadKey, StoredRange, DefaultRoster, Bar, Answer, Found, Missing, FromStore, Consensus, HeldBy, Again, answerOf, holdRead, retry}
+use Rattle.bodega.specs.Localread.{isStableLeader, inspectLatestWrite, Settled, StableLeader, FewLeases, UnreadKey, StoredRange, DefaultRoster, Bar, ReadAnswer, Found, Missing, FromStore, Consensus, HeldBy, Again, answerOf, holdRead, retry}
 
 -- `is_responder_for`, and what settles it
 abbrev pub notResponder : Replica → ℕ → Settled
@@ -24,10 +24,10 @@ settled r leases key =
     if ltb (r .bar .commit) (r .peerAccept .max) then Bar else
     inspectLatestWrite r key
 
-unfoldable pub readAnswer : Replica → ℕ → Bytes → Answer
+unfoldable pub readAnswer : Replica → ℕ → Bytes → ReadAnswer
 readAnswer r leases key = answerOf r (settled r leases key)
 
-abbrev pub answered : Replica → ReadReq → Answer → Done
+abbrev pub answered : Replica → ReadReq → ReadAnswer → Done
 answered r q (Found v) = done r (Value (q .client) (q .request) v ∷ [])
 answered r q Missing = done r (Absent (q .client) (q .request) ∷ [])
 answered r q FromStore = done r (Store (q .client) (q .request) ∷ [])

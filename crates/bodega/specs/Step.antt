@@ -34,12 +34,12 @@ effect r (Release slot) = releaseHeldReadReqs slot r
 abbrev pub allGrounds : Replica → Call → ℕ → List Ground
 allGrounds r c places = grounds r c ++ (20 when ltb places (length (effect r c .items)) or [])
 
-unfoldable pub turnedAway : Replica → Call → ℕ → Option ℕ
-turnedAway r c places = refusal (allGrounds r c places)
+unfoldable pub refusalOf : Replica → Call → ℕ → Option ℕ
+refusalOf r c places = refusal (allGrounds r c places)
 
 -- "the lowest refusal number that applies"
 abbrev pub LowestFirst : Type 0
-LowestFirst = (r : Replica) (c : Call) (places n : ℕ) → turnedAway r c places ≡ some n
+LowestFirst = (r : Replica) (c : Call) (places n : ℕ) → refusalOf r c places ≡ some n
     → Applies n (allGrounds r c places) × ((k : ℕ) → Applies k (allGrounds r c places) → n ≤ k)
 
 pub data Step : Type 0 where
@@ -51,7 +51,7 @@ stepBy none d = Taken (d .replica) (d .items)
 stepBy (some n) d = Refused n
 
 unfoldable pub step : Replica → Call → ℕ → Step
-step r c places = stepBy (turnedAway r c places) (effect r c)
+step r c places = stepBy (refusalOf r c places) (effect r c)
 
 -- after a refusal the replica is as it was
 abbrev pub after : Replica → Step → Replica

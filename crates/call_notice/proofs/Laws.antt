@@ -18,7 +18,7 @@ use Rattle.items.specs.Item.{Item, Lead, encode, places}
 use Rattle.items.specs.Area.{Put, putItem}
 use Rattle.items.proofs.Laws.{put-true, put-false, put-area, put-same}
 use Rattle.roster_conf.specs.Conf.{Conf, intoFiltered}
-use Rattle.roster_conf.specs.Edit.{IntoFiltered, edit, answer, taken, grounds as edit-grounds}
+use Rattle.roster_conf.specs.Edit.{IntoFiltered, edit, editResult, taken, grounds as edit-grounds}
 use Rattle.roster_conf.specs.Edits.{view as rosterOf, due as edit-due, Leaves, Edits}
 use Rattle.roster_conf.specs.Ground.{_when_or_}
 use Rattle.roster_conf.specs.declared.RespondersConf.{RespondersConf}
@@ -73,7 +73,7 @@ module _ (population : ℕ) (current : Bool) (start peer slot : ℕ) where
 
 module _ (c : RespondersConf) (s : List ℕ) (p id : ℕ) (w : (id < p) × (p ≤ 64) × (c .count ≤ 64) × (320 ≤ length s)) where
   due-is : edit-due p c s (IntoFiltered id) ≡ taken (intoFiltered id (rosterOf c s))
-  unfolding edit-due answer edit edit-grounds
+  unfolding edit-due editResult edit edit-grounds
   due-is = simp (le-leb 320 (length s) (w .3), le-leb (c .count) 64 (w .2), le-leb 1 p (omega (arith, w .0)), le-leb p 64 (w .1), lt-leb p id (w .0))
 
   module _ (r : Edited) (after : List ℕ) (x : Edits (IntoFiltered id) p c s r after) where

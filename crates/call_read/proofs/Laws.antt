@@ -34,9 +34,9 @@ use Rattle.bodega.specs.Answers.{Answers}
 use Rattle.inspect_latest_write.specs.Seen.{seen, Lent, settledOf, answerIn}
 use Rattle.inspect_latest_write.specs.declared.Standing.{Standing}
 use Rattle.inspect_latest_write.specs.declared.Settled.{Settled}
-use Rattle.inspect_latest_write.specs.declared.Answer.{Answer}
-use Rattle.inspect_latest_write.specs.declared.Answer.the-variants.{HeldBy}
-use Rattle.inspect_latest_write.proofs.Answer.{the-type}
+use Rattle.inspect_latest_write.specs.declared.ReadAnswer.{ReadAnswer}
+use Rattle.inspect_latest_write.specs.declared.ReadAnswer.the-variants.{HeldBy}
+use Rattle.inspect_latest_write.proofs.ReadAnswer.{the-type}
 use Rattle.inspect_latest_write.proofs.Laws.{Waiting, waiting, holds-none}
 use Rattle.node.proofs.Calls.{Ready, is-ready, refused-by, few-places, taken-with}
 use Rattle.node.proofs.Frames.{slots-back, slots-size, slots-beyond, slots-ready}
@@ -82,7 +82,7 @@ module _ (n : Node) (m : List ℕ) where
   answer-same (local.FoundPut v) = refl
   answer-same (local.MissingPut slot) = refl
 
-  fills-same : (a : local.Answer) → overfills (seenIn n m) a ≡ overfills (view n m) a
+  fills-same : (a : local.ReadAnswer) → overfills (seenIn n m) a ≡ overfills (view n m) a
   unfolding machine.instAt seen view
   fills-same (local.Found v) = refl
   fills-same local.Missing = refl
@@ -91,7 +91,7 @@ module _ (n : Node) (m : List ℕ) where
   fills-same (local.HeldBy slot) = refl
   fills-same local.Again = refl
 
-  items-same : (q : machine.ReadReq) (a : local.Answer) → answered (seenIn n m) q a .items ≡ answered (view n m) q a .items
+  items-same : (q : machine.ReadReq) (a : local.ReadAnswer) → answered (seenIn n m) q a .items ≡ answered (view n m) q a .items
   unfolding seen view
   items-same q (local.Found v) = refl
   items-same q local.Missing = refl
@@ -253,7 +253,7 @@ module _ (n : Node) (m area : List ℕ) (client request leases : ℕ) (key : Lis
       pub bytes-are : bytesOf k ≡ key
       bytes-are = short .0
 
-      module _ (y : Settled) (i : settledOf y ≡ settled (seenIn n m) leases key) (a : Answer) (j : answerIn a ≡ local.answerOf (seenIn n m) (settledOf y)) where
+      module _ (y : Settled) (i : settledOf y ≡ settled (seenIn n m) leases key) (a : ReadAnswer) (j : answerIn a ≡ local.answerOf (seenIn n m) (settledOf y)) where
         answer-of : answerIn a ≡ local.answerOf (view n m) (settledOf y)
         answer-of = j ∙ answer-same n m (settledOf y)
 
@@ -312,7 +312,7 @@ module _ (n : Node) (m area : List ℕ) (client request leases : ℕ) (key : Lis
                   waits = waiting (view n m) (slot .0) (settledOf y) (sym answer-of ∙ ap answerIn o)
 
                   pub has-room : length (readsAt (part m 512 7744) (slot .0 % 32)) < 16
-                  has-room = room n m (slot .0) waits (ap (λ (d : Answer). overfills (view n m) (answerIn d)) (sym o) ∙ sym fills ∙ u)
+                  has-room = room n m (slot .0) waits (ap (λ (d : ReadAnswer). overfills (view n m) (answerIn d)) (sym o) ∙ sym fills ∙ u)
 
                   pub held : (s : List ℕ)
                       → Puts (part m 512 7744) (slot .0 % 32) (shortAt (part m 512 7744) (slot .0 % 32)) (batchAt (part m 512 7744) (slot .0 % 32))
@@ -323,5 +323,5 @@ module _ (n : Node) (m area : List ℕ) (client request leases : ℕ) (key : Lis
                       (readsAt (part m 512 7744) (slot .0 % 32) ++ (q ∷ [])) s = rw bytes-are at d in
                       let b′ : Ready n m = is-ready n m t e f in
                       taken (splice m 512 7744 s)
-                      (hold-view n m (slot .0) waits b′ q s d′ ∙ ap (λ (y : Answer). answered (view n m) q (answerIn y) .replica) (sym o))
+                      (hold-view n m (slot .0) waits b′ q s d′ ∙ ap (λ (y : ReadAnswer). answered (view n m) q (answerIn y) .replica) (sym o))
                       (hold-size n m (slot .0) waits b′ q s d′) (hold-beyond n m (slot .0) waits b′ q s d′) (hold-ready n m (slot .0) waits b′ q s d′)

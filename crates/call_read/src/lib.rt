@@ -1,5 +1,5 @@
 // The call *read*: request.rs's `treat_read_only_reqs`, for one read.
-use inspect_latest_write::Answer;
+use inspect_latest_write::ReadAnswer;
 use inspect_latest_write::Standing;
 use inst_holding::ReadReq;
 use key_words::Packed;
@@ -78,7 +78,7 @@ pub fn read(
             node,
         };
     }
-    let Answer::HeldBy(slot) = answer else {
+    let ReadAnswer::HeldBy(slot) = answer else {
         return Answered {
             number: 0,
             count: 1,

@@ -20,9 +20,9 @@ use Rattle.roster_conf.specs.Edits.{view as rosterOf}
 use Rattle.roster_conf.specs.declared.RespondersConf.{RespondersConf}
 use Rattle.call_heartbeat.specs.Heartbeat.{fitting, carried}
 use Rattle.export_plain.specs.declared.Plain.{Plain}
-use Rattle.export_plain.specs.declared.Called.{Called}
+use Rattle.export_plain.specs.declared.PlainAnswered.{PlainAnswered}
 use Rattle.export_plain.specs.declared.Roster.{Roster}
-use Rattle.export_plain.specs.Plain.{confOf, nodeOf, plainOf, noNode, shownOf, toldOf, begunOf, given, freshOf, GivesBack}
+use Rattle.export_plain.specs.Plain.{confOf, nodeOf, plainOf, noNode, shownOf, answeredOf, begunOf, given, freshOf, GivesBack}
 use Rattle.export_plain.proofs.Laws.{back}
 
 -- a call that is refused leaves the node
@@ -40,35 +40,35 @@ shown p a same = go (eqb (a .number) 0) refl
     go true e = rw e (back (a .node))
     go false e = rw e (sym (same (eqb-false (a .number) 0 e)))
 
-pub gives-back : (p : Plain) (a : Answered) (r : Called) → r ≡ toldOf p a → GivesBack p r
+pub gives-back : (p : Plain) (a : Answered) (r : PlainAnswered) → r ≡ answeredOf p a → GivesBack p r
 unfolding GivesBack
 gives-back p a r f = rw f (go (eqb (a .number) 0) refl)
   where
-    go : (t : Bool) → eqb (a .number) 0 ≡ t → GivesBack p (toldOf p a)
+    go : (t : Bool) → eqb (a .number) 0 ≡ t → GivesBack p (answeredOf p a)
     go true e = rw e (ap plainOf (sym (back (a .node))))
     go false e = rw e refl
 
 -- the callee's answer, said of the plain node
-pub answers : (ok : Node → List ℕ → Bool) (c : Call) (p : Plain) (n : Node) (mem area mem′ area′ : List ℕ) (a : Answered) (r : Called) → n ≡ nodeOf p
-    → Answers ok view c n mem area (givenOf a) mem′ area′ → r ≡ toldOf p a → Answers ok view c (nodeOf p) mem area (given r) mem′ area′
+pub answers : (ok : Node → List ℕ → Bool) (c : Call) (p : Plain) (n : Node) (mem area mem′ area′ : List ℕ) (a : Answered) (r : PlainAnswered) → n ≡ nodeOf p
+    → Answers ok view c n mem area (givenOf a) mem′ area′ → r ≡ answeredOf p a → Answers ok view c (nodeOf p) mem area (given r) mem′ area′
 answers ok c p n mem area mem′ area′ a r e h f =
     let it : Answers ok view c (nodeOf p) mem area (givenOf a) mem′ area′ = rw e at h in
-    let back-again : given (toldOf p a) ≡ givenOf a = (λ i. record { number = a .number; count = a .count; node = shown p a (same-node ok c (nodeOf p) mem area (givenOf a) mem′ area′ it) i }) in
+    let back-again : given (answeredOf p a) ≡ givenOf a = (λ i. record { number = a .number; count = a .count; node = shown p a (same-node ok c (nodeOf p) mem area (givenOf a) mem′ area′ it) i }) in
     rw (f, back-again) it
 
 -- and of a plain roster
 pub heard : (p : Plain) (n : Node) (mem area mem′ area′ rows : List ℕ) (peer ballot : ℕ) (attached : Bool) (x : Roster) (c : RespondersConf) (commit exec snap : ℕ)
-    (a : Answered) (r : Called) → n ≡ nodeOf p → c ≡ confOf x
+    (a : Answered) (r : PlainAnswered) → n ≡ nodeOf p → c ≡ confOf x
     → Answers (λ (k : Node) (m : List ℕ). ready k m && fitting attached (c .count) rows) view (Heartbeat peer ballot (carried attached (rosterOf c rows)) commit exec snap) n mem area
     (givenOf a) mem′ area′
-    → r ≡ toldOf p a
+    → r ≡ answeredOf p a
     → Answers (λ (k : Node) (m : List ℕ). ready k m && fitting attached (x .ranges) rows) view (Heartbeat peer ballot (carried attached (rosterOf (confOf x) rows)) commit exec snap)
     (nodeOf p) mem area (given r) mem′ area′
 heard p n mem area mem′ area′ rows peer ballot attached x c commit exec snap a r e f h g = answers _ _ p n mem area mem′ area′ a r e (rw f at h) g
 
 -- ---- a fresh node
 
-module _ (f : Fresh) (r : Called) (e : r ≡ begunOf f) where
+module _ (f : Fresh) (r : PlainAnswered) (e : r ≡ begunOf f) where
   pub fresh-begins : (id population quorum : ℕ) (before after : List ℕ) → Begins id population quorum before f after → Begins id population quorum before (freshOf r) after
   unfolding begunOf
   fresh-begins id population quorum before after b = rw e (go f b)

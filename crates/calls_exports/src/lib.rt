@@ -1,6 +1,6 @@
 // The calls for Rust and C, over plain structs.
-use export_plain::Called;
 use export_plain::Plain;
+use export_plain::PlainAnswered;
 use export_plain::Roster;
 use ids::Ballot;
 use ids::Replica;
@@ -18,7 +18,7 @@ ghost use Rattle.node.specs.Begins.{Begins};
 ghost use Rattle.export_plain.specs.Plain.{nodeOf, confOf, given, freshOf, noNode, GivesBack};
 
 #[no_mangle]
-pub extern "C" fn bodega_fresh(mem: &mut [u64], id: u8, population: u8, quorum: u8) -> Called
+pub extern "C" fn bodega_fresh(mem: &mut [u64], id: u8, population: u8, quorum: u8) -> PlainAnswered
     ensures { λ r. ⌜ Begins id population quorum (now (mem .entry)) (freshOf r) (now (mem .exit)) × GivesBack noNode r × (r .count ≡ 0) ⌝ }
 {
     let fresh = Node::fresh(mem, Replica(id), population, quorum);
@@ -33,21 +33,26 @@ pub extern "C" fn bodega_guard(
     peer: u8,
     number: u64,
     bar: u64,
-) -> Called
+) -> PlainAnswered
     ensures { λ r. ⌜ Answers ready view (Guard peer number bar) (nodeOf node) (now (mem .entry)) (now (area .entry)) (given r) (now (mem .exit)) (now (area .entry)) × GivesBack node r ⌝ }
 {
     let n = export_plain::node_of(node);
     let a = call_guard::guard(n, mem, area, Replica(peer), Ballot(number), Slot(bar));
-    export_plain::told(node, a)
+    export_plain::answered(node, a)
 }
 
 #[no_mangle]
-pub extern "C" fn bodega_prepared(node: Plain, mem: &[u64], area: &[u64], ballot: u64) -> Called
+pub extern "C" fn bodega_prepared(
+    node: Plain,
+    mem: &[u64],
+    area: &[u64],
+    ballot: u64,
+) -> PlainAnswered
     ensures { λ r. ⌜ Answers ready view (Prepared ballot) (nodeOf node) (now (mem .entry)) (now (area .entry)) (given r) (now (mem .entry)) (now (area .entry)) × GivesBack node r ⌝ }
 {
     let n = export_plain::node_of(node);
     let a = call_prepared::prepared(n, mem, area, Ballot(ballot));
-    export_plain::told(node, a)
+    export_plain::answered(node, a)
 }
 
 #[no_mangle]
@@ -59,7 +64,7 @@ pub extern "C" fn bodega_bars(
     accept: u64,
     commit: u64,
     exec: u64,
-) -> Called
+) -> PlainAnswered
     ensures { λ r. ⌜ Answers ready view (Bars start accept commit exec) (nodeOf node) (now (mem .entry)) (now (area .entry)) (given r) (now (mem .exit)) (now (area .entry)) × GivesBack node r ⌝ }
 {
     let n = export_plain::node_of(node);
@@ -72,7 +77,7 @@ pub extern "C" fn bodega_bars(
         Slot(commit),
         Slot(exec),
     );
-    export_plain::told(node, a)
+    export_plain::answered(node, a)
 }
 
 #[no_mangle]
@@ -84,12 +89,12 @@ pub extern "C" fn bodega_record(
     ballot: u64,
     rows: &[u64],
     text: &[u8],
-) -> Called
+) -> PlainAnswered
     ensures { λ r. ⌜ Answers ready view (Record slot ballot (batchOf (now (rows .entry)) (now (text .entry)))) (nodeOf node) (now (mem .entry)) (now (area .entry)) (given r) (now (mem .exit)) (now (area .entry)) × GivesBack node r ⌝ }
 {
     let n = export_plain::node_of(node);
     let a = call_record::record(n, mem, area, Slot(slot), Ballot(ballot), rows, text);
-    export_plain::told(node, a)
+    export_plain::answered(node, a)
 }
 
 #[no_mangle]
@@ -105,7 +110,7 @@ pub extern "C" fn bodega_heartbeat(
     commit: u64,
     exec: u64,
     snap: u64,
-) -> Called
+) -> PlainAnswered
     ensures { λ r. ⌜ Answers (λ n m. ready n m && fitting attached (roster .ranges) (now (rows .entry))) view (Heartbeat peer ballot (carried attached (rosterOf (confOf roster) (now (rows .entry)))) commit exec snap) (nodeOf node) (now (mem .entry)) (now (area .entry)) (given r) (now (mem .exit)) (now (area .exit)) × GivesBack node r ⌝ }
 {
     let n = export_plain::node_of(node);
@@ -126,7 +131,7 @@ pub extern "C" fn bodega_heartbeat(
         exec,
         snap,
     );
-    export_plain::told(node, a)
+    export_plain::answered(node, a)
 }
 
 #[no_mangle]
@@ -137,12 +142,12 @@ pub extern "C" fn bodega_reply(
     peer: u8,
     slot: u64,
     ballot: u64,
-) -> Called
+) -> PlainAnswered
     ensures { λ r. ⌜ Answers ready view (Reply peer slot ballot) (nodeOf node) (now (mem .entry)) (now (area .entry)) (given r) (now (mem .exit)) (now (area .exit)) × GivesBack node r ⌝ }
 {
     let n = export_plain::node_of(node);
     let a = call_reply::reply(n, mem, area, Replica(peer), Slot(slot), Ballot(ballot));
-    export_plain::told(node, a)
+    export_plain::answered(node, a)
 }
 
 #[no_mangle]
@@ -153,12 +158,12 @@ pub extern "C" fn bodega_notice(
     peer: u8,
     slot: u64,
     ballot: u64,
-) -> Called
+) -> PlainAnswered
     ensures { λ r. ⌜ Answers ready view (Notice peer slot ballot) (nodeOf node) (now (mem .entry)) (now (area .entry)) (given r) (now (mem .exit)) (now (area .exit)) × GivesBack node r ⌝ }
 {
     let n = export_plain::node_of(node);
     let a = call_notice::notice(n, mem, area, Replica(peer), Slot(slot), Ballot(ballot));
-    export_plain::told(node, a)
+    export_plain::answered(node, a)
 }
 
 #[no_mangle]
@@ -169,12 +174,12 @@ pub extern "C" fn bodega_commit(
     peer: u8,
     ballot: u64,
     bar: u64,
-) -> Called
+) -> PlainAnswered
     ensures { λ r. ⌜ Answers ready view (CommitNotice peer ballot bar) (nodeOf node) (now (mem .entry)) (now (area .entry)) (given r) (now (mem .exit)) (now (area .exit)) × GivesBack node r ⌝ }
 {
     let n = export_plain::node_of(node);
     let a = call_commit::commit(n, mem, area, Replica(peer), Ballot(ballot), Slot(bar));
-    export_plain::told(node, a)
+    export_plain::answered(node, a)
 }
 
 #[no_mangle]
@@ -186,12 +191,12 @@ pub extern "C" fn bodega_read(
     request: u64,
     leases: u64,
     key: &[u8],
-) -> Called
+) -> PlainAnswered
     ensures { λ r. ⌜ Answers ready view (Read leases (record { client = client; request = request; key = now (key .entry) })) (nodeOf node) (now (mem .entry)) (now (area .entry)) (given r) (now (mem .exit)) (now (area .exit)) × GivesBack node r ⌝ }
 {
     let n = export_plain::node_of(node);
     let a = call_read::read(n, mem, area, client, request, leases, key);
-    export_plain::told(node, a)
+    export_plain::answered(node, a)
 }
 
 #[no_mangle]
@@ -200,10 +205,10 @@ pub extern "C" fn bodega_release(
     mem: &mut [u64],
     area: &mut [u64],
     slot: u64,
-) -> Called
+) -> PlainAnswered
     ensures { λ r. ⌜ Answers ready view (Release slot) (nodeOf node) (now (mem .entry)) (now (area .entry)) (given r) (now (mem .exit)) (now (area .exit)) × GivesBack node r ⌝ }
 {
     let n = export_plain::node_of(node);
     let a = call_release::release(n, mem, area, Slot(slot));
-    export_plain::told(node, a)
+    export_plain::answered(node, a)
 }

@@ -9,9 +9,9 @@ use Rattle.node.specs.declared.Answered.{Answered}
 use Rattle.node.specs.declared.Fresh.{Fresh}
 use Rattle.node.specs.declared.Fresh.the-variants.{Made, Refused}
 use Rattle.export_plain.specs.declared.Plain.{Plain}
-use Rattle.export_plain.specs.declared.Called.{Called}
+use Rattle.export_plain.specs.declared.PlainAnswered.{PlainAnswered}
 use Rattle.export_plain.specs.declared.Roster.{Roster}
-use Rattle.export_plain.specs.Plain.{leaderAt, hasLeader, leaderIn, confWith, confOf, nodeWith, nodeOf, plainWith, plainOf, noNode, shownOf, toldOf, begunOf}
+use Rattle.export_plain.specs.Plain.{leaderAt, hasLeader, leaderIn, confWith, confOf, nodeWith, nodeOf, plainWith, plainOf, noNode, shownOf, answeredOf, begunOf}
 
 pub leader-none : (has l : ℕ) → has ≡ 0 → None ≡ leaderAt has l
 leader-none has l h = sym (simp (eq-eqb has 0 h))
@@ -34,14 +34,14 @@ shown-taken p a q z e = rw (eq-eqb (a .number) 0 z) e
 pub shown-refused : (p : Plain) (a : Answered) → (a .number ≡ 0 → ⊥) → p ≡ shownOf p a
 shown-refused p a z = rw (ne-eqb (a .number) 0 z)
 
-pub told : (p : Plain) (a : Answered) (q : Plain) → q ≡ shownOf p a → _≡_ {A = Called} (record { number = a .number; count = a .count; node = q }) (toldOf p a)
-told p a q e = λ i. record { number = a .number; count = a .count; node = e i }
+pub answered : (p : Plain) (a : Answered) (q : Plain) → q ≡ shownOf p a → _≡_ {A = PlainAnswered} (record { number = a .number; count = a .count; node = q }) (answeredOf p a)
+answered p a q e = λ i. record { number = a .number; count = a .count; node = e i }
 
-pub begun-made : (f : Fresh) (n : Node) (p : Plain) (r : Called) → f ≡ Made n → p ≡ plainOf n → r ≡ record { number = 0; count = 0; node = p } → r ≡ begunOf f
+pub begun-made : (f : Fresh) (n : Node) (p : Plain) (r : PlainAnswered) → f ≡ Made n → p ≡ plainOf n → r ≡ record { number = 0; count = 0; node = p } → r ≡ begunOf f
 unfolding begunOf
 begun-made f n p r e g h = rw (e, h, g)
 
-pub begun-refused : (f : Fresh) (k : ℕ) (p : Plain) (r : Called) → f ≡ Refused k → p ≡ noNode → r ≡ record { number = k; count = 0; node = p } → r ≡ begunOf f
+pub begun-refused : (f : Fresh) (k : ℕ) (p : Plain) (r : PlainAnswered) → f ≡ Refused k → p ≡ noNode → r ≡ record { number = k; count = 0; node = p } → r ≡ begunOf f
 unfolding begunOf
 begun-refused f k p r e g h = rw (e, h, g)
 

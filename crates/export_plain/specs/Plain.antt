@@ -12,7 +12,7 @@ use Rattle.node.specs.declared.Fresh.{Fresh}
 use Rattle.node.specs.declared.Fresh.the-variants.{Made, Refused}
 use Rattle.bodega.specs.Answers.{Given}
 use Rattle.export_plain.specs.declared.Plain.{Plain}
-use Rattle.export_plain.specs.declared.Called.{Called}
+use Rattle.export_plain.specs.declared.PlainAnswered.{PlainAnswered}
 use Rattle.export_plain.specs.declared.Roster.{Roster}
 
 abbrev pub leaderAt : ℕ → ℕ → Leader
@@ -107,21 +107,21 @@ noNode =
 abbrev pub shownOf : Plain → Answered → Plain
 shownOf p a = if eqb (a .number) 0 then plainOf (a .node) else p
 
-abbrev pub toldOf : Plain → Answered → Called
-toldOf p a = record { number = a .number; count = a .count; node = shownOf p a }
+abbrev pub answeredOf : Plain → Answered → PlainAnswered
+answeredOf p a = record { number = a .number; count = a .count; node = shownOf p a }
 
-unfoldable pub begunOf : Fresh → Called
+unfoldable pub begunOf : Fresh → PlainAnswered
 begunOf (Made n) = record { number = 0; count = 0; node = plainOf n }
 begunOf (Refused k) = record { number = k; count = 0; node = noNode }
 
 -- ---- read back
 
-abbrev pub given : Called → Given Node
+abbrev pub given : PlainAnswered → Given Node
 given r = record { number = r .number; count = r .count; node = nodeOf (r .node) }
 
-abbrev pub freshOf : Called → Fresh
+abbrev pub freshOf : PlainAnswered → Fresh
 freshOf r = if eqb (r .number) 0 then Made (nodeOf (r .node)) else Refused (r .number)
 
 -- No field is free: a call that is taken gives what `plainOf` makes of its node, one that is refused what it was handed.
-unfoldable pub GivesBack : Plain → Called → Type 0
+unfoldable pub GivesBack : Plain → PlainAnswered → Type 0
 GivesBack p r = r .node ≡ (if eqb (r .number) 0 then plainOf (nodeOf (r .node)) else p)

@@ -8,7 +8,7 @@ use node::Fresh;
 use node::Node;
 use roster_conf::RespondersConf;
 ghost use mathlib.Core.Path.{_≡_};
-ghost use Rattle.export_plain.specs.Plain.{leaderAt, hasLeader, leaderIn, nodeOf, plainOf, shownOf, toldOf, begunOf, noNode, confOf};
+ghost use Rattle.export_plain.specs.Plain.{leaderAt, hasLeader, leaderIn, nodeOf, plainOf, shownOf, answeredOf, begunOf, noNode, confOf};
 
 // A node; has_leader is 0 where there is no leader.
 #[repr(C)]
@@ -43,7 +43,7 @@ pub struct Roster {
 
 // number is 0 where the call is taken, or the refusal.
 #[repr(C)]
-pub struct Called {
+pub struct PlainAnswered {
     pub number: u64,
     pub count: usize,
     pub node: Plain,
@@ -162,11 +162,11 @@ fn shown(handed: Plain, a: Answered) -> Plain
 }
 
 // What a call answered that was handed a plain node.
-pub fn told(handed: Plain, a: Answered) -> Called
-    ensures { λ r. ⌜ r ≡ toldOf handed a ⌝ }
+pub fn answered(handed: Plain, a: Answered) -> PlainAnswered
+    ensures { λ r. ⌜ r ≡ answeredOf handed a ⌝ }
 {
     let node = shown(handed, a);
-    Called {
+    PlainAnswered {
         number: a.number,
         count: a.count,
         node,
@@ -199,10 +199,10 @@ fn no_node() -> Plain
 }
 
 // An answer without items.
-fn bare(number: u64, node: Plain) -> Called
+fn bare(number: u64, node: Plain) -> PlainAnswered
     ensures { λ r. ⌜ r ≡ record { number = number; count = 0; node = node } ⌝ }
 {
-    Called {
+    PlainAnswered {
         number,
         count: 0,
         node,
@@ -210,7 +210,7 @@ fn bare(number: u64, node: Plain) -> Called
 }
 
 // A fresh node, or the refusal and no node.
-pub fn begun(fresh: Fresh) -> Called
+pub fn begun(fresh: Fresh) -> PlainAnswered
     ensures { λ r. ⌜ r ≡ begunOf fresh ⌝ }
 {
     match fresh {

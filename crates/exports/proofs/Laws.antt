@@ -25,7 +25,7 @@ use Rattle.roster_conf.specs.declared.Responders.the-variants.{Mask as Found, N
 use Rattle.roster_conf.specs.Conf.{Conf, setResponders, intoFiltered}
 use Rattle.roster_conf.specs.Ground.{refusal}
 use Rattle.roster_conf.proofs.Grounds.{not-0, edit-positive}
-use Rattle.roster_conf.specs.Edit.{Edit, SetLeader, SetResponders, SetFull, IntoFiltered, ResetFull, between, edit, grounds, Answer, refused, taken, answer}
+use Rattle.roster_conf.specs.Edit.{Edit, SetLeader, SetResponders, SetFull, IntoFiltered, ResetFull, between, edit, grounds, EditResult, refused, taken, editResult}
 use Rattle.roster_conf.specs.Edits.{view, holdsRows, inRange, due, Gives, Edits, lookup}
 use Rattle.exports.specs.declared.Key.{Key}
 use Rattle.exports.specs.declared.Count.{Count}
@@ -57,7 +57,7 @@ abbrev Bare : Conf → Type 0
 Bare c = (c .leader ≡ none) × (c .default ≡ 0)
 
 -- a refusal above 0, or a roster with no leader and default 0
-abbrev Fine : Answer → Type 0
+abbrev Fine : EditResult → Type 0
 Fine (refused k) = 0 < k
 Fine (taken c) = Bare c
 
@@ -67,15 +67,15 @@ module _ (p n : ℕ) (s : List ℕ) (e : Edit) (b : Bare (edit (view (plain n 0)
   answer-fine (some k) f = not-0 (grounds p (view (plain n 0) s) e) k (edit-positive p (view (plain n 0) s) e) f
 
   due-fine : Fine (due p (plain n 0) s e)
-  unfolding due answer
+  unfolding due editResult
   due-fine = go (holdsRows (length s) n && inRange p)
     where
-      go : (t : Bool) → Fine (if t then answer p (view (plain n 0) s) e else refused 2)
+      go : (t : Bool) → Fine (if t then editResult p (view (plain n 0) s) e else refused 2)
       go true = answer-fine (refusal (grounds p (view (plain n 0) s) e)) refl
       go false = omega arith
 
 -- what the number and the count say is what the answer says
-gives : (a : Answer) (n : ℕ) (s after : List ℕ) (d : Edited) → Fine a → Gives a d s after → Gives a (edited (countOf d n)) s after
+gives : (a : EditResult) (n : ℕ) (s after : List ℕ) (d : Edited) → Fine a → Gives a d s after → Gives a (edited (countOf d n)) s after
 unfolding edited view
 gives (refused k) n s after (Refused j) f g = simp (ne-eqb j 0 (λ z. absurd (omega (arith, g .0)))) g
 gives (refused k) n s after (Taken d) f g = absurd g

@@ -11,18 +11,18 @@ use borrow.Author.Tests.{ltb-false, leb-false, not-false}
 use Rattle.words.specs.Choice.{ifNone_then_else_}
 use Rattle.bitmap.specs.Bitmap.{get, mark, count}
 use Rattle.roster_conf.specs.Conf.{Conf, leads}
-use Rattle.roster_conf.specs.Run.{Good, isGood}
+use Rattle.roster_conf.specs.EditList.{Good, isGood}
 use Rattle.items.specs.Item.{Item}
 use Rattle.ids.specs.Limits.{hold, keys, batch}
 use Rattle.bodega.specs.Replica.{Status, Committed, Executed, isOpen, isAccepting, Book, newBook, ReadReq, Request, Instance, nullInstance, Replica, fresh, freshPair, pair, Call, Heartbeat, Guard, Prepared, Record, Reply, Notice, CommitNotice, Bars, Read, Release, Done, isLeader, end, instAt, setInst, pad, withStatus, withLeaderBk, withReplicaBk, withHolding, withHighestSlot, withPeerExecBar}
-use Rattle.bodega.specs.Localread.{refreshHighestSlot, commitCondition, releaseHeldReadReqs, releaseFrom, holdRead, Answer, Found, Missing, FromStore, Consensus, HeldBy, Again}
+use Rattle.bodega.specs.Localread.{refreshHighestSlot, commitCondition, releaseHeldReadReqs, releaseFrom, holdRead, ReadAnswer, Found, Missing, FromStore, Consensus, HeldBy, Again}
 use Rattle.bodega.specs.Request.{readAnswer, answered, treatRead}
 use Rattle.bodega.specs.Conflease.{updatePeerAcceptMax, guardAcceptBar, newer, firstOpen, reprepared, preparing, becomeALeader, adopted, heardNewConf}
 use Rattle.bodega.specs.Heartbeat.{checkBallot, walk, advanceCommitBar, heardCommitNotice, heardConf, installs, heardExecBar, passed, heardBars, heardHeartbeat}
 use Rattle.bodega.specs.Messages.{takeAck, takeNotice, handleMsgAcceptReply, noticed, handleMsgAcceptNotice}
 use Rattle.bodega.specs.Events.{prepared, accepting, recorded, executed, bars}
 use Rattle.bodega.specs.Grounds.{grounds, unformed, full, overfills}
-use Rattle.bodega.specs.Step.{Event, effect, turnedAway, step, stepBy, stepOf, after, isTaken, run}
+use Rattle.bodega.specs.Step.{Event, effect, refusalOf, step, stepBy, stepOf, after, isTaken, run}
 use Rattle.history.specs.Invariant.{EachSlot}
 use Rattle.history.specs.Table.{Table, alters, adopts, adopting, raises, hear}
 use Rattle.history.specs.Capacity.{heldReads, SlotSmall, Each, Small, Capacity, RosterStaysGood}
@@ -102,7 +102,7 @@ hold-small slot q r h s =
     let k : length (b .holding) < hold = leb-false hold (length (b .holding)) (rw (e, f) at h) in
     set-small r slot i _ e (book-small i _ (rw (length-append (b .holding) (q ∷ [])) (omega arith))) s
 
-answered-small : (r : Replica) (q : ReadReq) (a : Answer) → overfills r a ≡ false → Small r → Ends (answered r q a)
+answered-small : (r : Replica) (q : ReadReq) (a : ReadAnswer) → overfills r a ≡ false → Small r → Ends (answered r q a)
 answered-small r q (Found v) h s = s
 answered-small r q Missing h s = s
 answered-small r q FromStore h s = s
@@ -299,9 +299,9 @@ effect-small r (Release slot) s n = release-small slot r s
 
 step-small : (r : Replica) (e : Event) → Small r → Small (after r (stepOf r e))
 unfolding step
-step-small r e s = go (turnedAway r (e .call) (e .places)) refl
+step-small r e s = go (refusalOf r (e .call) (e .places)) refl
   where
-    go : (o : Option ℕ) → turnedAway r (e .call) (e .places) ≡ o → Small (after r (stepBy o (effect r (e .call))))
+    go : (o : Option ℕ) → refusalOf r (e .call) (e .places) ≡ o → Small (after r (stepBy o (effect r (e .call))))
     go none q = effect-small r (e .call) s (taken-none r (e .call) (e .places) (rw q))
     go (some n) q = s
 

@@ -5,14 +5,14 @@ use mathlib.Core.Option.{Option, none, some}
 use mathlib.Core.Path.{_≡_, refl, ap, _∙_}
 use Rattle.words.specs.Choice.{if_then_else_}
 use Rattle.bodega.specs.Replica.{Replica, fresh}
-use Rattle.bodega.specs.Step.{Event, effect, turnedAway, step, stepBy, stepOf, after, isTaken, run}
+use Rattle.bodega.specs.Step.{Event, effect, refusalOf, step, stepBy, stepOf, after, isTaken, run}
 use Rattle.history.specs.Table.{Table, freshTable, hear, feed, feedAll}
 use Rattle.history.specs.History.{history, FigureStands}
 use Rattle.history.proofs.View.{view, effect-view}
 
 pub step-view : (r : Replica) (e : Event) → view (after r (stepOf r e)) ≡ feed (view r) (record { call = e .call; taken = isTaken (stepOf r e) })
 unfolding step
-step-view r e = go (turnedAway r (e .call) (e .places))
+step-view r e = go (refusalOf r (e .call) (e .places))
   where
     go : (o : Option ℕ) → view (after r (stepBy o (effect r (e .call)))) ≡ (if isTaken (stepBy o (effect r (e .call))) then hear (view r) (e .call) else view r)
     go none = effect-view r (e .call)

@@ -14,7 +14,7 @@ use Rattle.words.proofs.Tests.{and-both}
 use Rattle.ids.specs.Limits.{beyond}
 use Rattle.bodega.specs.Replica.{Pair, pair, Call, Heartbeat, Guard, Prepared, Record, Reply, Notice, CommitNotice, Bars, Read, Release}
 use Rattle.history.specs.Table.{Table, Fed, beats, alters, figureOf, guarded, adopts, adopting, raises, raised, hear, feed, feedAll}
-use Rattle.history.specs.History.{turns, quiet, accepted, SameGuards}
+use Rattle.history.specs.History.{changes, quiet, accepted, SameGuards}
 use Rattle.history.proofs.Order.{Upto, upto, upto-beats, upto-refl, upto-trans, upto-both, not-beats, beats-upto, beats-self}
 
 -- what a call that is no adoption and raises no ballot does: nothing to the pairs and the figure, or a guard's change
@@ -43,7 +43,7 @@ still-unless : {t : Table} (u : Table) (x : Bool) → not x ≡ true → Still t
 still-unless u true h = let z : _≡_ {A = ℕ} 0 1 = cc in absurd (omega arith)
 still-unless u false h = still
 
-turn : (t : Table) (c : Call) (b : Bool) → not (b && turns t c) ≡ true → Still t (feed t (fedOf c b)) ⊎ Guarded t (feed t (fedOf c b)) (fedOf c b)
+turn : (t : Table) (c : Call) (b : Bool) → not (b && changes t c) ≡ true → Still t (feed t (fedOf c b)) ⊎ Guarded t (feed t (fedOf c b)) (fedOf c b)
 unfolding hear
 turn t c false h = inl still
 turn t (Heartbeat peer ballot conf commit exec snap) true h = inl (still-unless (adopting ballot conf t) (adopts t peer ballot conf) h)
@@ -127,7 +127,7 @@ module _ (t : Table) (peer number bar : ℕ) (inside : peer < length (t .pairs))
 abbrev pub Inside : Table → (Fed → Type 0) → Type 0
 Inside t In = (peer number bar : ℕ) → In (accepted peer number bar) → peer < length (t .pairs)
 
-turned : (t : Table) (f : Fed) → not (f .taken && turns t (f .call)) ≡ true → Inside t (λ g. g ≡ f) → Turned (λ g. g ≡ f) t (feed t f)
+turned : (t : Table) (f : Fed) → not (f .taken && changes t (f .call)) ≡ true → Inside t (λ g. g ≡ f) → Turned (λ g. g ≡ f) t (feed t f)
 turned t f h i = go (turn t (f .call) (f .taken) h)
   where
     go : Still t (feed t f) ⊎ Guarded t (feed t f) f → Turned (λ g. g ≡ f) t (feed t f)
@@ -203,7 +203,7 @@ all-turned t [] h i =
     }
 all-turned t (f ∷ fs) h i =
     let a = turned t f (and-both _ _ h .0) (λ p n m e. i p n m (List·Memᴰ·head e)) in
-    both a (all-turned (feed t f) fs (and-both (not (f .taken && turns t (f .call))) _ h .1) (λ p n m e. rw (a .size) (i p n m (List·Memᴰ·tail e))))
+    both a (all-turned (feed t f) fs (and-both (not (f .taken && changes t (f .call))) _ h .1) (λ p n m e. rw (a .size) (i p n m (List·Memᴰ·tail e))))
 
 pub all-covered : (t : Table) (fs : List Fed) → quiet t fs ≡ true → InsideAll t fs
     → (k number bar : ℕ) → List·Memᴰ (accepted k number bar) fs → Upto (pair number bar) (at (feedAll t fs) k)
@@ -211,7 +211,7 @@ unfolding quiet feedAll
 all-covered t [] h i k number bar m = absurd (List·Memᴰ·not-nil m)
 all-covered t (f ∷ fs) h i k number bar m =
     let a = turned t f (and-both _ _ h .0) (λ p n b e. i p n b (List·Memᴰ·head e)) in
-    let h′ = and-both (not (f .taken && turns t (f .call))) (quiet (feed t f) fs) h .1 in
+    let h′ = and-both (not (f .taken && changes t (f .call))) (quiet (feed t f) fs) h .1 in
     let i′ : InsideAll (feed t f) fs = λ p n b e. rw (a .size) (i p n b (List·Memᴰ·tail e)) in
     ⊎-elim
     (λ e. upto-trans (rw (← e) (covered t k number bar (i k number bar m))) (all-turned (feed t f) fs h′ i′ .grows k))

@@ -17,13 +17,13 @@ use Rattle.roster_conf.specs.Ground.{Ground, _when_or_, refusal}
 use Rattle.items.specs.Item.{Item, Commit}
 use Rattle.ids.specs.Limits.{window, hold, items}
 use Rattle.bodega.specs.Replica.{Status, order, isOpen, isAccepting, newBook, ReadReq, Instance, nullInstance, Replica, fresh, Call, Heartbeat, Guard, Prepared, Record, Reply, Notice, CommitNotice, Bars, Read, Release, Done, isLeader, end, instAt, setInst, pad, withReplicaBk}
-use Rattle.bodega.specs.Localread.{commitCondition, released, releaseHeldReadReqs, releaseFrom, Answer, Found, Missing, FromStore, Consensus, HeldBy, Again}
+use Rattle.bodega.specs.Localread.{commitCondition, released, releaseHeldReadReqs, releaseFrom, ReadAnswer, Found, Missing, FromStore, Consensus, HeldBy, Again}
 use Rattle.bodega.specs.Request.{readAnswer, answered, treatRead}
 use Rattle.bodega.specs.Conflease.{updatePeerAcceptMax, firstOpen, anyOpen, lastOpen, reprepared, prelogs, preparing, becomeALeader, adopted, heardNewConf}
 use Rattle.bodega.specs.Heartbeat.{checkBallot, Walk, walk, advanceCommitBar, heardCommitNotice, heardConf, installs, heardBars, heardHeartbeat}
 use Rattle.bodega.specs.Messages.{resendMissedAccepts, takeAck, takeNotice, handleMsgAcceptReply, noticed, handleMsgAcceptNotice}
 use Rattle.bodega.specs.Grounds.{grounds}
-use Rattle.bodega.specs.Step.{effect, turnedAway, run}
+use Rattle.bodega.specs.Step.{effect, refusalOf, run}
 use Rattle.history.specs.Invariant.{core, Sound, EachSlot}
 use Rattle.history.specs.Capacity.{SlotSmall, Each, Small, Bounded, PlacesSuffice}
 use Rattle.bodega.proofs.Choices.{of-if, of-none, by-if, by-none}
@@ -293,7 +293,7 @@ notice-items r peer slot ballot s =
 
 -- ---- every call
 
-answered-items : (r : Replica) (q : ReadReq) (a : Answer) → Most 1 (answered r q a)
+answered-items : (r : Replica) (q : ReadReq) (a : ReadAnswer) → Most 1 (answered r q a)
 answered-items r q (Found v) = omega arith
 answered-items r q Missing = omega arith
 answered-items r q FromStore = omega arith
@@ -328,7 +328,7 @@ without [] places n h = rw (le-ltb places n h)
 without (g ∷ gs) places n h = rw (without gs places n h)
 
 pub places-suffice : PlacesSuffice
-unfolding turnedAway
+unfolding refusalOf
 places-suffice id population quorum es c places h =
     let r = run (fresh id population quorum) es in
     without (grounds r c) places (length (effect r c .items)) (omega (arith, bounded id population quorum es c))

@@ -8,7 +8,7 @@ use Rattle.words.specs.Choice.{ifNone_then_else_}
 use Rattle.bitmap.specs.Bitmap.{get, mark, count}
 use Rattle.items.specs.Item.{Item}
 use Rattle.bodega.specs.Replica.{ReadReq, Instance, newBook, Replica, Done, setInst, instAt, isLeader, isAccepting, end, withReplicaBk}
-use Rattle.bodega.specs.Localread.{commitCondition, releaseHeldReadReqs, releaseFrom, holdRead, Answer, Found, Missing, FromStore, Consensus, HeldBy, Again}
+use Rattle.bodega.specs.Localread.{commitCondition, releaseHeldReadReqs, releaseFrom, holdRead, ReadAnswer, Found, Missing, FromStore, Consensus, HeldBy, Again}
 use Rattle.bodega.specs.Request.{readAnswer, answered, treatRead}
 use Rattle.bodega.specs.Messages.{takeAck, takeNotice, handleMsgAcceptReply, noticed}
 use Rattle.bodega.proofs.Choices.{of-if, of-none}
@@ -32,7 +32,7 @@ module _ {X : Type 0} (view : Replica → X) where
     hold-keeps slot q r =
         of-none (λ (s : Replica). view s ≡ view r) (instAt r slot) refl (λ i. of-none (λ (s : Replica). view s ≡ view r) (i .replicaBk) refl (λ b. set-keeps slot _ r))
 
-    answered-keeps : (r : Replica) (q : ReadReq) (a : Answer) → Keeps r (answered r q a)
+    answered-keeps : (r : Replica) (q : ReadReq) (a : ReadAnswer) → Keeps r (answered r q a)
     answered-keeps r q (Found v) = refl
     answered-keeps r q Missing = refl
     answered-keeps r q FromStore = refl

@@ -12,13 +12,13 @@ use borrow.Author.Tests.{ne-eqb}
 use Rattle.words.specs.Choice.{if_then_else_}
 use Rattle.items.specs.Item.{places}
 use Rattle.bodega.specs.Replica.{Replica, fresh, Call, Guard, Done}
-use Rattle.bodega.specs.Step.{Step, Refused, Taken, step, stepBy, after, isTaken, allGrounds, turnedAway, effect}
+use Rattle.bodega.specs.Step.{Step, Refused, Taken, step, stepBy, after, isTaken, allGrounds, refusalOf, effect}
 use Rattle.bodega.specs.Answers.{Given, due, Follows, Answers}
 use Rattle.bodega.proofs.Taken.{refused-not-0}
 use Rattle.history.specs.Table.{Table, Fed, freshTable, feed, feedAll}
 use Rattle.history.specs.History.{accepted}
 use Rattle.history.specs.Made as made-of
-use Rattle.history.specs.Made.{Made, Lived, CodeFigureStands, CodeOrderFree}
+use Rattle.history.specs.Made.{Made, CodeHistory, CodeFigureStands, CodeOrderFree}
 use Rattle.history.proofs.View.{view as tableOf}
 use Rattle.history.proofs.Figure.{step-view, fresh-view, figure-of}
 use Rattle.history.proofs.Guards.{InsideAll, same-figure}
@@ -54,7 +54,7 @@ module _ {Node : Type 0} (view : Node → List ℕ → Replica) where
       where
         go : (t : Bool) → Follows whole view (if t then step (view node mem) c (places area) else Refused 2) node mem area g mem′ area′ → Comes c node mem g mem′
         go true f =
-            let t = tells whole (turnedAway (view node mem) c (places area)) (effect (view node mem) c) node mem area g mem′ area′ (refused-not-0 (view node mem) c (places area)) f in
+            let t = tells whole (refusalOf (view node mem) c (places area)) (effect (view node mem) c) node mem area g mem′ area′ (refused-not-0 (view node mem) c (places area)) f in
             record {
               table =
                   ap tableOf (t .next) ∙ step-view (view node mem) (record { call = c; places = places area })
@@ -123,7 +123,7 @@ module _ {Node : Type 0} (ready : Node → List ℕ → Bool) (view : Node → L
   stands {node} {last} {mem} {end} f (made-of.callWith {mem′ = mem′} {fs = fs} whole c area area′ g a m) =
       one-more c node last mem g mem′ end fs f (comes view ready (λ n m. ready n m && whole) c node mem area g mem′ area′ a) (λ f′. stands f′ m)
 
-  module _ (id population quorum : ℕ) (fs : List Fed) (bar : ℕ) (l : Lived ready view id population quorum fs bar) where
+  module _ (id population quorum : ℕ) (fs : List Fed) (bar : ℕ) (l : CodeHistory ready view id population quorum fs bar) where
     begin-is : tableOf (view (l .first) (l .begin)) ≡ freshTable id population quorum
     begin-is = ap tableOf (l .stands) ∙ fresh-view id population quorum
 

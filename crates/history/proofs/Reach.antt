@@ -21,7 +21,7 @@ use Rattle.bodega.specs.Heartbeat.{checkBallot, Walk, walk, advanceCommitBar, h
 use Rattle.bodega.specs.Messages.{noticed, handleMsgAcceptNotice}
 use Rattle.bodega.specs.Events.{prepared, recorded, executed, bars}
 use Rattle.bodega.specs.Grounds.{grounds, appends, noRoom, falls, ordered}
-use Rattle.bodega.specs.Step.{Event, effect, turnedAway, step, stepBy, stepOf, after, run}
+use Rattle.bodega.specs.Step.{Event, effect, refusalOf, step, stepBy, stepOf, after, run}
 use Rattle.history.specs.Invariant.{core, Sound}
 use Rattle.bodega.proofs.Choices.{of-if, of-none}
 use Rattle.history.proofs.Keeps.{Keeps, release-keeps, from-keeps, read-keeps, reply-keeps, noticed-keeps}
@@ -354,9 +354,9 @@ effect-sound r (Release slot) s n = rw (release-keeps core core-set slot r) s
 
 pub step-sound : (r : Replica) (e : Event) → Sound (core r) → Sound (core (after r (stepOf r e)))
 unfolding step
-step-sound r e s = go (turnedAway r (e .call) (e .places)) refl
+step-sound r e s = go (refusalOf r (e .call) (e .places)) refl
   where
-    go : (o : Option ℕ) → turnedAway r (e .call) (e .places) ≡ o → Sound (core (after r (stepBy o (effect r (e .call)))))
+    go : (o : Option ℕ) → refusalOf r (e .call) (e .places) ≡ o → Sound (core (after r (stepBy o (effect r (e .call)))))
     go none q = effect-sound r (e .call) s (taken-none r (e .call) (e .places) (rw q))
     go (some n) q = s
 

@@ -15,14 +15,14 @@ use Rattle.bitmap.specs.Bitmap.{get, mark, count}
 use Rattle.roster_conf.specs.Conf.{Conf, leads}
 use Rattle.items.specs.Item.{Item, Commit}
 use Rattle.bodega.specs.Replica.{Status, Null, Preparing, Accepting, Committed, Executed, order, isOpen, isAccepting, Book, newBook, ReadReq, Request, Instance, nullInstance, Highest, Replica, fresh, freshPair, Call, Heartbeat, Guard, Prepared, Record, Reply, Notice, CommitNotice, Bars, Read, Release, Done, isLeader, end, instAt, setInst, pad, withStatus, withLeaderBk, withReplicaBk, withHolding, withHighestSlot, withPeerExecBar}
-use Rattle.bodega.specs.Localread.{refreshHighestSlot, commitCondition, releaseHeldReadReqs, releaseFrom, holdRead, Answer, Found, Missing, FromStore, Consensus, HeldBy, Again}
+use Rattle.bodega.specs.Localread.{refreshHighestSlot, commitCondition, releaseHeldReadReqs, releaseFrom, holdRead, ReadAnswer, Found, Missing, FromStore, Consensus, HeldBy, Again}
 use Rattle.bodega.specs.Request.{readAnswer, answered, treatRead}
 use Rattle.bodega.specs.Conflease.{updatePeerAcceptMax, guardAcceptBar, newer, firstOpen, reprepared, preparing, becomeALeader, adopted, heardNewConf}
 use Rattle.bodega.specs.Heartbeat.{checkBallot, Walk, walk, advanceCommitBar, heardCommitNotice, heardConf, installs, heardExecBar, passed, heardBars, heardHeartbeat}
 use Rattle.bodega.specs.Messages.{takeAck, takeNotice, handleMsgAcceptReply, noticed, handleMsgAcceptNotice}
 use Rattle.bodega.specs.Events.{prepared, accepting, recorded, executed, bars}
 use Rattle.bodega.specs.Grounds.{grounds, any, isClosed, falls, ordered, uncommitted, current}
-use Rattle.bodega.specs.Step.{Event, effect, turnedAway, step, stepBy, stepOf, after, run}
+use Rattle.bodega.specs.Step.{Event, effect, refusalOf, step, stepBy, stepOf, after, run}
 use Rattle.history.specs.Invariant.{core, Sound, isExecuted, bookBal, SlotSound, EachSlot, SlotsSound, ReachSound}
 use Rattle.bodega.proofs.Choices.{of-if, of-none, by-if, by-none}
 use Rattle.roster_conf.proofs.Grounds.{NoneApply}
@@ -174,7 +174,7 @@ hold-slots : (slot : ℕ) (q : ReadReq) (r : Replica) → SlotsSound r → Slots
 unfolding holdRead
 hold-slots slot q r s = by-none SlotsSound (instAt r slot) s (λ i e. by-none SlotsSound (i .replicaBk) s (λ b f. queue-slots r slot i b _ e f s))
 
-answered-slots : (r : Replica) (q : ReadReq) (a : Answer) → SlotsSound r → Ends (answered r q a)
+answered-slots : (r : Replica) (q : ReadReq) (a : ReadAnswer) → SlotsSound r → Ends (answered r q a)
 answered-slots r q (Found v) s = s
 answered-slots r q Missing s = s
 answered-slots r q FromStore s = s
@@ -473,9 +473,9 @@ effect-slots r (Release slot) k s n = release-slots slot r s
 
 step-slots : (r : Replica) (e : Event) → Sound (core r) → SlotsSound r → SlotsSound (after r (stepOf r e))
 unfolding step
-step-slots r e k s = go (turnedAway r (e .call) (e .places)) refl
+step-slots r e k s = go (refusalOf r (e .call) (e .places)) refl
   where
-    go : (o : Option ℕ) → turnedAway r (e .call) (e .places) ≡ o → SlotsSound (after r (stepBy o (effect r (e .call))))
+    go : (o : Option ℕ) → refusalOf r (e .call) (e .places) ≡ o → SlotsSound (after r (stepBy o (effect r (e .call))))
     go none q = effect-slots r (e .call) k s (taken-none r (e .call) (e .places) (rw q))
     go (some n) q = s
 

@@ -6,11 +6,11 @@ use mathlib.Core.Path.{_≡_}
 use lib.ListN.{length}
 use Rattle.words.specs.Choice.{ifNone_then_else_}
 use Rattle.roster_conf.specs.Ground.{refusal}
-use Rattle.roster_conf.specs.Run.{Good}
+use Rattle.roster_conf.specs.EditList.{Good}
 use Rattle.ids.specs.Limits.{hold, keys, batch, items}
 use Rattle.bodega.specs.Replica.{Book, Instance, Replica, fresh, Call}
 use Rattle.bodega.specs.Grounds.{grounds}
-use Rattle.bodega.specs.Step.{Event, effect, turnedAway, run}
+use Rattle.bodega.specs.Step.{Event, effect, refusalOf, run}
 use Rattle.history.specs.Invariant.{EachSlot}
 
 -- ---- "8 requests a batch, 16 held reads a slot, 256 written keys"
@@ -48,4 +48,4 @@ Bounded = (id population quorum : ℕ) (es : List Event) (c : Call) → length (
 -- With so many places refusal 20 is never met.
 abbrev pub PlacesSuffice : Type 0
 PlacesSuffice = (id population quorum : ℕ) (es : List Event) (c : Call) (places : ℕ) → items ≤ places
-    → turnedAway (run (fresh id population quorum) es) c places ≡ refusal (grounds (run (fresh id population quorum) es) c)
+    → refusalOf (run (fresh id population quorum) es) c places ≡ refusal (grounds (run (fresh id population quorum) es) c)

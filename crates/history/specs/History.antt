@@ -14,22 +14,22 @@ history r [] = []
 history r (e ∷ es) = record { call = e .call; taken = isTaken (stepOf r e) } ∷ history (after r (stepOf r e)) es
 
 -- an adoption or a raised ballot
-abbrev pub turns : Table → Call → Bool
-turns t (Heartbeat peer ballot conf commit exec snap) = adopts t peer ballot conf
-turns t (Guard peer number bar) = false
-turns t (Prepared ballot) = false
-turns t (Record slot ballot reqs) = false
-turns t (Reply peer slot ballot) = false
-turns t (Notice peer slot ballot) = raises t slot ballot
-turns t (CommitNotice peer ballot bar) = false
-turns t (Bars start accept commit exec) = false
-turns t (Read leases q) = false
-turns t (Release slot) = false
+abbrev pub changes : Table → Call → Bool
+changes t (Heartbeat peer ballot conf commit exec snap) = adopts t peer ballot conf
+changes t (Guard peer number bar) = false
+changes t (Prepared ballot) = false
+changes t (Record slot ballot reqs) = false
+changes t (Reply peer slot ballot) = false
+changes t (Notice peer slot ballot) = raises t slot ballot
+changes t (CommitNotice peer ballot bar) = false
+changes t (Bars start accept commit exec) = false
+changes t (Read leases q) = false
+changes t (Release slot) = false
 
 -- none of the calls taken is one
 unfoldable pub quiet : Table → List Fed → Bool
 quiet t [] = true
-quiet t (f ∷ fs) = not (f .taken && turns t (f .call)) && quiet (feed t f) fs
+quiet t (f ∷ fs) = not (f .taken && changes t (f .call)) && quiet (feed t f) fs
 
 -- the same set of accepted guards, order and repeats aside
 abbrev pub accepted : ℕ → ℕ → ℕ → Fed

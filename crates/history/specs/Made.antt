@@ -24,7 +24,7 @@ module _ {Node : Type 0} (ready : Node → List ℕ → Bool) (view : Node → L
         → Answers (λ n m. ready n m && whole) view c node mem area g mem′ area′ → Made (g .node) mem′ fs last end → Made node mem (fedOf c g ∷ fs) last end
 
   -- a list of calls from a node and a buffer that stand for a fresh replica, and the reading bar that it leaves
-  pub record Lived (id population quorum : ℕ) (fs : List Fed) (bar : ℕ) : Type 0 where
+  pub record CodeHistory (id population quorum : ℕ) (fs : List Fed) (bar : ℕ) : Type 0 where
     pub first : Node
     pub last : Node
     pub begin : List ℕ
@@ -35,10 +35,10 @@ module _ {Node : Type 0} (ready : Node → List ℕ → Bool) (view : Node → L
 
   -- Whatever a list of calls leaves shows the table's figure as the reading bar.
   abbrev pub CodeFigureStands : Type 0
-  CodeFigureStands = (id population quorum : ℕ) (fs : List Fed) (bar : ℕ) → Lived id population quorum fs bar → bar ≡ feedAll (freshTable id population quorum) fs .figure
+  CodeFigureStands = (id population quorum : ℕ) (fs : List Fed) (bar : ℕ) → CodeHistory id population quorum fs bar → bar ≡ feedAll (freshTable id population quorum) fs .figure
 
   -- Two lists that agree up to some point; after it the same set of accepted guards, and no adoption or raised ballot: the same reading bar.
   abbrev pub CodeOrderFree : Type 0
-  CodeOrderFree = (id population quorum : ℕ) (before rest₁ rest₂ : List Fed) (bar₁ bar₂ : ℕ) → Lived id population quorum (before ++ rest₁) bar₁ → Lived id population quorum (before ++ rest₂) bar₂
+  CodeOrderFree = (id population quorum : ℕ) (before rest₁ rest₂ : List Fed) (bar₁ bar₂ : ℕ) → CodeHistory id population quorum (before ++ rest₁) bar₁ → CodeHistory id population quorum (before ++ rest₂) bar₂
       → SameGuards rest₁ rest₂ → quiet (feedAll (freshTable id population quorum) before) rest₁ ≡ true → quiet (feedAll (freshTable id population quorum) before) rest₂ ≡ true
       → bar₁ ≡ bar₂

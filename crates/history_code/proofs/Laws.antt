@@ -7,7 +7,7 @@ use lib.Dec.{leb}
 use lib.ListN.{length}
 use Rattle.ids.specs.declared.Slot.{Slot}
 use Rattle.history.specs.Table.{Fed}
-use Rattle.history.specs.Made.{Lived}
+use Rattle.history.specs.Made.{CodeHistory}
 use Rattle.history.specs.Made as history
 use Rattle.history.proofs.Made.{code-figure, code-order-free}
 use Rattle.node.specs.declared.Node.{Node}
@@ -20,8 +20,8 @@ use Rattle.call_heartbeat.specs.Heartbeat.{fitting}
 use Rattle.call_apply.specs.declared.Call.{Call}
 use Rattle.call_apply.specs.declared.Call.the-variants as call
 use Rattle.call_apply.specs.Call.{callOf, readyFor}
-use Rattle.history_code.specs.Called as calls
-use Rattle.history_code.specs.Called.{Called, fed, Lives, ReadingBarStands, ReadingBarOrderFree}
+use Rattle.history_code.specs.CallList as calls
+use Rattle.history_code.specs.CallList.{CallList, fed, CallHistory, ReadingBarStands, ReadingBarOrderFree}
 
 -- one call, whichever it is
 made-by : (c : Call) (rows text : List ℕ) {node last : Node} {mem mem′ end : List ℕ} {fs : List Fed} (area area′ : List ℕ) (r : Answered)
@@ -38,7 +38,7 @@ made-by (call.Bars start accept commit exec) rows text area area′ r a m = hist
 made-by (call.Read client request leases) rows text area area′ r a m = history.call (callOf (call.Read client request leases) rows text) area area′ (givenOf r) a m
 made-by (call.Release slot) rows text area area′ r a m = history.call (callOf (call.Release slot) rows text) area area′ (givenOf r) a m
 
-made : {node last : Node} {mem end : List ℕ} {fs : List Fed} → Called node mem fs last end → history.Made ready view node mem fs last end
+made : {node last : Node} {mem end : List ℕ} {fs : List Fed} → CallList node mem fs last end → history.Made ready view node mem fs last end
 made calls.none = history.none
 made (calls.applied c rows text area area′ mem′ r a k) = made-by c rows text area area′ r a (made k)
 
@@ -51,7 +51,7 @@ bar-is : (n : Node) (m : List ℕ) (bar : Slot) → bar ≡ n .«peer_accept_max
 unfolding view
 bar-is n m bar e = ap (λ (s : Slot). s .0) e
 
-lived : {id population quorum : ℕ} {fs : List Fed} {bar : Slot} → Lives id population quorum fs bar → Lived ready view id population quorum fs (bar .0)
+lived : {id population quorum : ℕ} {fs : List Fed} {bar : Slot} → CallHistory id population quorum fs bar → CodeHistory ready view id population quorum fs (bar .0)
 lived {id} {population} {quorum} {fs} {bar} l =
     let s = stands (leb size (length (l .before)) && inRange id population quorum) id population quorum (l .before) (l .first) (l .begin) (l .begins) in
     record {

@@ -46,9 +46,9 @@ use Rattle.words.proofs.Tests.{and-both}
 use Rattle.inspect_latest_write.specs.Seen.{seen, heldAt, settledOf, answerIn}
 use Rattle.inspect_latest_write.specs.declared.Standing.{Standing}
 use Rattle.inspect_latest_write.specs.declared.Settled.{Settled}
-use Rattle.inspect_latest_write.specs.declared.Answer.{Answer}
-use Rattle.inspect_latest_write.specs.declared.Answer.the-variants.{Found, Missing, FromStore, Consensus, HeldBy, Again}
-use Rattle.inspect_latest_write.proofs.Answer.{the-type}
+use Rattle.inspect_latest_write.specs.declared.ReadAnswer.{ReadAnswer}
+use Rattle.inspect_latest_write.specs.declared.ReadAnswer.the-variants.{Found, Missing, FromStore, Consensus, HeldBy, Again}
+use Rattle.inspect_latest_write.proofs.ReadAnswer.{the-type}
 
 -- ---- leases against a quorum that was widened
 
@@ -167,7 +167,7 @@ inspected quorum key slot o =
     if not (local.isBound quorum i) then local.Notices slot else
     ifNone local.lastPut key (i .reqs) then local.MissingPut slot else local.FoundPut
 
-abbrev pub waited : ℕ → Option machine.Instance → local.Answer
+abbrev pub waited : ℕ → Option machine.Instance → local.ReadAnswer
 waited slot o = ifNone o then local.Again else λ i. if local.waits i then local.HeldBy slot else local.Again
 
 abbrev filled : Option machine.Instance → Bool
@@ -327,7 +327,7 @@ module _ (v : Standing) (rows s w : List ℕ) (leases : ℕ) (key : List ℕ) wh
 
 -- ---- the answer
 
-abbrev improperBy : Bool → ℕ → local.Answer
+abbrev improperBy : Bool → ℕ → local.ReadAnswer
 improperBy l p = if not l || eqb p 0 then local.Again else local.Consensus
 
 module _ (l : Bool) (p : ℕ) where
@@ -354,7 +354,7 @@ module _ (v : Standing) (rows s w : List ℕ) where
   in-store h = rw (ne-eqb (v .«start_slot» .0) 0 h)
 
 -- what settled the read, as the match told it
-pub answer-by : (r : machine.Replica) (x y : Settled) (a : local.Answer) → x ≡ y → a ≡ local.answerOf r (settledOf y) → a ≡ local.answerOf r (settledOf x)
+pub answer-by : (r : machine.Replica) (x y : Settled) (a : local.ReadAnswer) → x ≡ y → a ≡ local.answerOf r (settledOf y) → a ≡ local.answerOf r (settledOf x)
 answer-by r x y a e f = f ∙ ap (λ (z : Settled). local.answerOf r (settledOf z)) (sym e)
 
 -- ---- an answer that holds nothing
@@ -363,7 +363,7 @@ module _ (r : machine.Replica) where
   four : (o : OneOf (0 ∷ 1 ∷ 2 ∷ 3 ∷ 5 ∷ []) 4) → ⊥
   four o = ⊎-elim (λ e. omega arith) (λ p. ⊎-elim (λ e. omega arith) (λ q. ⊎-elim (λ e. omega arith) (λ x. ⊎-elim (λ e. omega arith) (λ e. omega arith) x) q) p) o
 
-  pub fills-none : (a : Answer) → OneOf (0 ∷ 1 ∷ 2 ∷ 3 ∷ 5 ∷ []) (tagOf the-type a) → false ≡ overfills r (answerIn a)
+  pub fills-none : (a : ReadAnswer) → OneOf (0 ∷ 1 ∷ 2 ∷ 3 ∷ 5 ∷ []) (tagOf the-type a) → false ≡ overfills r (answerIn a)
   fills-none (Found v) o = refl
   fills-none Missing o = refl
   fills-none FromStore o = refl
@@ -371,7 +371,7 @@ module _ (r : machine.Replica) where
   fills-none (HeldBy slot) o = absurd (four o)
   fills-none Again o = refl
 
-  pub holds-none : (q : machine.ReadReq) (a : Answer) → OneOf (0 ∷ 1 ∷ 2 ∷ 3 ∷ 5 ∷ []) (tagOf the-type a) → answered r q (answerIn a) .replica ≡ r
+  pub holds-none : (q : machine.ReadReq) (a : ReadAnswer) → OneOf (0 ∷ 1 ∷ 2 ∷ 3 ∷ 5 ∷ []) (tagOf the-type a) → answered r q (answerIn a) .replica ≡ r
   holds-none q (Found v) o = refl
   holds-none q Missing o = refl
   holds-none q FromStore o = refl
@@ -379,14 +379,14 @@ module _ (r : machine.Replica) where
   holds-none q (HeldBy slot) o = absurd (four o)
   holds-none q Again o = refl
 
-pub fills-slot : (r : machine.Replica) (a : Answer) (slot : Slot) (b : Bool) → a ≡ HeldBy slot → b ≡ full r (slot .0) → b ≡ overfills r (answerIn a)
-fills-slot r a slot b e f = f ∙ ap (λ (x : Answer). overfills r (answerIn x)) (sym e)
+pub fills-slot : (r : machine.Replica) (a : ReadAnswer) (slot : Slot) (b : Bool) → a ≡ HeldBy slot → b ≡ full r (slot .0) → b ≡ overfills r (answerIn a)
+fills-slot r a slot b e f = f ∙ ap (λ (x : ReadAnswer). overfills r (answerIn x)) (sym e)
 
 -- ---- its item
 
-pub item-by : (v : Standing) (rows s w : List ℕ) (q : machine.ReadReq) (x y : Answer) → x ≡ y
+pub item-by : (v : Standing) (rows s w : List ℕ) (q : machine.ReadReq) (x y : ReadAnswer) → x ≡ y
     → answered (seen v rows s w) q (answerIn x) .items ≡ answered (seen v rows s w) q (answerIn y) .items
-item-by v rows s w q x y e = ap (λ (z : Answer). answered (seen v rows s w) q (answerIn z) .items) e
+item-by v rows s w q x y e = ap (λ (z : ReadAnswer). answered (seen v rows s w) q (answerIn z) .items) e
 
 -- ---- a read that is held waits in the notice book of a slot that is held
 

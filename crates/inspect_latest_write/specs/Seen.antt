@@ -13,8 +13,8 @@ use Rattle.highest_slot.specs.Written.{writtenOf}
 use Rattle.inspect_latest_write.specs.declared.Standing.{Standing}
 use Rattle.inspect_latest_write.specs.declared.Settled.{Settled}
 use Rattle.inspect_latest_write.specs.declared.Settled.the-variants as settled
-use Rattle.inspect_latest_write.specs.declared.Answer.{Answer}
-use Rattle.inspect_latest_write.specs.declared.Answer.the-variants as answer
+use Rattle.inspect_latest_write.specs.declared.ReadAnswer.{ReadAnswer}
+use Rattle.inspect_latest_write.specs.declared.ReadAnswer.the-variants as answer
 
 -- the replica of which a read sees this; what no read looks at is left empty
 unfoldable pub seen : Standing → List ℕ → List ℕ → List ℕ → machine.Replica
@@ -55,7 +55,7 @@ settledOf (settled.Notices slot) = local.Notices (slot .0)
 settledOf (settled.FoundPut value) = local.FoundPut value
 settledOf (settled.MissingPut slot) = local.MissingPut (slot .0)
 
-abbrev pub answerIn : Answer → local.Answer
+abbrev pub answerIn : ReadAnswer → local.ReadAnswer
 answerIn (answer.Found value) = local.Found value
 answerIn answer.Missing = local.Missing
 answerIn answer.FromStore = local.FromStore

@@ -63,7 +63,7 @@ pub enum Settled {
 }
 
 // What a read gets: value, absent, store, pass, hold, retry.
-pub enum Answer {
+pub enum ReadAnswer {
     Found(u64),
     Missing,
     FromStore,
@@ -258,61 +258,61 @@ pub fn settled_by(
 
 // ---- the answer
 
-fn improper(v: Standing) -> Answer
+fn improper(v: Standing) -> ReadAnswer
     ensures { λ r. ⌜ ((rows s w : List ℕ) → answerIn r ≡ improper (seen v rows s w)) ⌝ }
 {
     let prepared = v.bal_prepared;
     if !is_leader(v) {
-        return Answer::Again;
+        return ReadAnswer::Again;
     }
     if prepared.0 == 0 {
-        return Answer::Again;
+        return ReadAnswer::Again;
     }
-    Answer::Consensus
+    ReadAnswer::Consensus
 }
 
 // A key that no slot at start or above wrote.
-fn unwritten(v: Standing) -> Answer
+fn unwritten(v: Standing) -> ReadAnswer
     ensures { λ r. ⌜ ((rows s w : List ℕ) → answerIn r ≡ answerOf (seen v rows s w) local.NoSlot) ⌝ }
 {
     let start = v.start_slot;
     if start.0 == 0 {
-        return Answer::Missing;
+        return ReadAnswer::Missing;
     }
-    Answer::FromStore
+    ReadAnswer::FromStore
 }
 
-fn waits_at(v: Standing, s: &[u64], slot: Slot) -> Answer
+fn waits_at(v: Standing, s: &[u64], slot: Slot) -> ReadAnswer
     requires { ⌜ 7744 ≤ length (now s) ⌝ }
     ensures { λ r. ⌜ ((rows w : List ℕ) → answerIn r ≡ waitsAt (seen v rows (now (s .entry)) w) (slot .0)) ⌝ }
 {
     let start = v.start_slot;
     if !is_held(start, v.slots, slot) {
-        return Answer::Again;
+        return ReadAnswer::Again;
     }
     let cell = insts::load(s, place_of(slot));
     if waits(cell) {
-        return Answer::HeldBy(slot);
+        return ReadAnswer::HeldBy(slot);
     }
-    Answer::Again
+    ReadAnswer::Again
 }
 
 // What the read gets that this settled.
-pub fn answer_of(v: Standing, s: &[u64], settled: Settled) -> Answer
+pub fn answer_of(v: Standing, s: &[u64], settled: Settled) -> ReadAnswer
     requires { ⌜ 7744 ≤ length (now s) ⌝ }
     ensures { λ r. ⌜ ((rows w : List ℕ) → answerIn r ≡ answerOf (seen v rows (now (s .entry)) w) (settledOf settled)) ⌝ }
 {
     match settled {
-        Settled::StableLeader => Answer::FromStore,
+        Settled::StableLeader => ReadAnswer::FromStore,
         Settled::FewLeases => improper(v),
         Settled::UnreadKey => improper(v),
         Settled::StoredRange => improper(v),
         Settled::DefaultRoster => improper(v),
         Settled::Bar => improper(v),
         Settled::NoSlot => unwritten(v),
-        Settled::SlotStatus(_slot) => Answer::Again,
+        Settled::SlotStatus(_slot) => ReadAnswer::Again,
         Settled::Notices(slot) => waits_at(v, s, slot),
-        Settled::FoundPut(value) => Answer::Found(value),
+        Settled::FoundPut(value) => ReadAnswer::Found(value),
         Settled::MissingPut(slot) => waits_at(v, s, slot),
     }
 }
@@ -330,37 +330,37 @@ fn is_full(v: Standing, s: &[u64], slot: Slot) -> bool
 }
 
 // A read would be held by a slot that holds 16.
-pub fn overfills(v: Standing, s: &[u64], answer: Answer) -> bool
+pub fn overfills(v: Standing, s: &[u64], answer: ReadAnswer) -> bool
     requires { ⌜ 7744 ≤ length (now s) ⌝ }
     ensures { λ r. ⌜ ((rows w : List ℕ) → r ≡ overfills (seen v rows (now (s .entry)) w) (answerIn answer)) ⌝ }
 {
-    let Answer::HeldBy(slot) = answer else {
+    let ReadAnswer::HeldBy(slot) = answer else {
         return false;
     };
     is_full(v, s, slot)
 }
 
 // The item that answers a read.
-pub fn item_of(v: Standing, client: u64, request: u64, answer: Answer) -> Item
+pub fn item_of(v: Standing, client: u64, request: u64, answer: ReadAnswer) -> Item
     ensures { λ r. ⌜ ((rows s w key : List ℕ) → answered (seen v rows s w) (record { client = client; request = request; key = key }) (answerIn answer) .items ≡ itemOf r ∷ []) ⌝ }
 {
     let conf = v.bodega_conf;
     let leader = conf.leader;
     match answer {
-        Answer::Found(value) => Item::Value {
+        ReadAnswer::Found(value) => Item::Value {
             client,
             request,
             value,
         },
-        Answer::Missing => Item::Absent { client, request },
-        Answer::FromStore => Item::Store { client, request },
-        Answer::Consensus => Item::Pass { client, request },
-        Answer::HeldBy(slot) => Item::Hold {
+        ReadAnswer::Missing => Item::Absent { client, request },
+        ReadAnswer::FromStore => Item::Store { client, request },
+        ReadAnswer::Consensus => Item::Pass { client, request },
+        ReadAnswer::HeldBy(slot) => Item::Hold {
             client,
             request,
             slot,
         },
-        Answer::Again => Item::Retry {
+        ReadAnswer::Again => Item::Retry {
             client,
             request,
             leader,

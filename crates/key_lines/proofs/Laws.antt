@@ -24,10 +24,10 @@ use Rattle.keys.specs.Read.{readKey}
 use Rattle.keys.specs.declared.KeyRead.{KeyRead}
 use Rattle.keys.specs.declared.KeyRead.the-variants.{Number, Unread}
 use Rattle.key_lines.proofs.Short.{answer-short}
-use Rattle.stream_pieces.specs.Pieces.{fresh, before}
-use Rattle.stream_pieces.specs.Runs.{prepend, runs, lastLine, Done, done}
+use Rattle.stream_pieces.specs.Pieces.{noneBegun, before}
+use Rattle.stream_pieces.specs.Streamed.{prepend, streamed, lastLine, OutputAfter, outputAfter}
 use Rattle.stream_pieces.proofs.Laws.{line-none, line-below, runs-line, runs-none, done-append}
-use Rattle.key_lines.specs.Lines.{textOf, answerOf, lineRead, answer, says}
+use Rattle.key_lines.specs.Lines.{textOf, answerOf, lineRead, answer, lineOutput}
 
 -- ---- a number or `-`
 module _ (s : List ℕ) (at : ℕ) (r : KeyRead) where
@@ -125,10 +125,10 @@ module _ (long : Bool) (line : List ℕ) where
 
 -- ---- the line at at ends at e
 module _ (piece : List ℕ) (at e : ℕ) (h : at ≤ length piece) (f : e ≡ at + before (drop at piece)) where
-  pub feed-end : (long : Bool) (out : List ℕ) (used : ℕ) (k : Done Unit) → e ≡ length piece → done out used (runs says tt (record { long = long; line = [] }) (drop at piece)) ≡ k
+  pub feed-end : (long : Bool) (out : List ℕ) (used : ℕ) (k : OutputAfter Unit) → e ≡ length piece → outputAfter out used (streamed lineOutput tt (record { long = long; line = [] }) (drop at piece)) ≡ k
       → record { bytes = out; used = used; state = tt; begun = record { long = long; line = drop at piece } } ≡ k
   feed-end long out used k g p =
-      rw add-zero at (rw (runs-none says tt (record { long = long; line = [] }) (drop at piece) (line-none piece at e h f g)) at p)
+      rw add-zero at (rw (runs-none lineOutput tt (record { long = long; line = [] }) (drop at piece) (line-none piece at e h f g)) at p)
 
   module _ (n : e ≡ length piece → ⊥) where
     below : e < length piece
@@ -146,16 +146,16 @@ module _ (piece : List ℕ) (at e : ℕ) (h : at ≤ length piece) (f : e ≡ at
         pub feed-left : (m : ℕ) → used + 2 * (length piece - at) ≤ m → u + 2 * (length piece - (e + 1)) ≤ m
         feed-left m p = omega (arith, line-short, below)
 
-        pub feed-line : (l : List ℕ) (k : Done Unit) → l ≡ writes out used (answer (record { long = long; line = take (e - at) (drop at piece) }))
-            → done out used (runs says tt (record { long = long; line = [] }) (drop at piece)) ≡ k → done l u (runs says tt fresh (drop (e + 1) piece)) ≡ k
+        pub feed-line : (l : List ℕ) (k : OutputAfter Unit) → l ≡ writes out used (answer (record { long = long; line = take (e - at) (drop at piece) }))
+            → outputAfter out used (streamed lineOutput tt (record { long = long; line = [] }) (drop at piece)) ≡ k → outputAfter l u (streamed lineOutput tt noneBegun (drop (e + 1) piece)) ≡ k
         feed-line l k b p =
             let all : e - at ≡ before (drop at piece) = omega arith in
             let after : at + suc (before (drop at piece)) ≡ e + 1 = omega arith in
             let next : drop (suc (before (drop at piece))) (drop at piece) ≡ drop (e + 1) piece = drop-drop (suc (before (drop at piece))) at piece ∙ ap (λ (x : ℕ). drop x piece) after in
-            let line = runs-line says tt (record { long = long; line = [] }) (drop at piece) (omega (arith, length-drop at piece, below)) in
+            let line = runs-line lineOutput tt (record { long = long; line = [] }) (drop at piece) (omega (arith, length-drop at piece, below)) in
             let text = answer (record { long = long; line = take (e - at) (drop at piece) }) in
-            let whole : runs says tt (record { long = long; line = [] }) (drop at piece) ≡ prepend text (runs says tt fresh (drop (e + 1) piece)) = rw (all, ← next) line in
-            rw (b, a) (done-append out used text (runs says tt fresh (drop (e + 1) piece)) ∙ (sym (ap (done out used) whole) ∙ p))
+            let whole : streamed lineOutput tt (record { long = long; line = [] }) (drop at piece) ≡ prepend text (streamed lineOutput tt noneBegun (drop (e + 1) piece)) = rw (all, ← next) line in
+            rw (b, a) (done-append out used text (streamed lineOutput tt noneBegun (drop (e + 1) piece)) ∙ (sym (ap (outputAfter out used) whole) ∙ p))
 
 -- ---- the last line
 module _ (long : Bool) (line : List ℕ) where
@@ -166,41 +166,41 @@ module _ (long : Bool) (line : List ℕ) where
   last-within m n h e = rw e (last-room m h)
 
   module _ (e : long ≡ false) (f : length line ≡ 0) where
-    no-last : lastLine says tt (record { long = long; line = line }) ≡ []
+    no-last : lastLine lineOutput tt (record { long = long; line = line }) ≡ []
     unfolding lastLine
     no-last = rw (e, f)
 
-    pub last-none : 0 ≡ length (lastLine says tt (record { long = long; line = line }))
+    pub last-none : 0 ≡ length (lastLine lineOutput tt (record { long = long; line = line }))
     last-none = rw no-last
 
-    pub last-stays : (s : List ℕ) → s ≡ writes s 0 (lastLine says tt (record { long = long; line = line }))
+    pub last-stays : (s : List ℕ) → s ≡ writes s 0 (lastLine lineOutput tt (record { long = long; line = line }))
     last-stays s = rw no-last
 
-  module _ (f : lastLine says tt (record { long = long; line = line }) ≡ answer (record { long = long; line = line })) where
-    ends : (n : ℕ) → n ≡ 0 + length (answer (record { long = long; line = line })) → n ≡ length (lastLine says tt (record { long = long; line = line }))
+  module _ (f : lastLine lineOutput tt (record { long = long; line = line }) ≡ answer (record { long = long; line = line })) where
+    ends : (n : ℕ) → n ≡ 0 + length (answer (record { long = long; line = line })) → n ≡ length (lastLine lineOutput tt (record { long = long; line = line }))
     ends n p = rw f (p ∙ zero-add _)
 
-    puts : (s l : List ℕ) → l ≡ writes s 0 (answer (record { long = long; line = line })) → l ≡ writes s 0 (lastLine says tt (record { long = long; line = line }))
+    puts : (s l : List ℕ) → l ≡ writes s 0 (answer (record { long = long; line = line })) → l ≡ writes s 0 (lastLine lineOutput tt (record { long = long; line = line }))
     puts s l q = rw f q
 
   module _ (e : long ≡ true) where
-    is-long : lastLine says tt (record { long = long; line = line }) ≡ answer (record { long = long; line = line })
+    is-long : lastLine lineOutput tt (record { long = long; line = line }) ≡ answer (record { long = long; line = line })
     unfolding lastLine
     is-long = rw e
 
-    pub long-ends : (n : ℕ) → n ≡ 0 + length (answer (record { long = long; line = line })) → n ≡ length (lastLine says tt (record { long = long; line = line }))
+    pub long-ends : (n : ℕ) → n ≡ 0 + length (answer (record { long = long; line = line })) → n ≡ length (lastLine lineOutput tt (record { long = long; line = line }))
     long-ends = ends is-long
 
-    pub long-puts : (s l : List ℕ) → l ≡ writes s 0 (answer (record { long = long; line = line })) → l ≡ writes s 0 (lastLine says tt (record { long = long; line = line }))
+    pub long-puts : (s l : List ℕ) → l ≡ writes s 0 (answer (record { long = long; line = line })) → l ≡ writes s 0 (lastLine lineOutput tt (record { long = long; line = line }))
     long-puts = puts is-long
 
   module _ (e : long ≡ false) (n : length line ≡ 0 → ⊥) where
-    is-some : lastLine says tt (record { long = long; line = line }) ≡ answer (record { long = long; line = line })
+    is-some : lastLine lineOutput tt (record { long = long; line = line }) ≡ answer (record { long = long; line = line })
     unfolding lastLine
     is-some = let g : 0 < length line = omega arith in rw (e, lt-ltb 0 (length line) g)
 
-    pub some-ends : (n : ℕ) → n ≡ 0 + length (answer (record { long = long; line = line })) → n ≡ length (lastLine says tt (record { long = long; line = line }))
+    pub some-ends : (n : ℕ) → n ≡ 0 + length (answer (record { long = long; line = line })) → n ≡ length (lastLine lineOutput tt (record { long = long; line = line }))
     some-ends = ends is-some
 
-    pub some-puts : (s l : List ℕ) → l ≡ writes s 0 (answer (record { long = long; line = line })) → l ≡ writes s 0 (lastLine says tt (record { long = long; line = line }))
+    pub some-puts : (s l : List ℕ) → l ≡ writes s 0 (answer (record { long = long; line = line })) → l ≡ writes s 0 (lastLine lineOutput tt (record { long = long; line = line }))
     some-puts = puts is-some

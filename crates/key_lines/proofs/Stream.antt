@@ -5,10 +5,10 @@ use mathlib.Core.List.{List}
 use Prim.Native.Nat.{ℕ, _<_}
 use lib.ListN.{length}
 use borrow.Author.Tests.{lt-ltb}
-use Rattle.stream_pieces.specs.Pieces.{Begun, fresh, concat}
-use Rattle.stream_pieces.specs.Runs.{Said, runs, total, piecewise, LongAlike}
+use Rattle.stream_pieces.specs.Pieces.{Begun, noneBegun, concat}
+use Rattle.stream_pieces.specs.Streamed.{LineOutput, streamed, total, piecewise, LongAlike}
 use Rattle.stream_pieces.proofs.Stream as pieces
-use Rattle.key_lines.specs.Lines.{lineRead, answer, says}
+use Rattle.key_lines.specs.Lines.{lineRead, answer, lineOutput}
 
 -- a line of which more than 1,024 bytes are there is answered alike, whatever its bytes are
 answer-long : (b : Begun) (l : List ℕ) → 1024 < length (b .line) → answer b ≡ answer (record { long = true; line = l })
@@ -19,8 +19,8 @@ answer-long b l h = go (b .long) refl
     go true p = simp p
     go false p = simp (p, lt-ltb 1024 (length (b .line)) h)
 
-alike : LongAlike says
+alike : LongAlike lineOutput
 alike t b l h = ap (λ (x : List ℕ). record { text = x; next = t }) (answer-long b l h)
 
-pub whole : (ps : List (List ℕ)) → piecewise says tt fresh ps ≡ total says (runs says tt fresh (concat ps))
-whole ps = pieces.whole says alike tt ps
+pub whole : (ps : List (List ℕ)) → piecewise lineOutput tt noneBegun ps ≡ total lineOutput (streamed lineOutput tt noneBegun (concat ps))
+whole ps = pieces.whole lineOutput alike tt ps

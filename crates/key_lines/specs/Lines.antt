@@ -9,7 +9,7 @@ use Rattle.words.specs.Choice.{if_then_else_, ifNone_then_else_}
 use Rattle.decimal.specs.Digits.{decimal}
 use Rattle.keys.specs.Read.{readKey}
 use Rattle.stream_pieces.specs.Pieces.{Begun}
-use Rattle.stream_pieces.specs.Runs.{Said}
+use Rattle.stream_pieces.specs.Streamed.{LineOutput}
 
 -- the number in decimal, or `-`; and then a newline
 unfoldable pub textOf : Option ℕ → List ℕ
@@ -26,5 +26,5 @@ unfoldable pub answer : Begun → List ℕ
 answer b = answerOf (lineRead (b .long) (b .line))
 
 -- no state goes from line to line
-abbrev pub says : Unit {0} → Begun → Said Unit
-says t b = record { text = answer b; next = t }
+abbrev pub lineOutput : Unit {0} → Begun → LineOutput Unit
+lineOutput t b = record { text = answer b; next = t }

@@ -8,8 +8,8 @@ ghost use Prim.Native.Nat.{_+_, _*_, _≤_};
 ghost use lib.ListN.{length, drop};
 ghost use Rattle.words.specs.Writes.{writes};
 ghost use Rattle.keys.specs.Shown.{shown};
-ghost use Rattle.stream_pieces.specs.Runs.{runs, lastLine, done};
-ghost use Rattle.key_lines.specs.Lines.{textOf, answerOf, lineRead, answer, says};
+ghost use Rattle.stream_pieces.specs.Streamed.{streamed, lastLine, outputAfter};
+ghost use Rattle.key_lines.specs.Lines.{textOf, answerOf, lineRead, answer, lineOutput};
 
 // The place in a piece where the line that has begun starts, how much of the output is used, and whether bytes of that line were dropped.
 pub struct Fed {
@@ -66,7 +66,7 @@ pub fn answer_line(line: &[u8], long: bool, out: &mut [u8], at: usize) -> usize
 pub fn feed(piece: &[u8], long: bool, out: &mut [u8]) -> Fed
     requires { ⌜ 2 * length (now piece) ≤ length (now out) ⌝ }
     ensures within { λ r. ⌜ (r .at ≤ length (now (piece .entry))) × (r .used ≤ length (now (out .entry))) ⌝ }
-    ensures answered { λ r. ⌜ record { bytes = now (out .exit); used = r .used; state = tt; begun = record { long = r .long; line = drop (r .at) (now (piece .entry)) } } ≡ done (now (out .entry)) 0 (runs says tt (record { long = long; line = [] }) (now (piece .entry))) ⌝ }
+    ensures answered { λ r. ⌜ record { bytes = now (out .exit); used = r .used; state = tt; begun = record { long = r .long; line = drop (r .at) (now (piece .entry)) } } ≡ outputAfter (now (out .entry)) 0 (streamed lineOutput tt (record { long = long; line = [] }) (now (piece .entry))) ⌝ }
 {
     let mut at = 0;
     let mut used = 0;
@@ -90,7 +90,7 @@ pub fn feed(piece: &[u8], long: bool, out: &mut [u8]) -> Fed
 pub fn last_line(line: &[u8], long: bool, out: &mut [u8]) -> usize
     requires { ⌜ 2 * (length (now line) + 1) ≤ length (now out) ⌝ }
     ensures within { λ e. ⌜ e ≤ length (now (out .entry)) ⌝ }
-    ensures answered { λ e. ⌜ (e ≡ length (lastLine says tt (record { long = long; line = now (line .entry) }))) × (now (out .exit) ≡ writes (now (out .entry)) 0 (lastLine says tt (record { long = long; line = now (line .entry) }))) ⌝ }
+    ensures answered { λ e. ⌜ (e ≡ length (lastLine lineOutput tt (record { long = long; line = now (line .entry) }))) × (now (out .exit) ≡ writes (now (out .entry)) 0 (lastLine lineOutput tt (record { long = long; line = now (line .entry) }))) ⌝ }
 {
     if long {
         return answer_line(line, long, out, 0);

@@ -17,7 +17,7 @@ use Rattle.roster_conf.specs.Conf.{Conf}
 use Rattle.bodega.specs.Replica as machine
 use Rattle.bodega.specs.Replica.{Call, Heartbeat, Guard, Reply, Notice, CommitNotice}
 use Rattle.bodega.specs.Grounds.{grounds, unformed}
-use Rattle.bodega.specs.Step.{Step, Refused, step, turnedAway}
+use Rattle.bodega.specs.Step.{Step, Refused, step, refusalOf}
 use Rattle.bodega.specs.Answers.{due, Follows, Answers}
 use Rattle.node.specs.declared.Node.{Node}
 use Rattle.node.specs.declared.Answered.{Answered}
@@ -38,7 +38,7 @@ use Rattle.call_heartbeat.specs.Heartbeat.{carried, fitting}
 use Rattle.line_fields.specs.declared.CallKind.{CallKind}
 use Rattle.line_fields.specs.declared.CallKind.the-variants as kinds
 use Rattle.line_host.specs.Line.{isHeard, isRead, isCall, callOf}
-use Rattle.line_host.specs.Acts.{AnswersLine, asByte}
+use Rattle.line_host.specs.Follows.{AnswersLine, asByte}
 use Rattle.line_host.proofs.Laws.{not-both, some-left}
 use Rattle.line_calls.specs.declared.ReadFields.{ReadFields}
 use Rattle.line_calls.specs.declared.Asked.{Asked}
@@ -52,33 +52,33 @@ module _ (n : Node) (m : List ℕ) (places : ℕ) where
   past : (peer : ℕ) → 255 ≤ peer → ready n m ≡ true → leb (n .population) peer ≡ true
   past peer h e = le-leb (n .population) peer (omega (arith, is-ready n m true (sym e) refl))
 
-  guard-3 : (number bar peer : ℕ) → 255 ≤ peer → ready n m ≡ true → turnedAway (view n m) (Guard peer number bar) places ≡ some 3
-  unfolding turnedAway grounds view
+  guard-3 : (number bar peer : ℕ) → 255 ≤ peer → ready n m ≡ true → refusalOf (view n m) (Guard peer number bar) places ≡ some 3
+  unfolding refusalOf grounds view
   guard-3 number bar peer h e = rw (past peer h e)
 
-  reply-3 : (slot ballot peer : ℕ) → 255 ≤ peer → ready n m ≡ true → turnedAway (view n m) (Reply peer slot ballot) places ≡ some 3
-  unfolding turnedAway grounds view
+  reply-3 : (slot ballot peer : ℕ) → 255 ≤ peer → ready n m ≡ true → refusalOf (view n m) (Reply peer slot ballot) places ≡ some 3
+  unfolding refusalOf grounds view
   reply-3 slot ballot peer h e = rw (past peer h e)
 
-  notice-3 : (slot ballot peer : ℕ) → 255 ≤ peer → ready n m ≡ true → turnedAway (view n m) (Notice peer slot ballot) places ≡ some 3
-  unfolding turnedAway grounds view
+  notice-3 : (slot ballot peer : ℕ) → 255 ≤ peer → ready n m ≡ true → refusalOf (view n m) (Notice peer slot ballot) places ≡ some 3
+  unfolding refusalOf grounds view
   notice-3 slot ballot peer h e = rw (past peer h e)
 
-  commit-3 : (ballot bar peer : ℕ) → 255 ≤ peer → ready n m ≡ true → turnedAway (view n m) (CommitNotice peer ballot bar) places ≡ some 3
-  unfolding turnedAway grounds view
+  commit-3 : (ballot bar peer : ℕ) → 255 ≤ peer → ready n m ≡ true → refusalOf (view n m) (CommitNotice peer ballot bar) places ≡ some 3
+  unfolding refusalOf grounds view
   commit-3 ballot bar peer h e = rw (past peer h e)
 
   heartbeat-3 : (ballot : ℕ) (conf : Option Conf) (commit exec snap peer : ℕ) → 255 ≤ peer → ready n m ≡ true
-      → turnedAway (view n m) (Heartbeat peer ballot conf commit exec snap) places ≡ some (if unformed conf then 2 else 3)
-  unfolding turnedAway grounds view
+      → refusalOf (view n m) (Heartbeat peer ballot conf commit exec snap) places ≡ some (if unformed conf then 2 else 3)
+  unfolding refusalOf grounds view
   heartbeat-3 ballot conf commit exec snap peer h e = go (unformed conf) refl
     where
-      go : (t : Bool) → unformed conf ≡ t → turnedAway (view n m) (Heartbeat peer ballot conf commit exec snap) places ≡ some (if t then 2 else 3)
+      go : (t : Bool) → unformed conf ≡ t → refusalOf (view n m) (Heartbeat peer ballot conf commit exec snap) places ≡ some (if t then 2 else 3)
       go true f = rw f
       go false f = rw (f, past peer h e)
 
 module _ (n : Node) (m area m′ area′ : List ℕ) (r : Answered) where
-  as-byte : (c : ℕ → Call) (k peer : ℕ) → ((p : ℕ) → 255 ≤ p → ready n m ≡ true → turnedAway (view n m) (c p) (places area) ≡ some k)
+  as-byte : (c : ℕ → Call) (k peer : ℕ) → ((p : ℕ) → 255 ≤ p → ready n m ≡ true → refusalOf (view n m) (c p) (places area) ≡ some k)
       → Answers ready view (c (asByte peer)) n m area (givenOf r) m′ area′ → Answers ready view (c peer) n m area (givenOf r) m′ area′
   unfolding due step
   as-byte c k peer f a = go (ltb 255 peer) refl a

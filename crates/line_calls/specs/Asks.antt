@@ -17,7 +17,7 @@ use Rattle.line_fields.specs.Reads.{between}
 use Rattle.line_fields.specs.declared.CallKind.{CallKind}
 use Rattle.line_fields.specs.declared.CallKind.the-variants.{Guard, Prepared, Reply, Notice, Commit, Bars, Read, Release}
 use Rattle.line_host.specs.Line.{isHeard}
-use Rattle.line_host.specs.Acts.{asByte}
+use Rattle.line_host.specs.Follows.{asByte}
 use Rattle.line_calls.specs.declared.Asked.{Asked}
 use Rattle.line_calls.specs.declared.HeardFields.{HeardFields}
 

@@ -17,7 +17,7 @@ ghost use Rattle.line_fields.specs.Split.{fieldsFrom};
 ghost use Rattle.roster_conf.specs.Edits.{holdsRows};
 ghost use Rattle.call_apply.specs.Call.{callOf as applied};
 ghost use Rattle.line_host.specs.Line.{isHeard, isRead, isCall, callOf};
-ghost use Rattle.line_host.specs.Acts.{AnswersLine};
+ghost use Rattle.line_host.specs.Follows.{AnswersLine};
 ghost use Rattle.line_calls.specs.ReadsRead.{ReadsRead};
 ghost use Rattle.line_calls.specs.Asks.{inByte, width, callBy, noCall, AsksNumbers, Asks, heardBy, ReadsHeard};
 

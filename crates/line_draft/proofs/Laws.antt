@@ -22,7 +22,7 @@ use Rattle.roster_conf.specs.declared.Edited.{Edited}
 use Rattle.roster_conf.specs.declared.Edited.the-variants as edited
 use Rattle.roster_show.specs.declared.Shown.{Shown}
 use Rattle.roster_show.specs.declared.Shown.the-variants as shown
-use Rattle.roster_conf.specs.Edit.{Edit, SetLeader, SetResponders, SetFull, IntoFiltered, ResetFull, Answer, grounds, answer, refused}
+use Rattle.roster_conf.specs.Edit.{Edit, SetLeader, SetResponders, SetFull, IntoFiltered, ResetFull, EditResult, grounds, editResult, refused}
 use Rattle.roster_conf.specs.Edits.{Edits, Gives, due, view, holdsRows, inRange}
 use Rattle.roster_show.specs.Show.{Listing, listing}
 use Rattle.bodega.specs.Replica.{fresh}
@@ -35,7 +35,7 @@ use Rattle.node.specs.View.{size, ready}
 use Rattle.node.specs.Begins as begins
 use Rattle.line_fields.specs.declared.EditKind.{EditKind}
 use Rattle.line_host.specs.Line.{isRange, isEdit, editOf}
-use Rattle.line_host.specs.Acts.{EditsLine, asByte}
+use Rattle.line_host.specs.Follows.{EditsLine, asByte}
 use Rattle.line_host.proofs.Laws.{not-both, some-left}
 use Rattle.line_draft.specs.declared.RangeFields.{RangeFields}
 use Rattle.line_draft.specs.Drafts.{ReadsRange, ShowsLine, Refuses, BeginsBy, BeginsLine}
@@ -47,27 +47,27 @@ module _ (population : ℕ) (c : RespondersConf) (rows : List ℕ) where
   far i l e = le-leb population i (omega (arith, leb-true population 64 (and-both (leb 1 population) (leb population 64) (and-both (holdsRows (length rows) (c .count)) (inRange population) e .1) .1)))
 
   -- any edit that is refused 3 from the population on
-  as-byte : (e : ℕ → Edit) → ((i : ℕ) → leb population i ≡ true → answer population (view c rows) (e i) ≡ refused 3) → (b id : ℕ) (r : Edited) (rows′ : List ℕ) → b ≡ asByte id
+  as-byte : (e : ℕ → Edit) → ((i : ℕ) → leb population i ≡ true → editResult population (view c rows) (e i) ≡ refused 3) → (b id : ℕ) (r : Edited) (rows′ : List ℕ) → b ≡ asByte id
       → Edits (e b) population c rows r rows′ → Edits (e id) population c rows r rows′
   unfolding due
   as-byte e f b id r rows′ q x = go (ltb 255 id) refl (rw q at x)
     where
-      due-3 : (i : ℕ) → 255 ≤ i → (t : Bool) → holdsRows (length rows) (c .count) && inRange population ≡ t → (if t then answer population (view c rows) (e i) else refused 2) ≡ (if t then refused 3 else refused 2)
+      due-3 : (i : ℕ) → 255 ≤ i → (t : Bool) → holdsRows (length rows) (c .count) && inRange population ≡ t → (if t then editResult population (view c rows) (e i) else refused 2) ≡ (if t then refused 3 else refused 2)
       due-3 i l true g = f i (far i l g)
       due-3 i l false g = refl
 
       go : (t : Bool) → ltb 255 id ≡ t → Edits (e (if t then 255 else id)) population c rows r rows′ → Edits (e id) population c rows r rows′
       go true g y =
           let k = due-3 255 (omega arith) (holdsRows (length rows) (c .count) && inRange population) refl ∙ sym (due-3 id (omega (arith, ltb-true 255 id g)) (holdsRows (length rows) (c .count) && inRange population) refl) in
-          subst (λ (z : Answer). Gives z r rows rows′) k y
+          subst (λ (z : EditResult). Gives z r rows rows′) k y
       go false g y = y
 
   pub to-leader : (b id : ℕ) (r : Edited) (rows′ : List ℕ) → b ≡ asByte id → Edits (SetLeader b) population c rows r rows′ → Edits (SetLeader id) population c rows r rows′
-  unfolding answer grounds
+  unfolding editResult grounds
   to-leader = as-byte SetLeader (λ i g. rw g)
 
   pub to-dropped : (b id : ℕ) (r : Edited) (rows′ : List ℕ) → b ≡ asByte id → Edits (IntoFiltered b) population c rows r rows′ → Edits (IntoFiltered id) population c rows r rows′
-  unfolding answer grounds
+  unfolding editResult grounds
   to-dropped = as-byte IntoFiltered (λ i g. rw g)
 
 -- ---- edits

@@ -18,7 +18,7 @@ ghost use Rattle.roster_conf.specs.Edit.{SetLeader, SetResponders, SetFull, Int
 ghost use Rattle.roster_conf.specs.Edits.{Edits};
 ghost use Rattle.node.specs.View.{inRange};
 ghost use Rattle.line_host.specs.Line.{isEdit, editOf, isRange};
-ghost use Rattle.line_host.specs.Acts.{EditsLine};
+ghost use Rattle.line_host.specs.Follows.{EditsLine};
 ghost use Rattle.line_draft.specs.Drafts.{ReadsRange, ShowsLine, BeginsBy, BeginsLine};
 
 // ---- the draft

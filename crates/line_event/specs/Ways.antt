@@ -8,18 +8,18 @@ use Rattle.roster_show.specs.declared.Shown.the-variants as shows
 use Rattle.node.specs.declared.Node.{Node}
 use Rattle.node.specs.declared.Answered.{Answered}
 use Rattle.line_host.specs.declared.Host.{Host}
-use Rattle.line_host.specs.declared.Acted.{Acted}
+use Rattle.line_host.specs.declared.LineDone.{LineDone}
 
-abbrev pub refused : Host → ℕ → Acted
+abbrev pub refused : Host → ℕ → LineDone
 refused h n = record { number = n; count = 0; host = h }
 
-abbrev pub called : Host → Answered → Acted
+abbrev pub called : Host → Answered → LineDone
 called h a = record { number = a .number; count = a .count; host = record { node = a .node; draft = h .draft } }
 
-abbrev pub edited : Host → Edited → Acted
+abbrev pub edited : Host → Edited → LineDone
 edited h (edits.Taken d) = record { number = 0; count = 0; host = record { node = h .node; draft = d } }
 edited h (edits.Refused n) = refused h n
 
-abbrev pub shown : Host → Shown → Acted
+abbrev pub shown : Host → Shown → LineDone
 shown h (shows.Items n) = record { number = 0; count = n; host = h }
 shown h (shows.Refused n) = refused h n

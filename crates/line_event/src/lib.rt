@@ -1,7 +1,7 @@
 // An event line: what it does to the host, and the text that answers it.
 use line_fields::Kind;
-use line_host::Acted;
 use line_host::Host;
+use line_host::LineDone;
 use node::Answered;
 use node::Node;
 use roster_conf::Edited;
@@ -15,49 +15,49 @@ ghost use Rattle.line_fields.specs.Split.{fieldsFrom};
 ghost use Rattle.items.specs.Item.{places};
 ghost use Rattle.node.specs.View.{ready};
 ghost use Rattle.line_host.specs.Line.{lineBy};
-ghost use Rattle.line_host.specs.Acts.{hostOf, sound, Acts, toldOf};
+ghost use Rattle.line_host.specs.Follows.{hostOf, sound, LineFollows, resultBy};
 ghost use Rattle.line_event.specs.Ways as ways;
-ghost use Rattle.line_event.specs.Tells.{whole, heardIn, Tells};
+ghost use Rattle.line_event.specs.Event.{whole, dueIn, AnswersEvent};
 
 // What a line did, and where its text ends.
-pub struct Heard {
-    pub acted: Acted,
+pub struct LineAnswer {
+    pub acted: LineDone,
     pub end: usize,
 }
 
 // ---- what a call, an edit or a listing comes to
 
-fn refused(host: Host, number: u64) -> Acted
+fn refused(host: Host, number: u64) -> LineDone
     ensures { λ r. ⌜ r ≡ ways.refused host number ⌝ }
 {
-    Acted {
+    LineDone {
         number,
         count: 0,
         host,
     }
 }
 
-fn called(host: Host, a: Answered) -> Acted
+fn called(host: Host, a: Answered) -> LineDone
     ensures { λ r. ⌜ r ≡ ways.called host a ⌝ }
 {
     let node = a.node;
     let draft = host.draft;
     let next = Host { node, draft };
-    Acted {
+    LineDone {
         number: a.number,
         count: a.count,
         host: next,
     }
 }
 
-fn edited(host: Host, e: Edited) -> Acted
+fn edited(host: Host, e: Edited) -> LineDone
     ensures { λ r. ⌜ r ≡ ways.edited host e ⌝ }
 {
     match e {
         Edited::Taken(draft) => {
             let node = host.node;
             let next = Host { node, draft };
-            Acted {
+            LineDone {
                 number: 0,
                 count: 0,
                 host: next,
@@ -67,11 +67,11 @@ fn edited(host: Host, e: Edited) -> Acted
     }
 }
 
-fn shown(host: Host, s: Shown) -> Acted
+fn shown(host: Host, s: Shown) -> LineDone
     ensures { λ r. ⌜ r ≡ ways.shown host s ⌝ }
 {
     match s {
-        Shown::Items(count) => Acted {
+        Shown::Items(count) => LineDone {
             number: 0,
             count,
             host,
@@ -101,9 +101,9 @@ fn act(
     kind: Kind,
     line: &[u8],
     at: usize,
-) -> Acted
+) -> LineDone
     requires { ⌜ (sound (host .draft) (now mem) (now rows) ≡ true) × (places (now area) ≡ 546) × (1542 ≤ length (now groups)) × (length (now line) ≤ 1024) ⌝ }
-    ensures { λ r. ⌜ Acts (toldOf (hostOf host (now (mem .entry)) (now (rows .entry))) (lineBy kind (fieldsFrom (now (line .entry)) at))) host (now (mem .entry)) (now (rows .entry)) (now (area .entry)) r (now (mem .exit)) (now (rows .exit)) (now (area .exit)) ⌝ }
+    ensures { λ r. ⌜ LineFollows (resultBy (hostOf host (now (mem .entry)) (now (rows .entry))) (lineBy kind (fieldsFrom (now (line .entry)) at))) host (now (mem .entry)) (now (rows .entry)) (now (area .entry)) r (now (mem .exit)) (now (rows .exit)) (now (area .exit)) ⌝ }
 {
     let node = host.node;
     let draft = host.draft;
@@ -158,8 +158,8 @@ fn hear(
     area: &mut [u64],
     groups: &mut [u64],
     line: &[u8],
-) -> Acted
-    ensures { λ r. ⌜ Acts (heardIn host (now (mem .entry)) (now (rows .entry)) (now (area .entry)) (now (groups .entry)) (now (line .entry))) host (now (mem .entry)) (now (rows .entry)) (now (area .entry)) r (now (mem .exit)) (now (rows .exit)) (now (area .exit)) ⌝ }
+) -> LineDone
+    ensures { λ r. ⌜ LineFollows (dueIn host (now (mem .entry)) (now (rows .entry)) (now (area .entry)) (now (groups .entry)) (now (line .entry))) host (now (mem .entry)) (now (rows .entry)) (now (area .entry)) r (now (mem .exit)) (now (rows .exit)) (now (area .exit)) ⌝ }
 {
     if !is_fit(host, mem, rows, area, groups) {
         return refused(host, 2);
@@ -184,14 +184,14 @@ pub fn event(
     n: u64,
     line: &[u8],
     out: &mut [u8],
-) -> Heard
-    ensures { λ r. ⌜ Tells host (now (mem .entry)) (now (rows .entry)) (now (area .entry)) (now (groups .entry)) n (now (line .entry)) (now (out .entry)) r (now (mem .exit)) (now (rows .exit)) (now (area .exit)) (now (groups .exit)) (now (out .exit)) ⌝ }
+) -> LineAnswer
+    ensures { λ r. ⌜ AnswersEvent host (now (mem .entry)) (now (rows .entry)) (now (area .entry)) (now (groups .entry)) n (now (line .entry)) (now (out .entry)) r (now (mem .exit)) (now (rows .exit)) (now (area .exit)) (now (groups .exit)) (now (out .exit)) ⌝ }
 {
     if out.len() < 65536 {
         let acted = refused(host, 2);
-        return Heard { acted, end: 0 };
+        return LineAnswer { acted, end: 0 };
     }
     let acted = hear(host, mem, rows, area, groups, line);
     let end = line_answer::put_answer(out, n, acted.number, acted.count, area);
-    Heard { acted, end }
+    LineAnswer { acted, end }
 }

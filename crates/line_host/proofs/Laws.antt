@@ -16,7 +16,7 @@ use Rattle.node.specs.declared.Node.{Node}
 use Rattle.node.specs.View.{size, ready}
 use Rattle.line_host.specs.declared.Host.{Host}
 use Rattle.line_host.specs.Host.{freshHost}
-use Rattle.line_host.specs.Acts.{hostOf, sound, asByte}
+use Rattle.line_host.specs.Follows.{hostOf, sound, asByte}
 
 module _ (d : RespondersConf) (mem rows : List ℕ) where
   pub short-mem : length mem < 10305 → false ≡ sound d mem rows

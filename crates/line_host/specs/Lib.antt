@@ -1,3 +1,3 @@
 pub mod Line
 pub mod Host
-pub mod Acts
+pub mod Follows

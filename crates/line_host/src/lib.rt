@@ -11,7 +11,7 @@ ghost use mathlib.Core.Bool.{false};
 ghost use Prim.Native.Nat.{ℕ, _≤_};
 ghost use Rattle.node.specs.View.{ready};
 ghost use Rattle.line_host.specs.Host.{freshHost};
-ghost use Rattle.line_host.specs.Acts.{hostOf, sound, asByte};
+ghost use Rattle.line_host.specs.Follows.{hostOf, sound, asByte};
 
 pub struct Host {
     pub node: Node,
@@ -19,7 +19,7 @@ pub struct Host {
 }
 
 // What a line did. 0: taken, with this many items; else the number of the refusal.
-pub struct Acted {
+pub struct LineDone {
     pub number: u64,
     pub count: usize,
     pub host: Host,

@@ -33,7 +33,7 @@ use Rattle.node.specs.declared.Node.{Node}
 use Rattle.node.specs.declared.Answered.{Answered}
 use Rattle.node.specs.View.{view, ready, givenOf}
 use Rattle.line_host.specs.Line.{areGroups, commandOf, batchOf, isRecord}
-use Rattle.line_host.specs.Acts.{AnswersLine}
+use Rattle.line_host.specs.Follows.{AnswersLine}
 use Rattle.line_record.specs.declared.Group.{Group}
 use Rattle.line_record.specs.declared.Groups.{Groups}
 use Rattle.line_record.specs.Groups.{requestIn, rowOf, ReadsGroup, ReadsGroups}

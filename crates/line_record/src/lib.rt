@@ -13,7 +13,7 @@ ghost use Rattle.line_fields.specs.Split.{fieldsFrom};
 ghost use Rattle.line_fields.specs.Number.{numberAt};
 ghost use Rattle.bodega.specs.Replica.{Record};
 ghost use Rattle.line_host.specs.Line.{isRecord, batchOf};
-ghost use Rattle.line_host.specs.Acts.{AnswersLine};
+ghost use Rattle.line_host.specs.Follows.{AnswersLine};
 ghost use Rattle.line_record.specs.Groups.{rowOf, ReadsGroup, ReadsGroups};
 
 // CLIENT,REQUEST,KEY,VALUE, the key by its start and length in the line.

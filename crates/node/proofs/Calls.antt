@@ -21,7 +21,7 @@ use Rattle.roster_conf.specs.Ground.{Ground, _when_or_, refusal}
 use Rattle.roster_conf.proofs.Grounds.{NoneApply, Positive}
 use Rattle.bodega.specs.Replica as machine
 use Rattle.bodega.specs.Grounds.{grounds}
-use Rattle.bodega.specs.Step.{step, effect, turnedAway}
+use Rattle.bodega.specs.Step.{step, effect, refusalOf}
 use Rattle.bodega.specs.Answers.{due, Answers}
 use Rattle.bodega.proofs.Taken.{positive}
 use Rattle.words.proofs.Tests.{and-both}
@@ -141,7 +141,7 @@ module _ (c : machine.Call) (n : Node) (m area : List ℕ) (t : Bool) (e : t ≡
   gives-2 f = rw (sym e ∙ not-true t f) (record { number = refl; count = refl; sameNode = refl; sameMem = refl; sameArea = refl })
 
   module _ (f : not t ≡ false) where
-    pub refused : (k : ℕ) → turnedAway (view n m) c (places area) ≡ some k → Answers ready view c n m area (record { number = k; count = 0; node = n }) m area
+    pub refused : (k : ℕ) → refusalOf (view n m) c (places area) ≡ some k → Answers ready view c n m area (record { number = k; count = 0; node = n }) m area
     unfolding due step
     refused k g = rw (sym e ∙ not-false t f, g) (record { number = refl; count = refl; sameNode = refl; sameMem = refl; sameArea = refl })
 
@@ -174,14 +174,14 @@ module _ (c : machine.Call) (n : Node) (m : List ℕ) where
 
   module _ (area : List ℕ) (t : Bool) (e : t ≡ ready n m) (f : not t ≡ false) (k : ℕ) (g : k ≡ lowest (grounds (view n m) c)) where
     pub refused-by : (k ≡ 0 → ⊥) → Answers ready view c n m area (record { number = k; count = 0; node = n }) m area
-    unfolding turnedAway
+    unfolding refusalOf
     refused-by h =
         refused c n m area t e f k
         (some-lowest (grounds (view n m) c) (20 when ltb (places area) (length (effect (view n m) c .items)) or []) (λ z. h (g ∙ z)) ∙ ap some (sym g))
 
     module _ (z : k ≡ 0) where
-      last-ground : turnedAway (view n m) c (places area) ≡ (if ltb (places area) (length (effect (view n m) c .items)) then some 20 else none)
-      unfolding turnedAway
+      last-ground : refusalOf (view n m) c (places area) ≡ (if ltb (places area) (length (effect (view n m) c .items)) then some 20 else none)
+      unfolding refusalOf
       last-ground = none-refuse (grounds (view n m) c) (20 when ltb (places area) (length (effect (view n m) c .items)) or []) (none-applies k g z)
 
       pub few-places : places area < length (effect (view n m) c .items) → Answers ready view c n m area (record { number = 20; count = 0; node = n }) m area

@@ -13,13 +13,13 @@ use Rattle.words.specs.Part.{splice}
 use Rattle.line_fields.specs.Split.{Bytes}
 use Rattle.stream_events.proofs.Laws.{fresh-lent}
 use Rattle.stream_turns.specs.declared.Stream.{Stream}
-use Rattle.stream_turns.specs.declared.Turned.{Turned}
-use Rattle.stream_turns.specs.Turns.{Begins, Turns}
-use Rattle.stream_turns.specs.Went as spec
+use Rattle.stream_turns.specs.declared.TurnResult.{TurnResult}
+use Rattle.stream_turns.specs.Turn.{Begins, TurnLeaves}
+use Rattle.stream_turns.specs.TurnList as spec
 use Rattle.replay.specs.declared.Filled.{Filled}
 use Rattle.replay.specs.declared.Filled.the-variants.{Piece, Ended, Failed}
-use Rattle.replay.specs.Reads.{came, Filling}
-use Rattle.replay.specs.Steps.{Stands, WentOn, Steps}
+use Rattle.replay.specs.Reads.{filledAs, Filling}
+use Rattle.replay.specs.Steps.{Stands, TurnsSoFar, Steps}
 
 -- bytes before a part that was lent
 pub before-part : (s : List ℕ) (a n : ℕ) (m : List ℕ) → a < length s → take a (splice s a n m) ≡ take a s
@@ -27,47 +27,47 @@ before-part s a n m h = take-at (take a s) (m ++ drop n (drop a s)) a (length-ta
 
 -- ---- what a read came to
 module _ (interrupted : Bool) (have end : ℕ) where
-  pub came-piece : (z : ℤ) → ltZ (pos 0) z ≡ true → Piece end ≡ came z interrupted have end
-  unfolding came
+  pub came-piece : (z : ℤ) → ltZ (pos 0) z ≡ true → Piece end ≡ filledAs z interrupted have end
+  unfolding filledAs
   came-piece (pos zero) e = absurd (let z = ltb-true 0 0 e in omega arith)
   came-piece (pos (suc k)) e = refl
   came-piece (negsuc k) e = absurd (true≢false (sym e))
 
-  pub came-again : (z : ℤ) → ltZ z (pos 0) ≡ true → interrupted ≡ true → Piece have ≡ came z interrupted have end
-  unfolding came
+  pub came-again : (z : ℤ) → ltZ z (pos 0) ≡ true → interrupted ≡ true → Piece have ≡ filledAs z interrupted have end
+  unfolding filledAs
   came-again (pos k) e i = absurd (let z = ltb-true k 0 e in omega arith)
   came-again (negsuc k) e i = rw i refl
 
-  pub came-failed : (z : ℤ) → ltZ z (pos 0) ≡ true → interrupted ≡ false → Failed ≡ came z interrupted have end
-  unfolding came
+  pub came-failed : (z : ℤ) → ltZ z (pos 0) ≡ true → interrupted ≡ false → Failed ≡ filledAs z interrupted have end
+  unfolding filledAs
   came-failed (pos k) e i = absurd (let z = ltb-true k 0 e in omega arith)
   came-failed (negsuc k) e i = rw i refl
 
-  pub came-ended : (z : ℤ) → ltZ (pos 0) z ≡ false → ltZ z (pos 0) ≡ false → Ended ≡ came z interrupted have end
-  unfolding came
+  pub came-ended : (z : ℤ) → ltZ (pos 0) z ≡ false → ltZ z (pos 0) ≡ false → Ended ≡ filledAs z interrupted have end
+  unfolding filledAs
   came-ended (pos zero) e f = refl
   came-ended (pos (suc k)) e f = absurd (let z = ltb-false 0 (suc k) e in omega arith)
   came-ended (negsuc k) e f = absurd (true≢false f)
 
   -- whatever it came to, the bytes that were kept stand as they were
-  pub filling : (z : ℤ) (r : Filled) (buf buf′ : Bytes) → r ≡ came z interrupted have end → have ≤ end → end ≤ length buf′ → take have buf′ ≡ take have buf → Filling buf have r buf′
-  unfolding came
+  pub filling : (z : ℤ) (r : Filled) (buf buf′ : Bytes) → r ≡ filledAs z interrupted have end → have ≤ end → end ≤ length buf′ → take have buf′ ≡ take have buf → Filling buf have r buf′
+  unfolding filledAs
   filling z r buf buf′ e h g s = rw e (go z)
     where
       stay : spec.Fills buf have have buf′
       stay = record { order = omega arith; within = omega arith; same = s }
 
-      either : (i : Bool) (k : ℕ) → Filling buf have (came (negsuc k) i have end) buf′
+      either : (i : Bool) (k : ℕ) → Filling buf have (filledAs (negsuc k) i have end) buf′
       either true k = stay
       either false k = stay
 
-      go : (z : ℤ) → Filling buf have (came z interrupted have end) buf′
+      go : (z : ℤ) → Filling buf have (filledAs z interrupted have end) buf′
       go (pos zero) = stay
       go (pos (suc k)) = record { order = h; within = g; same = s }
       go (negsuc k) = either interrupted k
 
 -- ---- where a step leaves the stream
-pub begins : (s : Stream) (buf : Bytes) (mem rows : List ℕ) → Begins s → WentOn s buf mem rows
+pub begins : (s : Stream) (buf : Bytes) (mem rows : List ℕ) → Begins s → TurnsSoFar s buf mem rows
 begins s buf mem rows b = record { pieces = []; text = []; went = spec.none b }
 
 pub begun : (s : Stream) (buf : Bytes) (mem rows area groups : List ℕ) → Begins s → 10305 ≤ length mem → 320 ≤ length rows → length area ≡ 3276 → 1542 ≤ length groups → Stands s buf mem rows area groups
@@ -78,9 +78,9 @@ begun s buf mem rows area groups b m r a g = record {
   lent = fresh-lent (s .place .state .host) mem rows area groups (b .draft) m r a g;
 }
 
-pub turned : (s : Stream) (buf : Bytes) (mem rows : List ℕ) (out : Bytes) (r : Turned) (buf′ : Bytes) (mem′ rows′ area′ groups′ : List ℕ) (out′ : Bytes) → length buf′ ≡ length buf → Turns buf s mem rows out r buf′ mem′ rows′ area′ groups′ out′
+pub refusedLine : (s : Stream) (buf : Bytes) (mem rows : List ℕ) (out : Bytes) (r : TurnResult) (buf′ : Bytes) (mem′ rows′ area′ groups′ : List ℕ) (out′ : Bytes) → length buf′ ≡ length buf → TurnLeaves buf s mem rows out r buf′ mem′ rows′ area′ groups′ out′
     → Steps s buf mem rows (r .stream) buf′ mem′ rows′ area′ groups′
-turned s buf mem rows out r buf′ mem′ rows′ area′ groups′ out′ e t = record {
+refusedLine s buf mem rows out r buf′ mem′ rows′ area′ groups′ out′ e t = record {
   stands = record { order = t .order; within = omega (arith, t .within); few = λ m. t .rests m .few; lent = t .lent };
   on = λ w. record { pieces = w .pieces; text = w .text ++ take (r .used) out′; went = spec.turn out r buf′ mem′ rows′ area′ groups′ out′ (w .went) t };
 }

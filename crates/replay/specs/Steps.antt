@@ -7,7 +7,7 @@ use lib.ListN.{length}
 use Rattle.line_fields.specs.Split.{Bytes}
 use Rattle.stream_events.specs.Fed.{Lent}
 use Rattle.stream_turns.specs.declared.Stream.{Stream}
-use Rattle.stream_turns.specs.Went.{Went}
+use Rattle.stream_turns.specs.TurnList.{TurnList}
 
 -- the bytes that wait are in the buffer, and where no line ends in them there is room for a piece behind them
 pub record Stands (s : Stream) (buf : Bytes) (mem rows area groups : List ℕ) : Type 0 where
@@ -17,11 +17,11 @@ pub record Stands (s : Stream) (buf : Bytes) (mem rows area groups : List ℕ) :
   pub lent : Lent (s .place .state .host) mem rows area groups
 
 -- the turns went on
-pub record WentOn (s : Stream) (buf : Bytes) (mem rows : List ℕ) : Type 0 where
+pub record TurnsSoFar (s : Stream) (buf : Bytes) (mem rows : List ℕ) : Type 0 where
   pub pieces : List Bytes
   pub text : Bytes
-  pub went : Went pieces text s buf mem rows
+  pub went : TurnList pieces text s buf mem rows
 
 pub record Steps (s : Stream) (buf : Bytes) (mem rows : List ℕ) (s′ : Stream) (buf′ : Bytes) (mem′ rows′ area′ groups′ : List ℕ) : Type 0 where
   pub stands : Stands s′ buf′ mem′ rows′ area′ groups′
-  pub on : WentOn s buf mem rows → WentOn s′ buf′ mem′ rows′
+  pub on : TurnsSoFar s buf mem rows → TurnsSoFar s′ buf′ mem′ rows′

@@ -8,7 +8,7 @@ ghost use mathlib.Core.Path.{_≡_};
 ghost use mathlib.Core.Bool.{true};
 ghost use Prim.Native.Nat.{_≤_, _<_};
 ghost use lib.ListN.{length};
-ghost use Rattle.replay.specs.Reads.{came, Filling};
+ghost use Rattle.replay.specs.Reads.{filledAs, Filling};
 ghost use Rattle.replay.specs.Steps.{Stands, Steps};
 
 // What a read came to: the bytes of the buffer now end there, the input has ended, or the read failed.
@@ -41,7 +41,7 @@ fn flush(out: &[u8], used: usize) -> bool
 // What a read that answered `got` came to: the bytes ended at `have` before it, and if it got any, end at `end`. One that a
 // signal interrupted is a piece without bytes.
 fn outcome(got: isize, interrupted: bool, have: usize, end: usize) -> Filled
-    ensures { λ r. ⌜ r ≡ came got interrupted have end ⌝ }
+    ensures { λ r. ⌜ r ≡ filledAs got interrupted have end ⌝ }
 {
     if got > 0 {
         return Filled::Piece(end);
@@ -81,9 +81,9 @@ fn step(
     ensures { λ r. ⌜ (r .on ≡ true → Steps from (now (buf .entry)) (now (mem .entry)) (now (rows .entry)) (r .stream) (now (buf .exit)) (now (mem .exit)) (now (rows .exit)) (now (area .exit)) (now (groups .exit))) ⌝ }
 {
     if from.more {
-        let turned = stream_turns::turn(buf, from, mem, rows, area, groups, out);
-        let on = flush(out, turned.used);
-        let stream = turned.stream;
+        let refusedLine = stream_turns::turn(buf, from, mem, rows, area, groups, out);
+        let on = flush(out, refusedLine.used);
+        let stream = refusedLine.stream;
         return Next { stream, on };
     }
     let have = from.end;

@@ -34,7 +34,7 @@ use Rattle.roster_conf.specs.declared.Asked.the-variants.{Store, Refused
 use Rattle.roster_conf.specs.declared.Responders.the-variants.{Mask, NoRoster, Refused as Short}
 use Rattle.roster_conf.specs.Conf.{Conf, getRespondersByKey, leaderWithout, setResponders, intoFiltered}
 use Rattle.roster_conf.specs.Ground.{refusal}
-use Rattle.roster_conf.specs.Edit.{Edit, SetLeader, SetResponders, SetFull, IntoFiltered, ResetFull, edit, grounds, tooMany, refused, taken, answer}
+use Rattle.roster_conf.specs.Edit.{Edit, SetLeader, SetResponders, SetFull, IntoFiltered, ResetFull, edit, grounds, tooMany, refused, taken, editResult}
 use Rattle.roster_conf.specs.Edits.{view, holdsRows, inRange, due, Leaves, Gives, lookup}
 use Rattle.roster_conf.specs.Asks.{stored, storing, Asks}
 
@@ -93,16 +93,16 @@ module _ (p : ℕ) (c : RespondersConf) (s : List ℕ) (e : Edit) (t : Bool) (r 
   unready f = rw (sym r ∙ not-true t f) (refl, refl)
 
   module _ (f : not t ≡ false) where
-    due-answer : due p c s e ≡ answer p (view c s) e
+    due-answer : due p c s e ≡ editResult p (view c s) e
     unfolding due
-    due-answer = ap (λ (b : Bool). if b then answer p (view c s) e else refused 2) (sym r ∙ not-false t f)
+    due-answer = ap (λ (b : Bool). if b then editResult p (view c s) e else refused 2) (sym r ∙ not-false t f)
 
     refuses : (n : ℕ) → refusal (grounds p (view c s) e) ≡ some n → Gives (due p c s e) (Refused n) s s
-    unfolding answer
+    unfolding editResult
     refuses n g = rw (due-answer ∙ ap (λ (o : Option ℕ). ifNone o then taken (edit (view c s) e) else refused) g) (refl, refl)
 
     takes : (d : RespondersConf) (after : List ℕ) → refusal (grounds p (view c s) e) ≡ none → Leaves (edit (view c s) e) s d after → Gives (due p c s e) (Taken d) s after
-    unfolding answer
+    unfolding editResult
     takes d after g l = rw (due-answer ∙ ap (λ (o : Option ℕ). ifNone o then taken (edit (view c s) e) else refused) g) l
 
 -- the words are the same, and so is the number of rows or there is none
@@ -174,10 +174,10 @@ module _ (c : RespondersConf) (s : List ℕ) (w : Row) (after : List ℕ) (st : 
 
 -- an answer that no roster changes, or the row stored
 module _ (p : ℕ) (c : RespondersConf) (s : List ℕ) (e : Edit) (t : Bool) (r : t ≡ holdsRows (length s) (c .count) && inRange p) (f : not t ≡ false) where
-  pub asked-refused : (n : ℕ) → ((d : Conf) → answer p d e ≡ refused n) → Gives (due p c s e) (Refused n) s s
+  pub asked-refused : (n : ℕ) → ((d : Conf) → editResult p d e ≡ refused n) → Gives (due p c s e) (Refused n) s s
   asked-refused n h = rw (due-answer p c s e t r f ∙ h (view c s)) (refl, refl)
 
-  pub asked-stored : (w : Row) (d : Edited) (after : List ℕ) → ((x : Conf) → answer p x e ≡ storing (stored x w)) → Gives (storing (stored (view c s) w)) d s after
+  pub asked-stored : (w : Row) (d : Edited) (after : List ℕ) → ((x : Conf) → editResult p x e ≡ storing (stored x w)) → Gives (storing (stored (view c s) w)) d s after
       → Gives (due p c s e) d s after
   asked-stored w d after h g = rw (due-answer p c s e t r f ∙ h (view c s)) g
 
@@ -189,16 +189,16 @@ module _ (p : ℕ) (c : RespondersConf) (s start end : List ℕ) (mask : ℕ) (t
   range-stored w e d after g = asked-stored p c s (SetResponders start end mask) t r f w d after (rw e at a) g
 
 -- the grounds up to 17 do not apply
-only-17 : (p : ℕ) (c : Conf) (e : Edit) → refusal (grounds p c e) ≡ (if tooMany (edit c e) then some 17 else none) → answer p c e ≡ storing (edit c e)
-unfolding answer
+only-17 : (p : ℕ) (c : Conf) (e : Edit) → refusal (grounds p c e) ≡ (if tooMany (edit c e) then some 17 else none) → editResult p c e ≡ storing (edit c e)
+unfolding editResult
 only-17 p c e h = ap (λ (o : Option ℕ). ifNone o then taken (edit c e) else refused) h ∙ go (tooMany (edit c e))
   where
     go : (b : Bool) → (ifNone (if b then some 17 else none) then taken (edit c e) else refused) ≡ (if b then refused 17 else taken (edit c e))
     go true = refl
     go false = refl
 
-turned-away : (p : ℕ) (c : Conf) (e : Edit) (n : ℕ) → refusal (grounds p c e) ≡ some n → answer p c e ≡ refused n
-unfolding answer
+turned-away : (p : ℕ) (c : Conf) (e : Edit) (n : ℕ) → refusal (grounds p c e) ≡ some n → editResult p c e ≡ refused n
+unfolding editResult
 turned-away p c e n h = ap (λ (o : Option ℕ). ifNone o then taken (edit c e) else refused) h
 
 module _ (p mask : ℕ) (t4 : Bool) (e4 : t4 ≡ fits mask p) where

@@ -18,8 +18,8 @@ use Rattle.roster_ranges.proofs.Meaning.{overwrite-canon, overwrite-at, remaske
 use Rattle.roster_conf.proofs.Grounds.{zero-one, none-apply}
 use Rattle.roster_conf.specs.Conf.{Conf, empty, setResponders, setFull, intoFiltered}
 use Rattle.roster_conf.specs.Ground.{refusal, Ascends}
-use Rattle.roster_conf.specs.Edit.{Edit, SetLeader, SetResponders, SetFull, IntoFiltered, ResetFull, edit, grounds, crossed, tooMany, Answer, refused, taken, answer}
-use Rattle.roster_conf.specs.Run.{left, run, Good, isGood, EditsMakeGood}
+use Rattle.roster_conf.specs.Edit.{Edit, SetLeader, SetResponders, SetFull, IntoFiltered, ResetFull, edit, grounds, crossed, tooMany, EditResult, refused, taken, editResult}
+use Rattle.roster_conf.specs.EditList.{left, editAll, Good, isGood, EditsMakeGood}
 
 -- ---- the grounds ascend, so that the first that applies is the lowest
 
@@ -33,8 +33,8 @@ ascends p c ResetFull = tt
 
 -- ---- an edit that is taken
 
-answer-taken : (p : ℕ) (c d : Conf) (e : Edit) → answer p c e ≡ taken d → (refusal (grounds p c e) ≡ none) × (edit c e ≡ d)
-unfolding answer
+answer-taken : (p : ℕ) (c d : Conf) (e : Edit) → editResult p c e ≡ taken d → (refusal (grounds p c e) ≡ none) × (edit c e ≡ d)
+unfolding editResult
 answer-taken p c d e h = go (refusal (grounds p c e)) refl
   where
     go : (o : Option ℕ) → refusal (grounds p c e) ≡ o → (refusal (grounds p c e) ≡ none) × (edit c e ≡ d)
@@ -117,19 +117,19 @@ good-edit p c (SetFull mask) h e =
 good-edit p c (IntoFiltered r) h e = good-filtered r c h
 good-edit p c ResetFull h e = (tt, omega arith)
 
-good-left : (p : ℕ) (c : Conf) (e : Edit) → Good c → Good (left c (answer p c e))
-good-left p c e h = go (answer p c e) refl
+good-left : (p : ℕ) (c : Conf) (e : Edit) → Good c → Good (left c (editResult p c e))
+good-left p c e h = go (editResult p c e) refl
   where
-    go : (x : Answer) → answer p c e ≡ x → Good (left c x)
+    go : (x : EditResult) → editResult p c e ≡ x → Good (left c x)
     go (refused n) f = h
     go (taken d) f = let k = answer-taken p c d e f in rw (← k .1) (good-edit p c e h (k .0))
 
-pub good-run : (p : ℕ) (c : Conf) (es : List Edit) → Good c → Good (run p c es)
+pub good-run : (p : ℕ) (c : Conf) (es : List Edit) → Good c → Good (editAll p c es)
 good-run p c [] h = h
-good-run p c (e ∷ es) h = good-run p (left c (answer p c e)) es (good-left p c e h)
+good-run p c (e ∷ es) h = good-run p (left c (editResult p c e)) es (good-left p c e h)
 
 -- whatever the edits from the fresh node's roster
-pub reachable : (p : ℕ) (es : List Edit) → Good (run p empty es)
+pub reachable : (p : ℕ) (es : List Edit) → Good (editAll p empty es)
 reachable p es = good-run p empty es (tt, omega arith)
 
 pub good-true : (c : Conf) → isGood c ≡ true → Good c
@@ -141,4 +141,4 @@ pub true-good : (c : Conf) → Good c → isGood c ≡ true
 true-good c g = rw (true-canon (c .ranges) (g .0), le-leb (length (c .ranges)) 64 (g .1))
 
 pub edits-make-good : EditsMakeGood
-edits-make-good p es = true-good (run p empty es) (reachable p es)
+edits-make-good p es = true-good (editAll p empty es) (reachable p es)

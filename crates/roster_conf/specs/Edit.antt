@@ -67,9 +67,9 @@ grounds population c (IntoFiltered r) =
     []
 grounds population c ResetFull = []
 
-pub data Answer : Type 0 where
-  refused : ℕ → Answer
-  taken : Conf → Answer
+pub data EditResult : Type 0 where
+  refused : ℕ → EditResult
+  taken : Conf → EditResult
 
-unfoldable pub answer : ℕ → Conf → Edit → Answer
-answer population c e = ifNone refusal (grounds population c e) then taken (edit c e) else refused
+unfoldable pub editResult : ℕ → Conf → Edit → EditResult
+editResult population c e = ifNone refusal (grounds population c e) then taken (edit c e) else refused

@@ -17,7 +17,7 @@ use Rattle.roster_conf.specs.declared.Edited.the-variants.{Taken, Refuse
 use Rattle.roster_conf.specs.declared.Responders.{Responders}
 use Rattle.roster_conf.specs.declared.Responders.the-variants.{Mask, NoRoster, Refused as Short}
 use Rattle.roster_conf.specs.Conf.{Conf, getRespondersByKey}
-use Rattle.roster_conf.specs.Edit.{Edit, Answer, refused, taken, answer}
+use Rattle.roster_conf.specs.Edit.{Edit, EditResult, refused, taken, editResult}
 
 -- the roster that the struct and its words stand for
 unfoldable pub view : RespondersConf → List ℕ → Conf
@@ -31,8 +31,8 @@ holdsRows len count = leb (ranges * 5) len && leb count ranges
 abbrev pub inRange : ℕ → Bool
 inRange population = leb 1 population && leb population replicas
 
-unfoldable pub due : ℕ → RespondersConf → List ℕ → Edit → Answer
-due population c rows e = if holdsRows (length rows) (c .count) && inRange population then answer population (view c rows) e else refused 2
+unfoldable pub due : ℕ → RespondersConf → List ℕ → Edit → EditResult
+due population c rows e = if holdsRows (length rows) (c .count) && inRange population then editResult population (view c rows) e else refused 2
 
 -- the roster that is left: what the edit makes of it, in 64 rows or fewer; words past them stay as they were
 pub record Leaves (c : Conf) (before : List ℕ) (d : RespondersConf) (after : List ℕ) : Type 0 where
@@ -41,7 +41,7 @@ pub record Leaves (c : Conf) (before : List ℕ) (d : RespondersConf) (after : L
   pub beyond : Untouched (ranges * 5) before after
 
 -- a refusal gives the number, and the words stay as they were
-abbrev pub Gives : Answer → Edited → List ℕ → List ℕ → Type 0
+abbrev pub Gives : EditResult → Edited → List ℕ → List ℕ → Type 0
 Gives (refused n) (Refused k) before after = (k ≡ n) × (after ≡ before)
 Gives (refused n) (Taken d) before after = ⊥
 Gives (taken c) (Refused k) before after = ⊥

@@ -3,4 +3,4 @@ pub mod Ground
 pub mod Edit
 pub mod Edits
 pub mod Asks
-pub mod Run
+pub mod EditList

@@ -7,9 +7,9 @@ use lib.Dec.{ltb, eqb}
 use lib.ListN.{length}
 use Rattle.words.specs.Choice.{if_then_else_}
 use Rattle.line_fields.specs.Split.{Bytes}
-use Rattle.line_host.specs.Host.{Host, freshHost, Told, turned, heard, heardAll, textOf}
-use Rattle.stream_pieces.specs.Pieces.{Begun, fresh, concat}
-use Rattle.stream_pieces.specs.Runs.{Said, piecewise}
+use Rattle.line_host.specs.Host.{Host, freshHost, LineResult, refusedLine, answerLine, answerLines, textOf}
+use Rattle.stream_pieces.specs.Pieces.{Begun, noneBegun, concat}
+use Rattle.stream_pieces.specs.Streamed.{LineOutput, piecewise}
 
 -- what goes from line to line: the host, and the number of the next line
 pub record State : Type 0 where
@@ -24,16 +24,16 @@ abbrev pub bumped : ℕ → ℕ
 bumped n = if ltb n (2 ^ 64 - 1) then n + 1 else n
 
 -- refusal 1: a line "exceeds 1,024 bytes", of which some were dropped; where none were, heard tells by the length
-unfoldable pub told : Host → Begun → Told
-told h b = if b .long then turned h 1 else heard h (b .line)
+unfoldable pub resultOf : Host → Begun → LineResult
+resultOf h b = if b .long then refusedLine h 1 else answerLine h (b .line)
 
 -- a line's text, and the state after it
-unfoldable pub says : State → Begun → Said State
-says s b = let t = told (s .host) b in record { text = textOf (s .number) (t .answer); next = record { host = t .host; number = bumped (s .number) } }
+unfoldable pub lineOutput : State → Begun → LineOutput State
+lineOutput s b = let t = resultOf (s .host) b in record { text = textOf (s .number) (t .outcome); next = record { host = t .host; number = bumped (s .number) } }
 
 -- the state after a last line without a newline, which is one if it has a byte (lastLine)
 unfoldable pub lastState : State → Begun → State
-lastState s b = if b .long || ltb 0 (length (b .line)) then says s b .next else s
+lastState s b = if b .long || ltb 0 (length (b .line)) then lineOutput s b .next else s
 
 -- ---- the same without pieces
 
@@ -47,4 +47,4 @@ linesOf s = linesFrom [] s
 
 -- a stream of fewer lines than the number can count, in whatever pieces it comes, is answered as its lines are one after the other
 abbrev pub PiecesAsWhole : Type 0
-PiecesAsWhole = (ps : List Bytes) → length (linesOf (concat ps)) < 2 ^ 64 - 1 → piecewise says start fresh ps ≡ heardAll freshHost 1 (linesOf (concat ps))
+PiecesAsWhole = (ps : List Bytes) → length (linesOf (concat ps)) < 2 ^ 64 - 1 → piecewise lineOutput start noneBegun ps ≡ answerLines freshHost 1 (linesOf (concat ps))

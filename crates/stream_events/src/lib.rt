@@ -7,24 +7,24 @@ ghost use Prim.Native.Nat.{ℕ, _≤_};
 ghost use lib.Dec.{ltb};
 ghost use lib.ListN.{length};
 ghost use Rattle.stream_events.specs.Lines.{start, bumped};
-ghost use Rattle.stream_events.specs.Fed.{Lent, stateOf, Says, Ends, Feeds};
+ghost use Rattle.stream_events.specs.Fed.{Lent, stateOf, WritesLine, WritesLastLine, WritesLines};
 
 // What goes from line to line: the host, and the number of the next line.
-pub struct Counted {
+pub struct LineState {
     pub host: Host,
     pub number: u64,
 }
 
 // What a line leaves, and where its text ends.
-pub struct Said {
-    pub state: Counted,
+pub struct LineWritten {
+    pub state: LineState,
     pub end: usize,
 }
 
 // A place in a piece: where the next line starts, what it finds, and whether bytes of it were dropped.
 pub struct Place {
     pub at: usize,
-    pub state: Counted,
+    pub state: LineState,
     pub long: bool,
 }
 
@@ -35,13 +35,13 @@ pub struct Fed {
     pub more: bool,
 }
 
-impl Counted {
+impl LineState {
     // Before the first line.
-    pub fn fresh() -> Counted
+    pub fn fresh() -> LineState
         ensures { λ r. ⌜ ((mem rows : List ℕ) → stateOf r mem rows ≡ start) × (r .host .draft .count ≤ 64) ⌝ }
     {
         let host = Host::fresh();
-        Counted { host, number: 1 }
+        LineState { host, number: 1 }
     }
 }
 
@@ -57,7 +57,7 @@ fn bump(n: u64) -> u64
 
 // Answers a line. If `long`, the line had bytes more, which were dropped.
 pub fn one(
-    from: Counted,
+    from: LineState,
     mem: &mut [u64],
     rows: &mut [u64],
     area: &mut [u64],
@@ -65,24 +65,24 @@ pub fn one(
     long: bool,
     line: &[u8],
     out: &mut [u8],
-) -> Said
+) -> LineWritten
     requires { ⌜ Lent (from .host) (now mem) (now rows) (now area) (now groups) × (65536 ≤ length (now out)) ⌝ }
-    ensures { λ r. ⌜ Says from (now (mem .entry)) (now (rows .entry)) (record { long = long; line = now (line .entry) }) (now (out .entry)) r (now (mem .exit)) (now (rows .exit)) (now (area .exit)) (now (groups .exit)) (now (out .exit)) ⌝ }
+    ensures { λ r. ⌜ WritesLine from (now (mem .entry)) (now (rows .entry)) (record { long = long; line = now (line .entry) }) (now (out .entry)) r (now (mem .exit)) (now (rows .exit)) (now (area .exit)) (now (groups .exit)) (now (out .exit)) ⌝ }
 {
     let host = from.host;
     let number = bump(from.number);
     if long {
         let end = line_answer::put_answer(out, from.number, 1, 0, area);
-        return Said {
-            state: Counted { host, number },
+        return LineWritten {
+            state: LineState { host, number },
             end,
         };
     }
     let heard = line_event::event(host, mem, rows, area, groups, from.number, line, out);
     let acted = heard.acted;
     let next = acted.host;
-    Said {
-        state: Counted { host: next, number },
+    LineWritten {
+        state: LineState { host: next, number },
         end: heard.end,
     }
 }
@@ -98,7 +98,7 @@ pub fn feed(
     out: &mut [u8],
 ) -> Fed
     requires { ⌜ (from .at ≤ length (now piece)) × Lent (from .state .host) (now mem) (now rows) (now area) (now groups) × (65536 ≤ length (now out)) ⌝ }
-    ensures { λ r. ⌜ Feeds (now (piece .entry)) from (now (mem .entry)) (now (rows .entry)) (now (out .entry)) r (now (mem .exit)) (now (rows .exit)) (now (area .exit)) (now (groups .exit)) (now (out .exit)) ⌝ }
+    ensures { λ r. ⌜ WritesLines (now (piece .entry)) from (now (mem .entry)) (now (rows .entry)) (now (out .entry)) r (now (mem .exit)) (now (rows .exit)) (now (area .exit)) (now (groups .exit)) (now (out .exit)) ⌝ }
 {
     let mut state = from.state;
     let mut at = from.at;
@@ -148,7 +148,7 @@ fn is_line(long: bool, line: &[u8]) -> bool
 
 // Answers a last line without a newline, if it has a byte.
 pub fn last_line(
-    from: Counted,
+    from: LineState,
     mem: &mut [u64],
     rows: &mut [u64],
     area: &mut [u64],
@@ -156,14 +156,14 @@ pub fn last_line(
     long: bool,
     line: &[u8],
     out: &mut [u8],
-) -> Said
+) -> LineWritten
     requires { ⌜ Lent (from .host) (now mem) (now rows) (now area) (now groups) × (65536 ≤ length (now out)) ⌝ }
-    ensures { λ r. ⌜ Ends from (now (mem .entry)) (now (rows .entry)) (record { long = long; line = now (line .entry) }) (now (out .entry)) r (now (mem .exit)) (now (rows .exit)) (now (area .exit)) (now (groups .exit)) (now (out .exit)) ⌝ }
+    ensures { λ r. ⌜ WritesLastLine from (now (mem .entry)) (now (rows .entry)) (record { long = long; line = now (line .entry) }) (now (out .entry)) r (now (mem .exit)) (now (rows .exit)) (now (area .exit)) (now (groups .exit)) (now (out .exit)) ⌝ }
 {
     if is_line(long, line) {
         return one(from, mem, rows, area, groups, long, line, out);
     }
-    Said {
+    LineWritten {
         state: from,
         end: 0,
     }

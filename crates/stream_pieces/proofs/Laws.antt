@@ -15,8 +15,8 @@ use mir.Val.{Fits}
 use borrow.Author.Tests.{lt-ltb, le-ltb, eq-eqb, ne-eqb}
 use Rattle.words.specs.Writes.{writes, writes-other, writes-take, writes-append, length-writes, run-writes}
 use Rattle.words.specs.Tab.{run-part}
-use Rattle.stream_pieces.specs.Pieces.{Begun, fresh, longer, before, kept}
-use Rattle.stream_pieces.specs.Runs.{Said, Run, prepend, runs, Done, done}
+use Rattle.stream_pieces.specs.Pieces.{Begun, noneBegun, longer, before, kept}
+use Rattle.stream_pieces.specs.Streamed.{LineOutput, Streamed, prepend, streamed, OutputAfter, outputAfter}
 
 -- ---- the end of a line
 module _ (s : List ℕ) (i k : ℕ) (e : i + before (drop i s) ≡ k) where
@@ -123,21 +123,21 @@ module _ (piece : List ℕ) (at e : ℕ) (h : at ≤ length piece) (f : e ≡ at
     next-less = omega (arith, line-below)
 
 -- ---- the lines of a run of bytes
-pub done-append : {S : Type 0} (out : List ℕ) (used : ℕ) (text : List ℕ) (r : Run S) → done (writes out used text) (used + length text) r ≡ done out used (prepend text r)
+pub done-append : {S : Type 0} (out : List ℕ) (used : ℕ) (text : List ℕ) (r : Streamed S) → outputAfter (writes out used text) (used + length text) r ≡ outputAfter out used (prepend text r)
 done-append out used text r =
     rw (writes-append out used text (r .out), length-append text (r .out), add-assoc used (length text) (length (r .out)))
 
-module _ {S : Type 0} (answer : S → Begun → Said S) where
+module _ {S : Type 0} (answer : S → Begun → LineOutput S) where
   -- a line is answered, and the run goes on after it
   pub runs-line : (s : S) (b : Begun) (l : List ℕ) → before l < length l
-      → runs answer s b l ≡ prepend (answer s (record { long = b .long; line = b .line ++ take (before l) l }) .text) (runs answer (answer s (record { long = b .long; line = b .line ++ take (before l) l }) .next) fresh (drop (suc (before l)) l))
-  unfolding runs
+      → streamed answer s b l ≡ prepend (answer s (record { long = b .long; line = b .line ++ take (before l) l }) .text) (streamed answer (answer s (record { long = b .long; line = b .line ++ take (before l) l }) .next) noneBegun (drop (suc (before l)) l))
+  unfolding streamed
   runs-line s b [] h = absurd (omega arith)
   runs-line s b (c ∷ l) h = go (eqb c 10) refl (runs-line s (longer b c) l)
     where
       go : (t : Bool) → eqb c 10 ≡ t
-          → (before l < length l → runs answer s (longer b c) l ≡ prepend (answer s (record { long = b .long; line = (b .line ++ (c ∷ [])) ++ take (before l) l }) .text) (runs answer (answer s (record { long = b .long; line = (b .line ++ (c ∷ [])) ++ take (before l) l }) .next) fresh (drop (suc (before l)) l)))
-          → runs answer s b (c ∷ l) ≡ prepend (answer s (record { long = b .long; line = b .line ++ take (before (c ∷ l)) (c ∷ l) }) .text) (runs answer (answer s (record { long = b .long; line = b .line ++ take (before (c ∷ l)) (c ∷ l) }) .next) fresh (drop (suc (before (c ∷ l))) (c ∷ l)))
+          → (before l < length l → streamed answer s (longer b c) l ≡ prepend (answer s (record { long = b .long; line = (b .line ++ (c ∷ [])) ++ take (before l) l }) .text) (streamed answer (answer s (record { long = b .long; line = (b .line ++ (c ∷ [])) ++ take (before l) l }) .next) noneBegun (drop (suc (before l)) l)))
+          → streamed answer s b (c ∷ l) ≡ prepend (answer s (record { long = b .long; line = b .line ++ take (before (c ∷ l)) (c ∷ l) }) .text) (streamed answer (answer s (record { long = b .long; line = b .line ++ take (before (c ∷ l)) (c ∷ l) }) .next) noneBegun (drop (suc (before (c ∷ l))) (c ∷ l)))
       go true p ih = simp (p, append-nil)
       go false p ih =
           let k : suc (before l) < suc (length l) = simp p at h in
@@ -145,73 +145,73 @@ module _ {S : Type 0} (answer : S → Begun → Said S) where
 
   -- a line with its newline, and no byte more
   pub runs-one : (s : S) (b : Begun) (l : List ℕ) → before l < length l
-      → runs answer s b (take (suc (before l)) l) ≡ record { out = answer s (record { long = b .long; line = b .line ++ take (before l) l }) .text; state = answer s (record { long = b .long; line = b .line ++ take (before l) l }) .next; begun = fresh }
-  unfolding runs
+      → streamed answer s b (take (suc (before l)) l) ≡ record { out = answer s (record { long = b .long; line = b .line ++ take (before l) l }) .text; state = answer s (record { long = b .long; line = b .line ++ take (before l) l }) .next; begun = noneBegun }
+  unfolding streamed
   runs-one s b [] h = absurd (omega arith)
   runs-one s b (c ∷ l) h = go (eqb c 10) refl (runs-one s (longer b c) l)
     where
       go : (t : Bool) → eqb c 10 ≡ t
-          → (before l < length l → runs answer s (longer b c) (take (suc (before l)) l) ≡ record { out = answer s (record { long = b .long; line = (b .line ++ (c ∷ [])) ++ take (before l) l }) .text; state = answer s (record { long = b .long; line = (b .line ++ (c ∷ [])) ++ take (before l) l }) .next; begun = fresh })
-          → runs answer s b (take (suc (before (c ∷ l))) (c ∷ l)) ≡ record { out = answer s (record { long = b .long; line = b .line ++ take (before (c ∷ l)) (c ∷ l) }) .text; state = answer s (record { long = b .long; line = b .line ++ take (before (c ∷ l)) (c ∷ l) }) .next; begun = fresh }
+          → (before l < length l → streamed answer s (longer b c) (take (suc (before l)) l) ≡ record { out = answer s (record { long = b .long; line = (b .line ++ (c ∷ [])) ++ take (before l) l }) .text; state = answer s (record { long = b .long; line = (b .line ++ (c ∷ [])) ++ take (before l) l }) .next; begun = noneBegun })
+          → streamed answer s b (take (suc (before (c ∷ l))) (c ∷ l)) ≡ record { out = answer s (record { long = b .long; line = b .line ++ take (before (c ∷ l)) (c ∷ l) }) .text; state = answer s (record { long = b .long; line = b .line ++ take (before (c ∷ l)) (c ∷ l) }) .next; begun = noneBegun }
       go true p ih = simp (p, append-nil)
       go false p ih =
           let k : suc (before l) < suc (length l) = simp p at h in
           simp p (ih (omega arith) ∙ simp append-assoc)
 
   -- no newline, no line
-  pub runs-none : (s : S) (b : Begun) (l : List ℕ) → before l ≡ length l → runs answer s b l ≡ record { out = []; state = s; begun = record { long = b .long; line = b .line ++ l } }
-  unfolding runs
+  pub runs-none : (s : S) (b : Begun) (l : List ℕ) → before l ≡ length l → streamed answer s b l ≡ record { out = []; state = s; begun = record { long = b .long; line = b .line ++ l } }
+  unfolding streamed
   runs-none s b [] h = simp append-nil
   runs-none s b (c ∷ l) h = go (eqb c 10) refl (runs-none s (longer b c) l)
     where
       go : (t : Bool) → eqb c 10 ≡ t
-          → (before l ≡ length l → runs answer s (longer b c) l ≡ record { out = []; state = s; begun = record { long = b .long; line = (b .line ++ (c ∷ [])) ++ l } })
-          → runs answer s b (c ∷ l) ≡ record { out = []; state = s; begun = record { long = b .long; line = b .line ++ (c ∷ l) } }
+          → (before l ≡ length l → streamed answer s (longer b c) l ≡ record { out = []; state = s; begun = record { long = b .long; line = (b .line ++ (c ∷ [])) ++ l } })
+          → streamed answer s b (c ∷ l) ≡ record { out = []; state = s; begun = record { long = b .long; line = b .line ++ (c ∷ l) } }
       go true p ih = absurd (let k : 0 ≡ suc (length l) = simp p at h in omega arith)
       go false p ih =
           let k : suc (before l) ≡ suc (length l) = simp p at h in
           simp p (ih (omega arith) ∙ simp append-assoc)
 
   -- a run, and then another
-  pub cut : (s : S) (b : Begun) (l t : List ℕ) → runs answer s b (l ++ t) ≡ prepend (runs answer s b l .out) (runs answer (runs answer s b l .state) (runs answer s b l .begun) t)
-  unfolding runs
+  pub cut : (s : S) (b : Begun) (l t : List ℕ) → streamed answer s b (l ++ t) ≡ prepend (streamed answer s b l .out) (streamed answer (streamed answer s b l .state) (streamed answer s b l .begun) t)
+  unfolding streamed
   cut s b [] t = refl
-  cut s b (c ∷ l) t = go (eqb c 10) refl (cut (answer s b .next) fresh l t) (cut s (longer b c) l t)
+  cut s b (c ∷ l) t = go (eqb c 10) refl (cut (answer s b .next) noneBegun l t) (cut s (longer b c) l t)
     where
       go : (q : Bool) → eqb c 10 ≡ q
-          → runs answer (answer s b .next) fresh (l ++ t) ≡ prepend (runs answer (answer s b .next) fresh l .out) (runs answer (runs answer (answer s b .next) fresh l .state) (runs answer (answer s b .next) fresh l .begun) t)
-          → runs answer s (longer b c) (l ++ t) ≡ prepend (runs answer s (longer b c) l .out) (runs answer (runs answer s (longer b c) l .state) (runs answer s (longer b c) l .begun) t)
-          → runs answer s b ((c ∷ l) ++ t) ≡ prepend (runs answer s b (c ∷ l) .out) (runs answer (runs answer s b (c ∷ l) .state) (runs answer s b (c ∷ l) .begun) t)
-      go true p i j = simp p (ap (prepend (answer s b .text)) i ∙ twice (answer s b .text) (runs answer (answer s b .next) fresh l .out) (runs answer (runs answer (answer s b .next) fresh l .state) (runs answer (answer s b .next) fresh l .begun) t))
+          → streamed answer (answer s b .next) noneBegun (l ++ t) ≡ prepend (streamed answer (answer s b .next) noneBegun l .out) (streamed answer (streamed answer (answer s b .next) noneBegun l .state) (streamed answer (answer s b .next) noneBegun l .begun) t)
+          → streamed answer s (longer b c) (l ++ t) ≡ prepend (streamed answer s (longer b c) l .out) (streamed answer (streamed answer s (longer b c) l .state) (streamed answer s (longer b c) l .begun) t)
+          → streamed answer s b ((c ∷ l) ++ t) ≡ prepend (streamed answer s b (c ∷ l) .out) (streamed answer (streamed answer s b (c ∷ l) .state) (streamed answer s b (c ∷ l) .begun) t)
+      go true p i j = simp p (ap (prepend (answer s b .text)) i ∙ twice (answer s b .text) (streamed answer (answer s b .next) noneBegun l .out) (streamed answer (streamed answer (answer s b .next) noneBegun l .state) (streamed answer (answer s b .next) noneBegun l .begun) t))
         where
-          twice : (x y : List ℕ) (r : Run S) → prepend x (prepend y r) ≡ prepend (x ++ y) r
+          twice : (x y : List ℕ) (r : Streamed S) → prepend x (prepend y r) ≡ prepend (x ++ y) r
           twice x y r = simp append-assoc
       go false p i j = simp p j
 
   -- of a piece all is done up to at, and then the line that ends at e
   pub done-line : (piece : List ℕ) (at₀ at e : ℕ) (s₀ s : S) (b₀ : Begun) (long : Bool) (out₀ out : List ℕ) (used : ℕ) → at₀ ≤ at → at ≤ length piece → e ≡ at + before (drop at piece) → e < length piece
-      → record { bytes = out; used = used; state = s; begun = record { long = long; line = [] } } ≡ done out₀ 0 (runs answer s₀ b₀ (take (at - at₀) (drop at₀ piece)))
+      → record { bytes = out; used = used; state = s; begun = record { long = long; line = [] } } ≡ outputAfter out₀ 0 (streamed answer s₀ b₀ (take (at - at₀) (drop at₀ piece)))
       → record {
         bytes = writes out used (answer s (record { long = long; line = take (e - at) (drop at piece) }) .text);
         used = used + length (answer s (record { long = long; line = take (e - at) (drop at piece) }) .text);
         state = answer s (record { long = long; line = take (e - at) (drop at piece) }) .next;
-        begun = fresh;
+        begun = noneBegun;
       }
-      ≡ done out₀ 0 (runs answer s₀ b₀ (take (e + 1 - at₀) (drop at₀ piece)))
+      ≡ outputAfter out₀ 0 (streamed answer s₀ b₀ (take (e + 1 - at₀) (drop at₀ piece)))
   done-line piece at₀ at e s₀ s b₀ long out₀ out used f g h k i =
       let x : List ℕ = take (at - at₀) (drop at₀ piece) in
       let l : List ℕ = drop at piece in
-      let r : Run S = runs answer s₀ b₀ x in
-      let line : Said S = answer s (record { long = long; line = take (e - at) l }) in
-      let one : Run S = record { out = line .text; state = line .next; begun = fresh } in
+      let r : Streamed S = streamed answer s₀ b₀ x in
+      let line : LineOutput S = answer s (record { long = long; line = take (e - at) l }) in
+      let one : Streamed S = record { out = line .text; state = line .next; begun = noneBegun } in
       let to : at₀ + (at - at₀) ≡ at = omega arith in
       let split : take (e + 1 - at₀) (drop at₀ piece) ≡ x ++ take (suc (before l)) l =
       (let c : e + 1 - at₀ ≡ at - at₀ + suc (before l) = omega arith in
       rw c (take-add (at - at₀) (suc (before l)) (drop at₀ piece) ∙ ap (λ (y : List ℕ). x ++ take (suc (before l)) y) (drop-drop (at - at₀) at₀ piece ∙ ap (λ (j : ℕ). drop j piece) to))) in
       let same : e - at ≡ before l = omega arith in
-      let it : runs answer s (record { long = long; line = [] }) (take (suc (before l)) l) ≡ one = rw same (runs-one s (record { long = long; line = [] }) l (omega (arith, length-drop at piece))) in
-      let st : s ≡ r .state = ap (λ (d : Done S). d .state) i in
-      let bg : record { long = long; line = [] } ≡ r .begun = ap (λ (d : Done S). d .begun) i in
-      let whole : runs answer s₀ b₀ (take (e + 1 - at₀) (drop at₀ piece)) ≡ prepend (r .out) one =
-      ap (runs answer s₀ b₀) split ∙ (cut s₀ b₀ x (take (suc (before l)) l) ∙ ap (prepend (r .out)) (rw (← st, ← bg) it)) in
-      ap (λ (d : Done S). done (d .bytes) (d .used) one) i ∙ (done-append out₀ 0 (r .out) one ∙ ap (done out₀ 0) (sym whole))
+      let it : streamed answer s (record { long = long; line = [] }) (take (suc (before l)) l) ≡ one = rw same (runs-one s (record { long = long; line = [] }) l (omega (arith, length-drop at piece))) in
+      let st : s ≡ r .state = ap (λ (d : OutputAfter S). d .state) i in
+      let bg : record { long = long; line = [] } ≡ r .begun = ap (λ (d : OutputAfter S). d .begun) i in
+      let whole : streamed answer s₀ b₀ (take (e + 1 - at₀) (drop at₀ piece)) ≡ prepend (r .out) one =
+      ap (streamed answer s₀ b₀) split ∙ (cut s₀ b₀ x (take (suc (before l)) l) ∙ ap (prepend (r .out)) (rw (← st, ← bg) it)) in
+      ap (λ (d : OutputAfter S). outputAfter (d .bytes) (d .used) one) i ∙ (done-append out₀ 0 (r .out) one ∙ ap (outputAfter out₀ 0) (sym whole))

@@ -11,8 +11,8 @@ pub record Begun : Type 0 where
   pub long : Bool
   pub line : List ℕ
 
-abbrev pub fresh : Begun
-fresh = record { long = false; line = [] }
+abbrev pub noneBegun : Begun
+noneBegun = record { long = false; line = [] }
 
 -- one byte more
 abbrev pub longer : Begun → ℕ → Begun

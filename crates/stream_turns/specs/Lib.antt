@@ -1,2 +1,2 @@
-pub mod Turns
-pub mod Went
+pub mod Turn
+pub mod TurnList

@@ -1,11 +1,11 @@
 // The turns of a program that answers a stream of event lines. A turn reads and writes nothing: it is handed the bytes
 // that were read, and leaves the text that is to be written.
-use stream_events::Counted;
+use stream_events::LineState;
 use stream_events::Place;
 ghost use Prim.Native.Nat.{_≤_};
 ghost use lib.ListN.{length};
 ghost use Rattle.stream_events.specs.Fed.{Lent};
-ghost use Rattle.stream_turns.specs.Turns.{Begins, Turns};
+ghost use Rattle.stream_turns.specs.Turn.{Begins, TurnLeaves};
 
 // Where a stream stands: the bytes of the buffer from `place.at` up to `end` were read and are not answered. If `more`,
 // lines may end in them; if not, they are the line that has begun, at the buffer's start.
@@ -16,7 +16,7 @@ pub struct Stream {
 }
 
 // Where the stream stands after a turn, and how much of the output is its text.
-pub struct Turned {
+pub struct TurnResult {
     pub stream: Stream,
     pub used: usize,
 }
@@ -26,7 +26,7 @@ impl Stream {
     pub fn fresh() -> Stream
         ensures { λ r. ⌜ Begins r ⌝ }
     {
-        let state = Counted::fresh();
+        let state = LineState::fresh();
         Stream {
             place: Place {
                 at: 0,
@@ -49,9 +49,9 @@ pub fn turn(
     area: &mut [u64],
     groups: &mut [u64],
     out: &mut [u8],
-) -> Turned
+) -> TurnResult
     requires { ⌜ (from .place .at ≤ from .end) × (from .end ≤ length (now buf)) × (1024 ≤ length (now buf)) × Lent (from .place .state .host) (now mem) (now rows) (now area) (now groups) × (65536 ≤ length (now out)) ⌝ }
-    ensures { λ r. ⌜ Turns (now (buf .entry)) from (now (mem .entry)) (now (rows .entry)) (now (out .entry)) r (now (buf .exit)) (now (mem .exit)) (now (rows .exit)) (now (area .exit)) (now (groups .exit)) (now (out .exit)) ⌝ }
+    ensures { λ r. ⌜ TurnLeaves (now (buf .entry)) from (now (mem .entry)) (now (rows .entry)) (now (out .entry)) r (now (buf .exit)) (now (mem .exit)) (now (rows .exit)) (now (area .exit)) (now (groups .exit)) (now (out .exit)) ⌝ }
 {
     let end = from.end;
     let start = from.place;
@@ -59,7 +59,7 @@ pub fn turn(
     let used = fed.used;
     let place = fed.place;
     if fed.more {
-        return Turned {
+        return TurnResult {
             stream: Stream {
                 place,
                 end,
@@ -70,7 +70,7 @@ pub fn turn(
     }
     let left = stream_pieces::keep(buf, place.at, end, place.long);
     let state = place.state;
-    Turned {
+    TurnResult {
         stream: Stream {
             place: Place {
                 at: 0,

@@ -3,7 +3,7 @@
 mod scripts;
 
 use scripts::Script;
-use stream_events::Counted;
+use stream_events::LineState;
 use stream_events::Place;
 use stream_pieces::Carry;
 ghost use mathlib.Core.Path.{_≡_};
@@ -21,7 +21,7 @@ struct Met {
 
 // What goes from piece to piece.
 struct Progress {
-    state: Counted,
+    state: LineState,
     line: Carry,
     met: Met,
 }
@@ -196,7 +196,7 @@ fn run(first: &[u8], second: &[u8], answers: &[u8]) -> Outcome
     let mut area = line_buffers::item_area();
     let mut groups = line_buffers::group_words();
     let mut out = text_space();
-    let state = Counted::fresh();
+    let state = LineState::fresh();
     let line = Carry {
         have: 0,
         long: false,

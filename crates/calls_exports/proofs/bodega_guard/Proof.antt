@@ -9,8 +9,8 @@ node-of-requires c κs = search needs
 guard-requires : tie.Need-guard-requires
 guard-requires c κs = search needs
 
-told-requires : tie.Need-told-requires
-told-requires c κs = search needs
+answered-requires : tie.Need-answered-requires
+answered-requires c κs = search needs
 
 same-length : tie.Need-same-length
 same-length c = search needs
@@ -20,4 +20,4 @@ returns c = search (needs, law.answers, law.gives-back)
 
 pub bodega-guard-spec : {M : Type 1} → statement M
 bodega-guard-spec =
-    tie.close (tie.spec node-of-requires guard-requires told-requires same-length returns)
+    tie.close (tie.spec node-of-requires guard-requires answered-requires same-length returns)

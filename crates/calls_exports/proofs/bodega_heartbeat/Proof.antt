@@ -12,8 +12,8 @@ conf-of-requires c κs = search needs
 heartbeat-requires : tie.Need-heartbeat-requires
 heartbeat-requires c κs = search needs
 
-told-requires : tie.Need-told-requires
-told-requires c κs = search needs
+answered-requires : tie.Need-answered-requires
+answered-requires c κs = search needs
 
 same-length : tie.Need-same-length
 same-length c = search needs
@@ -27,4 +27,4 @@ returns c = search (needs, law.heard, law.gives-back)
 pub bodega-heartbeat-spec : {M : Type 1} → statement M
 bodega-heartbeat-spec =
     tie.close
-    (tie.spec node-of-requires conf-of-requires heartbeat-requires told-requires same-length same-length-2 returns)
+    (tie.spec node-of-requires conf-of-requires heartbeat-requires answered-requires same-length same-length-2 returns)

@@ -9,8 +9,8 @@ node-of-requires c κs = search needs
 notice-requires : tie.Need-notice-requires
 notice-requires c κs = search needs
 
-told-requires : tie.Need-told-requires
-told-requires c κs = search needs
+answered-requires : tie.Need-answered-requires
+answered-requires c κs = search needs
 
 same-length : tie.Need-same-length
 same-length c = search needs
@@ -24,4 +24,4 @@ returns c = search (needs, law.answers, law.gives-back)
 pub bodega-notice-spec : {M : Type 1} → statement M
 bodega-notice-spec =
     tie.close
-    (tie.spec node-of-requires notice-requires told-requires same-length same-length-2 returns)
+    (tie.spec node-of-requires notice-requires answered-requires same-length same-length-2 returns)

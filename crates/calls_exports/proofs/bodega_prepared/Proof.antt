@@ -9,12 +9,12 @@ node-of-requires c κs = search needs
 prepared-requires : tie.Need-prepared-requires
 prepared-requires c κs = search needs
 
-told-requires : tie.Need-told-requires
-told-requires c κs = search needs
+answered-requires : tie.Need-answered-requires
+answered-requires c κs = search needs
 
 returns : tie.Need-returns
 returns c = search (needs, law.answers, law.gives-back)
 
 pub bodega-prepared-spec : {M : Type 1} → statement M
 bodega-prepared-spec =
-    tie.close (tie.spec node-of-requires prepared-requires told-requires returns)
+    tie.close (tie.spec node-of-requires prepared-requires answered-requires returns)

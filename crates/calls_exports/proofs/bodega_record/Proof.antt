@@ -9,8 +9,8 @@ node-of-requires c κs = search needs
 record-requires : tie.Need-record-requires
 record-requires c κs = search needs
 
-told-requires : tie.Need-told-requires
-told-requires c κs = search needs
+answered-requires : tie.Need-answered-requires
+answered-requires c κs = search needs
 
 same-length : tie.Need-same-length
 same-length c = search needs
@@ -20,4 +20,4 @@ returns c = search (needs, law.answers, law.gives-back)
 
 pub bodega-record-spec : {M : Type 1} → statement M
 bodega-record-spec =
-    tie.close (tie.spec node-of-requires record-requires told-requires same-length returns)
+    tie.close (tie.spec node-of-requires record-requires answered-requires same-length returns)

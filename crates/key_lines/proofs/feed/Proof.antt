@@ -3,15 +3,15 @@ use mathlib.Core.Path.{_≡_}
 use mathlib.Core.List.{[]}
 use Prim.Native.Nat.{_+_, _-_, _*_, _≤_}
 use lib.ListN.{length, drop}
-use Rattle.stream_pieces.specs.Runs.{runs, done}
+use Rattle.stream_pieces.specs.Streamed.{streamed, outputAfter}
 use Rattle.stream_pieces.proofs.Laws as pieces
-use Rattle.key_lines.specs.Lines.{says}
+use Rattle.key_lines.specs.Lines.{lineOutput}
 use borrow.Author.Needs.{needs}
 use Rattle.key_lines.proofs.feed.Statement.{statement}
 use Rattle.key_lines.proofs.feed.Tie as tie
 
 abbrev Inv-loop : tie.InvT-loop
-Inv-loop piece long out₀ at₀ used₀ dropped₀ out at used dropped = (at ≤ length piece) × (length out ≡ length out₀) × (used + 2 * (length piece - at) ≤ length out₀) × (done out used (runs says tt (record { long = dropped; line = [] }) (drop at piece)) ≡ done out₀ 0 (runs says tt (record { long = long; line = [] }) piece))
+Inv-loop piece long out₀ at₀ used₀ dropped₀ out at used dropped = (at ≤ length piece) × (length out ≡ length out₀) × (used + 2 * (length piece - at) ≤ length out₀) × (outputAfter out used (streamed lineOutput tt (record { long = dropped; line = [] }) (drop at piece)) ≡ outputAfter out₀ 0 (streamed lineOutput tt (record { long = long; line = [] }) piece))
 
 abbrev μ-loop : tie.MeasureT-loop
 μ-loop piece long out₀ at₀ used₀ dropped₀ out at used dropped = length piece - at

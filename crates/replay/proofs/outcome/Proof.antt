@@ -3,7 +3,7 @@ use mir.Syntax.{w64}
 use mir.Val.{toZ, ofZ}
 use mir.Facts.{toZ-ofZ}
 use lib.IntN.{ℤ}
-use Rattle.replay.specs.Reads.{came}
+use Rattle.replay.specs.Reads.{filledAs}
 use Rattle.replay.proofs.Laws as law
 use Rattle.replay.proofs.outcome.Statement.{statement}
 use Rattle.replay.proofs.outcome.Tie as tie
@@ -12,8 +12,8 @@ use Rattle.replay.proofs.outcome.Tie as tie
 abbrev read : tie.Start → ℤ
 read s = toZ w64 (ofZ w64 (s .args .got))
 
-abbrev back : (s : tie.Start) → came (read s) (s .args .interrupted) (s .args .«have») (s .args .end) ≡ came (s .args .got) (s .args .interrupted) (s .args .«have») (s .args .end)
-back s = ap (λ (z : ℤ). came z (s .args .interrupted) (s .args .«have») (s .args .end)) (toZ-ofZ (s .fits .got))
+abbrev back : (s : tie.Start) → filledAs (read s) (s .args .interrupted) (s .args .«have») (s .args .end) ≡ filledAs (s .args .got) (s .args .interrupted) (s .args .«have») (s .args .end)
+back s = ap (λ (z : ℤ). filledAs z (s .args .interrupted) (s .args .«have») (s .args .end)) (toZ-ofZ (s .fits .got))
 
 returns : tie.Need-returns
 returns c = law.came-piece (c .before .args .interrupted) (c .before .args .«have») (c .before .args .end) (read (c .before)) (c .if1 .taken) ∙ back (c .before)

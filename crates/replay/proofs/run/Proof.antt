@@ -2,13 +2,13 @@ use mathlib.Core.Path.{_≡_, refl, _∙_}
 use mathlib.Core.Bool.{true}
 use lib.ListN.{length}
 use borrow.Author.Needs.{needs}
-use Rattle.replay.specs.Steps.{Stands, WentOn}
+use Rattle.replay.specs.Steps.{Stands, TurnsSoFar}
 use Rattle.replay.proofs.Laws as law
 use Rattle.replay.proofs.run.Statement.{statement}
 use Rattle.replay.proofs.run.Tie as tie
 
 abbrev Inv-loop : tie.InvT-loop
-Inv-loop buf₀ mem₀ rows₀ area₀ groups₀ out₀ s₀ steps₀ buf mem rows area groups out s steps = (s .on ≡ true → Stands (s .stream) buf mem rows area groups × WentOn (s .stream) buf mem rows) × (length buf ≡ length buf₀) × (length mem ≡ length mem₀) × (length rows ≡ length rows₀) × (length area ≡ length area₀) × (length groups ≡ length groups₀) × (length out ≡ length out₀)
+Inv-loop buf₀ mem₀ rows₀ area₀ groups₀ out₀ s₀ steps₀ buf mem rows area groups out s steps = (s .on ≡ true → Stands (s .stream) buf mem rows area groups × TurnsSoFar (s .stream) buf mem rows) × (length buf ≡ length buf₀) × (length mem ≡ length mem₀) × (length rows ≡ length rows₀) × (length area ≡ length area₀) × (length groups ≡ length groups₀) × (length out ≡ length out₀)
 
 abbrev μ-loop : tie.MeasureT-loop
 μ-loop buf₀ mem₀ rows₀ area₀ groups₀ out₀ s₀ steps₀ buf mem rows area groups out s steps = steps

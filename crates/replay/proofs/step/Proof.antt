@@ -31,7 +31,7 @@ same-length-6 : tie.Need-same-length-6
 same-length-6 c = search needs
 
 returns : tie.Need-returns
-returns c = λ _. law.turned _ _ _ _ _ _ _ _ _ _ _ _ (c .before .before .before .before .before .before .before .before .before .before .before .before .before .before .before .turn .kept .0) (c .before .before .before .before .before .before .before .before .before .before .before .before .before .before .before .turn .ensures)
+returns c = λ _. law.refusedLine _ _ _ _ _ _ _ _ _ _ _ _ (c .before .before .before .before .before .before .before .before .before .before .before .before .before .before .before .turn .kept .0) (c .before .before .before .before .before .before .before .before .before .before .before .before .before .before .before .turn .ensures)
 
 fill-requires : tie.Need-fill-requires
 fill-requires c κs = law.has-room _ _ _ _ _ _ (c .before .before .before .before .before .before .before .before .before .pre .0) (c .before .before .if1 .left) (c .before .before .before .before .before .before .before .before .before .pre .1)

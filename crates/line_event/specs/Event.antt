@@ -12,9 +12,9 @@ use Rattle.roster_conf.specs.declared.RespondersConf.{RespondersConf}
 use Rattle.line_fields.specs.Split.{Bytes}
 use Rattle.line_answer.specs.Wrote.{Wrote}
 use Rattle.line_host.specs.declared.Host.{Host}
-use Rattle.line_host.specs.Host.{Told, turned, heard, textOf}
-use Rattle.line_host.specs.Acts.{hostOf, sound, Acts}
-use Rattle.line_event.specs.declared.Heard.{Heard}
+use Rattle.line_host.specs.Host.{LineResult, refusedLine, answerLine, textOf}
+use Rattle.line_host.specs.Follows.{hostOf, sound, LineFollows}
+use Rattle.line_event.specs.declared.LineAnswer.{LineAnswer}
 
 -- buffers that are long enough, and an answer area of 546 places
 unfoldable pub whole : RespondersConf → List ℕ → List ℕ → List ℕ → List ℕ → Bool
@@ -24,16 +24,16 @@ unfoldable pub fit : RespondersConf → List ℕ → List ℕ → List ℕ → L
 fit draft mem rows area groups out = whole draft mem rows area groups && leb 65536 (length out)
 
 -- what the line comes to; 2 where the lent buffers do not fit
-unfoldable pub due : Host → List ℕ → List ℕ → List ℕ → List ℕ → Bytes → Bytes → Told
-due h mem rows area groups out line = if fit (h .draft) mem rows area groups out then heard (hostOf h mem rows) line else turned (hostOf h mem rows) 2
+unfoldable pub due : Host → List ℕ → List ℕ → List ℕ → List ℕ → Bytes → Bytes → LineResult
+due h mem rows area groups out line = if fit (h .draft) mem rows area groups out then answerLine (hostOf h mem rows) line else refusedLine (hostOf h mem rows) 2
 
 -- the same where out has room for any text
-unfoldable pub heardIn : Host → List ℕ → List ℕ → List ℕ → List ℕ → Bytes → Told
-heardIn h mem rows area groups line = if whole (h .draft) mem rows area groups then heard (hostOf h mem rows) line else turned (hostOf h mem rows) 2
+unfoldable pub dueIn : Host → List ℕ → List ℕ → List ℕ → List ℕ → Bytes → LineResult
+dueIn h mem rows area groups line = if whole (h .draft) mem rows area groups then answerLine (hostOf h mem rows) line else refusedLine (hostOf h mem rows) 2
 
 -- the line done, and its text at the start of out, which has room for any; words of groups are free
-pub record Tells (h : Host) (mem rows area groups : List ℕ) (n : ℕ) (line out : Bytes) (r : Heard) (mem′ rows′ area′ groups′ : List ℕ) (out′ : Bytes) : Type 0 where
-  pub acts : Acts (due h mem rows area groups out line) h mem rows area (r .acted) mem′ rows′ area′
-  pub text : 65536 ≤ length out → Wrote out 0 (textOf n (due h mem rows area groups out line .answer)) 65536 (r .end) out′
+pub record AnswersEvent (h : Host) (mem rows area groups : List ℕ) (n : ℕ) (line out : Bytes) (r : LineAnswer) (mem′ rows′ area′ groups′ : List ℕ) (out′ : Bytes) : Type 0 where
+  pub acts : LineFollows (due h mem rows area groups out line) h mem rows area (r .acted) mem′ rows′ area′
+  pub text : 65536 ≤ length out → Wrote out 0 (textOf n (due h mem rows area groups out line .outcome)) 65536 (r .end) out′
   pub silent : length out < 65536 → (r .end ≡ 0) × (out′ ≡ out)
   pub groupsSize : length groups′ ≡ length groups

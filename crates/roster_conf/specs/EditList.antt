@@ -8,16 +8,16 @@ use lib.ListN.{length}
 use Rattle.roster_ranges.specs.Canon.{Canon, isCanon}
 use Rattle.ids.specs.Limits.{ranges}
 use Rattle.roster_conf.specs.Conf.{Conf, empty}
-use Rattle.roster_conf.specs.Edit.{Edit, Answer, refused, taken, answer}
+use Rattle.roster_conf.specs.Edit.{Edit, EditResult, refused, taken, editResult}
 
 -- a refused edit leaves the roster as it was
-abbrev pub left : Conf → Answer → Conf
+abbrev pub left : Conf → EditResult → Conf
 left c (refused n) = c
 left c (taken d) = d
 
-abbrev pub run : ℕ → Conf → List Edit → Conf
-run population c [] = c
-run population c (e ∷ es) = run population (left c (answer population c e)) es
+abbrev pub editAll : ℕ → Conf → List Edit → Conf
+editAll population c [] = c
+editAll population c (e ∷ es) = editAll population (left c (editResult population c e)) es
 
 -- what holds of every roster that edits make: ascending, disjoint and joined, at most 64 ranges
 abbrev pub Good : Conf → Type 0
@@ -29,4 +29,4 @@ isGood c = isCanon (c .ranges) && leb (length (c .ranges)) ranges
 
 -- every roster that edits make passes it
 abbrev pub EditsMakeGood : Type 0
-EditsMakeGood = (population : ℕ) (es : List Edit) → isGood (run population empty es) ≡ true
+EditsMakeGood = (population : ℕ) (es : List Edit) → isGood (editAll population empty es) ≡ true

@@ -1,7 +1,7 @@
 use Rattle.stream_events.proofs.Laws as law
 use borrow.Author.Needs.{needs}
-use Rattle.stream_events.proofs.Counted.fresh.Statement.{statement}
-use Rattle.stream_events.proofs.Counted.fresh.Tie as tie
+use Rattle.stream_events.proofs.LineState.fresh.Statement.{statement}
+use Rattle.stream_events.proofs.LineState.fresh.Tie as tie
 
 fresh-requires : tie.Need-fresh-requires
 fresh-requires c κs = search needs

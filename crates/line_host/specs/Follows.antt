@@ -21,8 +21,8 @@ use Rattle.node.specs.declared.Node.{Node}
 use Rattle.node.specs.declared.Answered.{Answered}
 use Rattle.node.specs.View.{size, view, ready, givenOf}
 use Rattle.line_host.specs.declared.Host as code
-use Rattle.line_host.specs.declared.Acted.{Acted}
-use Rattle.line_host.specs.Host.{Host, Answer, Turned, Took, Told, turned, taking}
+use Rattle.line_host.specs.declared.LineDone.{LineDone}
+use Rattle.line_host.specs.Host.{Host, Outcome, Refusal, Items, LineResult, refusedLine, atHost}
 use Rattle.line_host.specs.Line.{Line}
 
 -- ---- the host: a struct, the node's buffer and the draft's rows
@@ -38,7 +38,7 @@ sound draft mem rows = leb size (length mem) && holdsRows (length rows) (draft .
 -- ---- what a line comes to
 
 -- after a refusal all is as it was; else the items stand at the start of the area, and the words past the node's and the draft's are as they were
-pub record ActsTurned (n : ℕ) (h : code.Host) (mem rows area : List ℕ) (a : Acted) (mem′ rows′ area′ : List ℕ) : Type 0 where
+pub record LineRefuses (n : ℕ) (h : code.Host) (mem rows area : List ℕ) (a : LineDone) (mem′ rows′ area′ : List ℕ) : Type 0 where
   pub refused : 0 < n
   pub number : a .number ≡ n
   pub count : a .count ≡ 0
@@ -47,7 +47,7 @@ pub record ActsTurned (n : ℕ) (h : code.Host) (mem rows area : List ℕ) (a : 
   pub sameRows : rows′ ≡ rows
   pub sameArea : area′ ≡ area
 
-pub record ActsTook (next : Host) (l : List Item) (h : code.Host) (mem rows area : List ℕ) (a : Acted) (mem′ rows′ area′ : List ℕ) : Type 0 where
+pub record LineTakes (next : Host) (l : List Item) (h : code.Host) (mem rows area : List ℕ) (a : LineDone) (mem′ rows′ area′ : List ℕ) : Type 0 where
   pub number : a .number ≡ 0
   pub count : a .count ≡ length l
   pub host : hostOf (a .host) mem′ rows′ ≡ next
@@ -58,16 +58,16 @@ pub record ActsTook (next : Host) (l : List Item) (h : code.Host) (mem rows area
   pub beyondRows : Untouched (ranges * 5) rows rows′
   pub soundAgain : sound (a .host .draft) mem′ rows′ ≡ true
 
-abbrev pub ActsBy : Host → Answer → code.Host → List ℕ → List ℕ → List ℕ → Acted → List ℕ → List ℕ → List ℕ → Type 0
-ActsBy next (Turned n) h mem rows area a mem′ rows′ area′ = ActsTurned n h mem rows area a mem′ rows′ area′
-ActsBy next (Took l) h mem rows area a mem′ rows′ area′ = ActsTook next l h mem rows area a mem′ rows′ area′
+abbrev pub LineFollowsBy : Host → Outcome → code.Host → List ℕ → List ℕ → List ℕ → LineDone → List ℕ → List ℕ → List ℕ → Type 0
+LineFollowsBy next (Refusal n) h mem rows area a mem′ rows′ area′ = LineRefuses n h mem rows area a mem′ rows′ area′
+LineFollowsBy next (Items l) h mem rows area a mem′ rows′ area′ = LineTakes next l h mem rows area a mem′ rows′ area′
 
-abbrev pub Acts : Told → code.Host → List ℕ → List ℕ → List ℕ → Acted → List ℕ → List ℕ → List ℕ → Type 0
-Acts t = ActsBy (t .host) (t .answer)
+abbrev pub LineFollows : LineResult → code.Host → List ℕ → List ℕ → List ℕ → LineDone → List ℕ → List ℕ → List ℕ → Type 0
+LineFollows t = LineFollowsBy (t .host) (t .outcome)
 
 -- a line of well-formed fields, or refusal 1
-abbrev pub toldOf : Host → Option Line → Told
-toldOf h o = ifNone o then turned h 1 else taking h
+abbrev pub resultBy : Host → Option Line → LineResult
+resultBy h o = ifNone o then refusedLine h 1 else atHost h
 
 -- ---- the lines of calls, and of the draft's edits: where the fields are not well-formed it is refused 1, else it is that call or edit
 
