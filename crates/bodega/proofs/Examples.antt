@@ -1,7 +1,6 @@
 -- Document 01's marked rules, by computing. Assumes nothing.
 use mathlib.Core.Path.{refl}
-use Rattle.bodega.specs.Marked.{marked}
-use Rattle.bodega.specs.Text.{Each}
+use Rattle.bodega.specs.Marked.{Each, marked}
 use Rattle.bodega.proofs.Computes.{computes}
 
 -- P1 to P12

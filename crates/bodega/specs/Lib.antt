@@ -7,6 +7,5 @@ pub mod Messages
 pub mod Events
 pub mod Grounds
 pub mod Step
-pub mod Text
 pub mod Marked
 pub mod Answers

@@ -4,12 +4,13 @@ use mathlib.Core.Bool.{Bool, true, false, _&&_, _||_, not}
 use mathlib.Core.List.{List, [], _∷_, _++_, map}
 use mathlib.Core.Option.{Option, none, some}
 use lib.Dec.{ltb, leb, eqb}
+use Rattle.words.specs.Text.{Bytes}
 use Rattle.words.specs.Choice.{if_then_else_, ifNone_then_else_}
 use Rattle.keys.specs.Same.{sameBytes}
 use Rattle.bitmap.specs.Bitmap.{count, isSuperset}
 use Rattle.roster_conf.specs.Conf.{Conf, getRespondersByKey}
 use Rattle.items.specs.Item.{Item, Value, Retry}
-use Rattle.bodega.specs.Replica.{Bytes, Command, Get, Put, Request, ReadReq, Instance, Highest, Replica, Done, done, _andThen_, order, isAccepting, isOpen, withReplicaBk, withHolding, isLeader, instAt, setInst}
+use Rattle.bodega.specs.Replica.{Command, Get, Put, Request, ReadReq, Instance, Highest, Replica, Done, done, _andThen_, order, isAccepting, isOpen, withReplicaBk, withHolding, isLeader, instAt, setInst}
 
 -- ---- `is_stable_leader`; `sim_read_lease` is false
 

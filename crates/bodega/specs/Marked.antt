@@ -1,14 +1,24 @@
 -- Document 01, "Marked P": one list. Assumes nothing: these are definitions.
 use Prim.Native.Nat.{ℕ}
+use Prim.Native.String.{String}
 use mathlib.Core.Bool.{true, false}
 use mathlib.Core.Path.{_≡_}
 use mathlib.Core.List.{List, [], _∷_}
-use mathlib.Core.Option.{none, some}
+use mathlib.Core.Option.{Option, none, some}
+use Rattle.words.specs.Text.{bytes}
+use Rattle.keys.specs.Read.{readKey}
 use Rattle.roster_ranges.specs.Range.{Range}
-use Rattle.bodega.specs.Text.{bytes, reads}
 use Rattle.roster_conf.specs.Conf.{Conf, empty, setResponders, setFull, intoFiltered}
 use Rattle.bodega.specs.Replica.{Request, Put}
 use Rattle.bodega.specs.Localread.{commitCondition}
+
+abbrev pub reads : String → Option ℕ
+reads s = readKey (bytes s)
+
+-- each of a list of statements
+abbrev pub Each : List (Type 0) → Type 0
+Each [] = Unit {0}
+Each (P ∷ l) = P × Each l
 
 abbrev pub span : ℕ → ℕ → ℕ → Range
 span a b mask = record { from = a; to = b; mask = mask }

@@ -7,15 +7,13 @@ use mathlib.Core.List.{List, [], _++_}
 use mathlib.Core.Option.{Option, none, some}
 use lib.Dec.{ltb, eqb}
 use lib.ListN.{length, replicate, set, getElem?}
+use Rattle.words.specs.Text.{Bytes}
 use Rattle.words.specs.Choice.{if_then_else_}
 use Rattle.ids.specs.Limits.{beyond}
 use Rattle.items.specs.Item.{Item}
 use Rattle.roster_conf.specs.Conf.{Conf, empty, leads}
 
 -- ---- requests and reads
-
-abbrev pub Bytes : Type 0
-Bytes = List ℕ
 
 pub data Command : Type 0 where
   Get : Command

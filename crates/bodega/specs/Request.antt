@@ -3,12 +3,13 @@ use Prim.Native.Nat.{ℕ}
 use mathlib.Core.Bool.{not}
 use mathlib.Core.List.{[], _∷_}
 use lib.Dec.{ltb}
+use Rattle.words.specs.Text.{Bytes}
 use Rattle.words.specs.Choice.{if_then_else_, ifNone_then_else_}
 use Rattle.bitmap.specs.Bitmap.{get}
 use Rattle.keys.specs.Read.{readKey}
 use Rattle.roster_ranges.specs.Range.{at, maskAt}
 use Rattle.items.specs.Item.{Value, Absent, Store, Pass, Hold}
-use Rattle.bodega.specs.Replica.{Bytes, ReadReq, Replica, Done, done}
+use Rattle.bodega.specs.Replica.{ReadReq, Replica, Done, done}
 use Rattle.bodega.specs.Localread.{isStableLeader, inspectLatestWrite, Settled, StableLeader, FewLeases, UnreadKey, StoredRange, DefaultRoster, Bar, ReadAnswer, Found, Missing, FromStore, Consensus, HeldBy, Again, answerOf, holdRead, retry}
 
 -- `is_responder_for`, and what settles it

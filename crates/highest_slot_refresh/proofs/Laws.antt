@@ -12,7 +12,7 @@ use lib.ListN.{length, getD, drop, take-append-drop}
 use Rattle.words.specs.Choice.{if_then_else_, ifNone_then_else_}
 use Rattle.words.specs.Tab.{tab, tab-snoc, take-tab, drop-tab}
 use Rattle.keys.specs.Same.{sameBytes}
-use Rattle.key_words.proofs.Laws.{same-true}
+use Rattle.keys.proofs.Same.{same-true}
 use Rattle.bodega.specs.Replica as machine
 use Rattle.bodega.specs.Localread.{isPut, raise, refreshHighestSlot, highestOf, putOf, lastPut}
 use Rattle.key_words.specs.Key.{bytesOf}

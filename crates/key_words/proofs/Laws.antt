@@ -17,6 +17,7 @@ use Rattle.words.specs.Tab.{run, length-tab, getD-tab}
 use Rattle.words.specs.Writes.{writes, Agrees, writes-append, run-writes, run-agrees, length-writes, writes-same}
 use Rattle.keys.specs.Read.{isK, strip, sign, isDigit, number, digits, readKey}
 use Rattle.keys.specs.Same.{sameBytes}
+use Rattle.keys.proofs.Same.{same-refl, same-true}
 use Rattle.key_words.specs.Key.{wordsOf, keyOf, keyAt, sameKey, leWord, leBytes, packOf, allBytes, unpackOf, isPacked, bytesOf, atMost48}
 use Rattle.key_words.specs.declared.Key.{Key}
 
@@ -31,22 +32,6 @@ unfolding keyAt
 keyAt-writes s at k h = ap keyOf (run-writes s at (wordsOf k) h)
 
 -- ---- the same bytes, the same words
-
-pub same-refl : (a : List ℕ) → sameBytes a a ≡ true
-unfolding sameBytes
-same-refl [] = refl
-same-refl (x ∷ xs) = rw (eq-eqb x x refl) (same-refl xs)
-
-pub same-true : (a b : List ℕ) → sameBytes a b ≡ true → a ≡ b
-unfolding sameBytes
-same-true [] [] h = refl
-same-true [] (y ∷ ys) h = cc
-same-true (x ∷ xs) [] h = cc
-same-true (x ∷ xs) (y ∷ ys) h = go (eqb x y) refl (same-true xs ys) h
-  where
-    go : (t : Bool) → eqb x y ≡ t → (sameBytes xs ys ≡ true → xs ≡ ys) → (t && sameBytes xs ys) ≡ true → x ∷ xs ≡ y ∷ ys
-    go true e r k = rw (eqb-true x y e, r k)
-    go false e r k = cc
 
 pub same-last : (a b : Key) → a .len ≡ b .len → a .w0 ≡ b .w0 → a .w1 ≡ b .w1 → a .w2 ≡ b .w2 → a .w3 ≡ b .w3 → a .w4 ≡ b .w4
     → eqb (a .w5) (b .w5) ≡ sameKey a b

@@ -9,15 +9,16 @@ use borrow.Author.Tests.{ne-eqb}
 use lib.ListN.{length, getD, take, drop}
 use lib.Seq.{take-suc, take-all, take-add, take-at, drop-at, length-take-le}
 use lib.Pow.{split}
+use Rattle.words.specs.Text.{Bytes, bytes}
 use Rattle.words.specs.Tab.{run, run-part}
 use Rattle.words.specs.Writes.{writes, length-writes, run-writes}
 use Rattle.decimal.specs.Digits.{decimal, decimalIn}
 use Rattle.items.specs.Item.{Item, Value, Absent, Store, Pass, Hold, Retry, Resend, Commit, Lead, Prelog, Prepare, Span, Rest, six, itemWords, encode, length-encode, encode-snoc}
-use Rattle.bodega.specs.Text.{bytes}
-use Rattle.line_answer.specs.Text.{Bytes, line, itemText, itemsText, refusedText, takenText}
+use Rattle.line_answer.specs.Text.{line, itemText, itemsText, refusedText, takenText}
 use Rattle.line_answer.specs.Six.{sixText}
-use Rattle.line_answer.specs.Wrote.{Wrote, Printed, Holds, Listed, Answered}
-use Rattle.line_answer.proofs.Laws.{then, at-most, same-text}
+use Rattle.text.specs.Wrote.{Wrote}
+use Rattle.line_answer.specs.Wrote.{Printed, Holds, Listed, Answered}
+use Rattle.text.proofs.Laws.{then, at-most, same-text}
 
 -- ---- an item
 

@@ -2,10 +2,10 @@
 use Prim.Native.Nat.{ℕ, _+_, _*_, _^_}
 use mathlib.Core.List.{[], _∷_}
 use lib.Dec.{eqb}
+use Rattle.words.specs.Text.{Bytes, bytes}
 use Rattle.words.specs.Choice.{if_then_else_}
 use Rattle.decimal.specs.Digits.{decimal}
-use Rattle.bodega.specs.Text.{bytes}
-use Rattle.line_answer.specs.Text.{Bytes, line}
+use Rattle.line_answer.specs.Text.{line}
 
 abbrev pub leaderField : ℕ → ℕ → Bytes
 leaderField c d = if eqb c 0 then bytes "-" else decimal d

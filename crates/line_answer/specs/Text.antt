@@ -4,13 +4,10 @@ use mathlib.Core.Bool.{Bool}
 use mathlib.Core.List.{List, [], _∷_, _++_}
 use mathlib.Core.Option.{Option}
 use lib.ListN.{length}
+use Rattle.words.specs.Text.{Bytes, bytes}
 use Rattle.words.specs.Choice.{if_then_else_, ifNone_then_else_}
 use Rattle.decimal.specs.Digits.{decimal}
 use Rattle.items.specs.Item.{Item, Value, Absent, Store, Pass, Hold, Retry, Resend, Commit, Lead, Prelog, Prepare, Span, Rest}
-use Rattle.bodega.specs.Text.{bytes}
-
-abbrev pub Bytes : Type 0
-Bytes = List ℕ
 
 -- fields parted by commas, and a newline
 unfoldable pub line : List Bytes → Bytes

@@ -1,17 +1,12 @@
--- What a writer of text into lent bytes answers and leaves. Assumes nothing: these are definitions.
+-- What the writers of items and answers leave. Assumes nothing: these are definitions.
 use mathlib.Core.Path.{_≡_}
 use mathlib.Core.List.{List}
 use Prim.Native.Nat.{ℕ, _+_, _*_, _≤_}
 use lib.ListN.{length, take}
-use Rattle.words.specs.Writes.{writes}
+use Rattle.words.specs.Text.{Bytes}
+use Rattle.text.specs.Wrote.{Wrote}
 use Rattle.items.specs.Item.{Item, itemWords, encode}
-use Rattle.line_answer.specs.Text.{Bytes, itemText, itemsText, refusedText, takenText}
-
--- the text stands at index at of what was out, and r is where it ends; it is of at most so many bytes
-pub record Wrote (out : Bytes) (at : ℕ) (text : Bytes) (most r : ℕ) (out′ : Bytes) : Type 0 where
-  pub end : r ≡ at + length text
-  pub bytes : out′ ≡ writes out at text
-  pub short : length text ≤ most
+use Rattle.line_answer.specs.Text.{itemText, itemsText, refusedText, takenText}
 
 -- the line of the item whose words these are; whatever they are, it ends where there is room
 pub record Printed (out : Bytes) (at : ℕ) (words : List ℕ) (r : ℕ) (out′ : Bytes) : Type 0 where

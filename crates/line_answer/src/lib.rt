@@ -1,118 +1,27 @@
 // What is written for a line: text in lent bytes. A writer returns where its text ends.
-use decimal::Written;
 use inty::Inty;
 ghost use mathlib.Core.Path.{_≡_};
 ghost use mathlib.Core.List.{[], _∷_};
 ghost use Prim.Native.Nat.{_+_, _*_, _<_, _≤_};
 ghost use lib.ListN.{length};
+ghost use Rattle.words.specs.Text.{bytes};
 ghost use Rattle.words.specs.Tab.{run};
 ghost use Rattle.decimal.specs.Digits.{decimal};
 ghost use Rattle.inty.specs.Value.{valueOf};
-ghost use Rattle.bodega.specs.Text.{bytes};
+ghost use Rattle.text.specs.Wrote.{Wrote};
 ghost use Rattle.line_answer.specs.Text.{line};
 ghost use Rattle.line_answer.specs.Six.{leaderField, sixText};
-ghost use Rattle.line_answer.specs.Wrote.{Wrote, Printed, Listed, Answered};
-
-// ---- numbers
-
-fn digit(d: u64) -> u8
-    requires { ⌜ d < 10 ⌝ }
-    ensures { λ r. ⌜ r ≡ 48 + d ⌝ }
-{
-    48 + d as u8
-}
-
-// Two digits a step.
-fn digits(out: &mut [u8], at: usize, n: u64) -> usize
-    requires { ⌜ at + length (decimal n) ≤ length (now out) ⌝ }
-    ensures { λ r. ⌜ Wrote (now (out .entry)) at (decimal n) 20 r (now (out .exit)) ⌝ }
-{
-    if n < 10 {
-        out[at] = digit(n);
-        return at + 1;
-    }
-    let q = n / 100;
-    let r = n % 100;
-    let tens = digit(r / 10);
-    let ones = digit(r % 10);
-    if q == 0 {
-        let next = at + 1;
-        out[at] = tens;
-        out[next] = ones;
-        return next + 1;
-    }
-    let end = digits(out, at, q);
-    let next = end + 1;
-    out[end] = tens;
-    out[next] = ones;
-    next + 1
-}
-
-pub fn put_u64(out: &mut [u8], at: usize, n: u64) -> usize
-    requires { ⌜ at + 20 ≤ length (now out) ⌝ }
-    ensures { λ r. ⌜ Wrote (now (out .entry)) at (decimal n) 20 r (now (out .exit)) ⌝ }
-{
-    digits(out, at, n)
-}
-
-// ---- fields
-
-fn put_byte(out: &mut [u8], at: usize, b: u8) -> usize
-    requires { ⌜ at < length (now out) ⌝ }
-    ensures { λ r. ⌜ Wrote (now (out .entry)) at (b ∷ []) 1 r (now (out .exit)) ⌝ }
-{
-    out[at] = b;
-    at + 1
-}
-
-fn put_bytes(out: &mut [u8], at: usize, src: &[u8]) -> usize
-    requires { ⌜ at + length (now src) ≤ length (now out) ⌝ }
-    ensures { λ r. ⌜ Wrote (now (out .entry)) at (now (src .entry)) (length (now (src .entry))) r (now (out .exit)) ⌝ }
-{
-    let mut i = 0;
-    while i < src.len() {
-        out[at + i] = src[i];
-        i += 1;
-    }
-    at + i
-}
-
-// A comma and a number.
-fn put_field(out: &mut [u8], at: usize, n: u64) -> usize
-    requires { ⌜ at + 21 ≤ length (now out) ⌝ }
-    ensures { λ r. ⌜ Wrote (now (out .entry)) at (44 ∷ decimal n) 21 r (now (out .exit)) ⌝ }
-{
-    let at1 = put_byte(out, at, b',');
-    put_u64(out, at1, n)
-}
-
-fn put_wide(out: &mut [u8], at: usize, x: Inty) -> usize
-    requires { ⌜ at + 39 ≤ length (now out) ⌝ }
-    ensures { λ r. ⌜ Wrote (now (out .entry)) at (decimal (valueOf x)) 39 r (now (out .exit)) ⌝ }
-{
-    let Written::End(end) = decimal::write(out, at, x) else {
-        return at;
-    };
-    end
-}
-
-fn put_wide_field(out: &mut [u8], at: usize, x: Inty) -> usize
-    requires { ⌜ at + 40 ≤ length (now out) ⌝ }
-    ensures { λ r. ⌜ Wrote (now (out .entry)) at (44 ∷ decimal (valueOf x)) 40 r (now (out .exit)) ⌝ }
-{
-    let at1 = put_byte(out, at, b',');
-    put_wide(out, at1, x)
-}
+ghost use Rattle.line_answer.specs.Wrote.{Printed, Listed, Answered};
 
 fn put_leader(out: &mut [u8], at: usize, c: u64, d: u64) -> usize
     requires { ⌜ at + 21 ≤ length (now out) ⌝ }
     ensures { λ r. ⌜ Wrote (now (out .entry)) at (44 ∷ leaderField c d) 21 r (now (out .exit)) ⌝ }
 {
-    let at1 = put_byte(out, at, b',');
+    let at1 = text::put_byte(out, at, b',');
     if c == 0 {
-        return put_byte(out, at1, b'-');
+        return text::put_byte(out, at1, b'-');
     }
-    put_u64(out, at1, d)
+    text::put_u64(out, at1, d)
 }
 
 // ---- lines of items: at most 106 bytes, those of a span with two numbers of 39 digits and one of 20
@@ -121,52 +30,52 @@ fn put_one(out: &mut [u8], at: usize, name: &[u8], a: u64) -> usize
     requires { ⌜ (at + 106 ≤ length (now out)) × (length (now name) ≤ 8) ⌝ }
     ensures { λ r. ⌜ Wrote (now (out .entry)) at (line (now (name .entry) ∷ decimal a ∷ [])) 106 r (now (out .exit)) ⌝ }
 {
-    let at1 = put_bytes(out, at, name);
-    let at2 = put_field(out, at1, a);
-    put_byte(out, at2, b'\n')
+    let at1 = text::put_bytes(out, at, name);
+    let at2 = text::put_field(out, at1, a);
+    text::put_byte(out, at2, b'\n')
 }
 
 fn put_two(out: &mut [u8], at: usize, name: &[u8], a: u64, b: u64) -> usize
     requires { ⌜ (at + 106 ≤ length (now out)) × (length (now name) ≤ 8) ⌝ }
     ensures { λ r. ⌜ Wrote (now (out .entry)) at (line (now (name .entry) ∷ decimal a ∷ decimal b ∷ [])) 106 r (now (out .exit)) ⌝ }
 {
-    let at1 = put_bytes(out, at, name);
-    let at2 = put_field(out, at1, a);
-    let at3 = put_field(out, at2, b);
-    put_byte(out, at3, b'\n')
+    let at1 = text::put_bytes(out, at, name);
+    let at2 = text::put_field(out, at1, a);
+    let at3 = text::put_field(out, at2, b);
+    text::put_byte(out, at3, b'\n')
 }
 
 fn put_three(out: &mut [u8], at: usize, name: &[u8], a: u64, b: u64, c: u64) -> usize
     requires { ⌜ (at + 106 ≤ length (now out)) × (length (now name) ≤ 8) ⌝ }
     ensures { λ r. ⌜ Wrote (now (out .entry)) at (line (now (name .entry) ∷ decimal a ∷ decimal b ∷ decimal c ∷ [])) 106 r (now (out .exit)) ⌝ }
 {
-    let at1 = put_bytes(out, at, name);
-    let at2 = put_field(out, at1, a);
-    let at3 = put_field(out, at2, b);
-    let at4 = put_field(out, at3, c);
-    put_byte(out, at4, b'\n')
+    let at1 = text::put_bytes(out, at, name);
+    let at2 = text::put_field(out, at1, a);
+    let at3 = text::put_field(out, at2, b);
+    let at4 = text::put_field(out, at3, c);
+    text::put_byte(out, at4, b'\n')
 }
 
 fn put_retry(out: &mut [u8], at: usize, a: u64, b: u64, c: u64, d: u64) -> usize
     requires { ⌜ at + 106 ≤ length (now out) ⌝ }
     ensures { λ r. ⌜ Wrote (now (out .entry)) at (line (bytes "retry" ∷ decimal a ∷ decimal b ∷ leaderField c d ∷ [])) 106 r (now (out .exit)) ⌝ }
 {
-    let at1 = put_bytes(out, at, b"retry");
-    let at2 = put_field(out, at1, a);
-    let at3 = put_field(out, at2, b);
+    let at1 = text::put_bytes(out, at, b"retry");
+    let at2 = text::put_field(out, at1, a);
+    let at3 = text::put_field(out, at2, b);
     let at4 = put_leader(out, at3, c, d);
-    put_byte(out, at4, b'\n')
+    text::put_byte(out, at4, b'\n')
 }
 
 fn put_span(out: &mut [u8], at: usize, start: Inty, end: Inty, mask: u64) -> usize
     requires { ⌜ at + 106 ≤ length (now out) ⌝ }
     ensures { λ r. ⌜ Wrote (now (out .entry)) at (line (bytes "span" ∷ decimal (valueOf start) ∷ decimal (valueOf end) ∷ decimal mask ∷ [])) 106 r (now (out .exit)) ⌝ }
 {
-    let at1 = put_bytes(out, at, b"span");
-    let at2 = put_wide_field(out, at1, start);
-    let at3 = put_wide_field(out, at2, end);
-    let at4 = put_field(out, at3, mask);
-    put_byte(out, at4, b'\n')
+    let at1 = text::put_bytes(out, at, b"span");
+    let at2 = text::put_wide_field(out, at1, start);
+    let at3 = text::put_wide_field(out, at2, end);
+    let at4 = text::put_field(out, at3, mask);
+    text::put_byte(out, at4, b'\n')
 }
 
 // ---- items
@@ -240,11 +149,11 @@ fn put_head(out: &mut [u8], n: u64, word: &[u8], number: u64) -> usize
     requires { ⌜ (64 ≤ length (now out)) × (length (now word) ≤ 8) ⌝ }
     ensures { λ r. ⌜ Wrote (now (out .entry)) 0 (line (decimal n ∷ now (word .entry) ∷ decimal number ∷ [])) 64 r (now (out .exit)) ⌝ }
 {
-    let at1 = put_u64(out, 0, n);
-    let at2 = put_byte(out, at1, b',');
-    let at3 = put_bytes(out, at2, word);
-    let at4 = put_field(out, at3, number);
-    put_byte(out, at4, b'\n')
+    let at1 = text::put_u64(out, 0, n);
+    let at2 = text::put_byte(out, at1, b',');
+    let at3 = text::put_bytes(out, at2, word);
+    let at4 = text::put_field(out, at3, number);
+    text::put_byte(out, at4, b'\n')
 }
 
 // The text for the n-th line, from what a call gives back: the number of its refusal or 0, how many items it sends, and their area.

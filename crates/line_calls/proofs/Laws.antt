@@ -8,6 +8,7 @@ use native.Mathlib.Omega.{arith}
 use lib.Dec.{leb, ltb, eqb}
 use lib.ListN.{length, getD}
 use borrow.Author.Tests.{le-leb, lt-ltb, le-ltb, ltb-true, ltb-false, ne-eqb, eq-eqb, not-true, not-false}
+use Rattle.words.specs.Text.{Bytes}
 use Rattle.words.specs.Choice.{if_then_else_}
 use Rattle.items.specs.Item.{places}
 use Rattle.ids.specs.declared.Replica.{Replica}
@@ -26,7 +27,7 @@ use Rattle.node.proofs.Calls.{is-ready}
 use Rattle.call_apply.specs.declared.Call as code
 use Rattle.call_apply.specs.declared.Call.the-variants as call
 use Rattle.call_apply.specs.Call.{callOf as applied, readyFor}
-use Rattle.line_fields.specs.Split.{Bytes, fieldsFrom}
+use Rattle.line_fields.specs.Split.{fieldsFrom}
 use Rattle.line_fields.specs.Number.{isNumber, valueOf, numbers, numberAt}
 use Rattle.line_fields.specs.Reads.{noneLeft, between, ReadsField, ReadsNumberAt, ReadsNumbers}
 use Rattle.line_fields.specs.declared.Field.{Field}
@@ -35,8 +36,8 @@ use Rattle.line_fields.proofs.Laws.{all-read, none-left, number-before}
 use Rattle.line_reader.specs.declared.NumbersField.{NumbersField}
 use Rattle.line_reader.specs.Takes.{ReadsNumbersField}
 use Rattle.call_heartbeat.specs.Heartbeat.{carried, fitting}
-use Rattle.line_fields.specs.declared.CallKind.{CallKind}
-use Rattle.line_fields.specs.declared.CallKind.the-variants as kinds
+use Rattle.line_kind.specs.declared.CallKind.{CallKind}
+use Rattle.line_kind.specs.declared.CallKind.the-variants as kinds
 use Rattle.line_host.specs.Line.{isHeard, isRead, isCall, callOf}
 use Rattle.line_host.specs.Follows.{AnswersLine, asByte}
 use Rattle.line_host.proofs.Laws.{not-both, some-left}

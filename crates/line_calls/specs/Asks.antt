@@ -5,17 +5,17 @@ use mathlib.Core.List.{List}
 use Prim.Native.Nat.{ℕ, _≤_}
 use lib.Dec.{eqb}
 use lib.ListN.{length}
+use Rattle.words.specs.Text.{Bytes}
 use Rattle.roster_conf.specs.declared.RespondersConf.{RespondersConf}
 use Rattle.roster_conf.specs.Edits.{view as rosterOf}
 use Rattle.bodega.specs.Replica as machine
 use Rattle.call_heartbeat.specs.Heartbeat.{carried}
 use Rattle.call_apply.specs.declared.Call.the-variants as call
 use Rattle.call_apply.specs.Call.{callOf as applied}
-use Rattle.line_fields.specs.Split.{Bytes}
 use Rattle.line_fields.specs.Number.{numbers, numberAt}
 use Rattle.line_fields.specs.Reads.{between}
-use Rattle.line_fields.specs.declared.CallKind.{CallKind}
-use Rattle.line_fields.specs.declared.CallKind.the-variants.{Guard, Prepared, Reply, Notice, Commit, Bars, Read, Release}
+use Rattle.line_kind.specs.declared.CallKind.{CallKind}
+use Rattle.line_kind.specs.declared.CallKind.the-variants.{Guard, Prepared, Reply, Notice, Commit, Bars, Read, Release}
 use Rattle.line_host.specs.Line.{isHeard}
 use Rattle.line_host.specs.Follows.{asByte}
 use Rattle.line_calls.specs.declared.Asked.{Asked}

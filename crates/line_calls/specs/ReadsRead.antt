@@ -4,7 +4,8 @@ use mathlib.Core.Bool.{true}
 use mathlib.Core.List.{[]}
 use Prim.Native.Nat.{ℕ, _≤_}
 use lib.ListN.{length, getD}
-use Rattle.line_fields.specs.Split.{Bytes, fieldsFrom}
+use Rattle.words.specs.Text.{Bytes}
+use Rattle.line_fields.specs.Split.{fieldsFrom}
 use Rattle.line_fields.specs.Number.{numberAt}
 use Rattle.line_fields.specs.Reads.{between}
 use Rattle.line_host.specs.Line.{isRead}

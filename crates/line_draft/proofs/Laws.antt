@@ -8,9 +8,10 @@ use native.Mathlib.Decide.{decLt}
 use lib.Dec.{leb, ltb, eqb}
 use lib.ListN.{length, getD}
 use borrow.Author.Tests.{le-leb, lt-leb, lt-ltb, le-ltb, leb-true, ltb-true, ltb-false, eq-eqb, ne-eqb, not-true, not-false}
+use Rattle.words.specs.Text.{Bytes}
 use Rattle.words.specs.Choice.{if_then_else_}
 use Rattle.words.proofs.Tests.{and-both}
-use Rattle.line_fields.specs.Split.{Bytes, fieldsFrom}
+use Rattle.line_fields.specs.Split.{fieldsFrom}
 use Rattle.line_fields.specs.Number.{isNumber, valueOf, numbers, numberAt}
 use Rattle.line_fields.specs.Reads.{noneLeft, between, ReadsField, ReadsNumbers}
 use Rattle.line_fields.specs.declared.Field.{Field}
@@ -33,7 +34,7 @@ use Rattle.node.specs.declared.Fresh.the-variants as begun
 use Rattle.node.specs.View as node
 use Rattle.node.specs.View.{size, ready}
 use Rattle.node.specs.Begins as begins
-use Rattle.line_fields.specs.declared.EditKind.{EditKind}
+use Rattle.line_kind.specs.declared.EditKind.{EditKind}
 use Rattle.line_host.specs.Line.{isRange, isEdit, editOf}
 use Rattle.line_host.specs.Follows.{EditsLine, asByte}
 use Rattle.line_host.proofs.Laws.{not-both, some-left}

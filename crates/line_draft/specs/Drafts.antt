@@ -4,9 +4,10 @@ use mathlib.Core.Bool.{Bool, true, false}
 use mathlib.Core.List.{List, []}
 use Prim.Native.Nat.{ℕ, _≤_}
 use lib.ListN.{length, getD}
+use Rattle.words.specs.Text.{Bytes}
 use Rattle.words.specs.Part.{Untouched}
 use Rattle.ids.specs.Limits.{nodeWords}
-use Rattle.line_fields.specs.Split.{Bytes, fieldsFrom}
+use Rattle.line_fields.specs.Split.{fieldsFrom}
 use Rattle.line_fields.specs.Number.{numberAt}
 use Rattle.line_fields.specs.Reads.{between}
 use Rattle.roster_conf.specs.declared.RespondersConf.{RespondersConf}

@@ -8,6 +8,7 @@ use native.Mathlib.Omega.{arith}
 use lib.Dec.{leb, ltb, eqb}
 use lib.ListN.{length, length-append, length-map}
 use borrow.Author.Tests.{le-leb, lt-leb, lt-ltb, le-ltb, leb-true, ltb-false, eqb-true, eq-eqb, ne-eqb, not-true, not-false}
+use Rattle.words.specs.Text.{Bytes}
 use Rattle.words.specs.Choice.{if_then_else_, ifNone_then_else_}
 use Rattle.words.proofs.Tests.{and-both}
 use Rattle.ids.specs.Limits.{items}
@@ -35,10 +36,10 @@ use Rattle.node.specs.declared.Node.{Node}
 use Rattle.node.specs.declared.Answered as code-answered
 use Rattle.node.specs.View.{size, view, ready, givenOf, inRange as inRangeOf}
 use Rattle.node.proofs.Calls.{Ready, is-ready}
-use Rattle.line_fields.specs.Split.{Bytes, fieldsFrom}
-use Rattle.line_fields.specs.Kind.{kindOf}
+use Rattle.line_fields.specs.Split.{fieldsFrom}
+use Rattle.line_kind.specs.Kind.{kindOf}
 use Rattle.line_fields.specs.Reads.{between, ReadsField}
-use Rattle.line_fields.specs.declared.Kind.{Kind}
+use Rattle.line_kind.specs.declared.Kind.{Kind}
 use Rattle.line_fields.specs.declared.Field.{Field}
 use Rattle.line_fields.proofs.Laws.{from-start}
 use Rattle.line_host.specs.declared.Host as code
@@ -49,7 +50,8 @@ use Rattle.line_host.specs.Host as lines
 use Rattle.line_host.specs.Follows.{hostOf, sound, LineRefuses, LineTakes, LineFollowsBy, LineFollows, resultBy, AnswersLine, EditsLine}
 use Rattle.line_draft.specs.Drafts.{ShowsLine, Refuses, BeginsLine, BeginsBy}
 use Rattle.line_answer.specs.Text.{refusedText}
-use Rattle.line_answer.specs.Wrote.{Wrote, Answered}
+use Rattle.text.specs.Wrote.{Wrote}
+use Rattle.line_answer.specs.Wrote.{Answered}
 use Rattle.line_answer.proofs.Items.{holds}
 use Rattle.words.specs.Writes.{writes, length-writes}
 use Rattle.line_event.specs.Ways as ways

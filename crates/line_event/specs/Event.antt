@@ -5,12 +5,12 @@ use mathlib.Core.List.{List}
 use Prim.Native.Nat.{ℕ, _≤_, _<_}
 use lib.Dec.{leb, eqb}
 use lib.ListN.{length}
+use Rattle.words.specs.Text.{Bytes}
 use Rattle.words.specs.Choice.{if_then_else_}
 use Rattle.ids.specs.Limits.{items}
 use Rattle.items.specs.Item.{places}
 use Rattle.roster_conf.specs.declared.RespondersConf.{RespondersConf}
-use Rattle.line_fields.specs.Split.{Bytes}
-use Rattle.line_answer.specs.Wrote.{Wrote}
+use Rattle.text.specs.Wrote.{Wrote}
 use Rattle.line_host.specs.declared.Host.{Host}
 use Rattle.line_host.specs.Host.{LineResult, refusedLine, answerLine, textOf}
 use Rattle.line_host.specs.Follows.{hostOf, sound, LineFollows}

@@ -1,7 +1,7 @@
 // An event line: what it does to the host, and the text that answers it.
-use line_fields::Kind;
 use line_host::Host;
 use line_host::LineDone;
+use line_kind::Kind;
 use node::Answered;
 use node::Node;
 use roster_conf::Edited;
@@ -170,7 +170,7 @@ fn hear(
     let name = line_reader::field_from(line, 0);
     let start = name.start;
     let end = name.end;
-    let kind = line_fields::kind_of(&line[start..end]);
+    let kind = line_kind::kind_of(&line[start..end]);
     act(host, mem, rows, area, groups, kind, line, name.next)
 }
 

@@ -11,12 +11,13 @@ use lib.Seq.{drop-cons, drop-drop, take-suc, getD-drop, getD-set-same, getD-set-
 use lib.Dec.{ltb, leb, eqb, lit<}
 use native.Mathlib.Decide.{decLt}
 use borrow.Author.Tests.{lt-ltb, le-ltb, le-leb, lt-leb, eq-eqb, ne-eqb, ltb-true, ltb-false, leb-true, leb-false}
+use Rattle.words.specs.Text.{Bytes}
 use Rattle.words.specs.Choice.{if_then_else_}
 use Rattle.line_fields.specs.declared.Field.{Field}
 use Rattle.line_fields.specs.declared.NumberAt.{NumberAt}
 use Rattle.line_fields.specs.declared.NumbersAt.{NumbersAt}
 use Rattle.line_fields.specs.declared.OptionalAt.{OptionalAt}
-use Rattle.line_fields.specs.Split.{Bytes, onFirst, fieldsOf, fieldsFrom}
+use Rattle.line_fields.specs.Split.{onFirst, fieldsOf, fieldsFrom}
 use Rattle.line_fields.specs.Number.{isDigit, allDigits, valueFrom, valueOf, hasByte, isNumber, allNumbers, numbers, numberAt}
 use Rattle.line_fields.specs.Reads.{noneLeft, between, FirstField, ReadsField, ReadsNumber, ReadsNumberAt, leading, ReadsNumbersAt, isOptional, ReadsOptionalAt}
 

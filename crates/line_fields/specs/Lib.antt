@@ -1,4 +1,3 @@
 pub mod Split
 pub mod Number
 pub mod Reads
-pub mod Kind

@@ -4,7 +4,7 @@ use mathlib.Core.Bool.{Bool, true, false, _&&_}
 use mathlib.Core.List.{List, [], _∷_}
 use lib.Dec.{ltb, leb, eqb}
 use lib.ListN.{length, getD}
-use Rattle.line_fields.specs.Split.{Bytes}
+use Rattle.words.specs.Text.{Bytes}
 
 abbrev pub isDigit : ℕ → Bool
 isDigit c = leb 48 c && leb c 57

@@ -5,13 +5,14 @@ use mathlib.Core.List.{List, [], _∷_}
 use mathlib.Core.Path.{_≡_}
 use lib.Dec.{eqb}
 use lib.ListN.{length, getD, take, drop}
+use Rattle.words.specs.Text.{Bytes}
 use Rattle.words.specs.Choice.{if_then_else_}
 use Rattle.line_fields.specs.declared.Field.{Field}
 use Rattle.line_fields.specs.declared.Number.{Number}
 use Rattle.line_fields.specs.declared.NumberAt.{NumberAt}
 use Rattle.line_fields.specs.declared.NumbersAt.{NumbersAt}
 use Rattle.line_fields.specs.declared.OptionalAt.{OptionalAt}
-use Rattle.line_fields.specs.Split.{Bytes, fieldsFrom}
+use Rattle.line_fields.specs.Split.{fieldsFrom}
 use Rattle.line_fields.specs.Number.{hasByte, isNumber, valueOf, numbers, numberAt}
 
 abbrev pub noneLeft : List Bytes → Bool

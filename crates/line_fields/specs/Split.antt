@@ -3,10 +3,8 @@ use Prim.Native.Nat.{ℕ}
 use mathlib.Core.List.{List, [], _∷_}
 use lib.Dec.{eqb, leb}
 use lib.ListN.{length, drop}
+use Rattle.words.specs.Text.{Bytes}
 use Rattle.words.specs.Choice.{if_then_else_}
-
-abbrev pub Bytes : Type 0
-Bytes = List ℕ
 
 abbrev pub comma : ℕ
 comma = 44

@@ -7,7 +7,7 @@ use native.Mathlib.Omega.{arith}
 use lib.Dec.{leb}
 use lib.ListN.{length}
 use borrow.Author.Tests.{le-leb, lt-leb, lt-ltb, le-ltb}
-use Rattle.line_fields.specs.Split.{Bytes}
+use Rattle.words.specs.Text.{Bytes}
 use Rattle.line_fields.specs.Reads.{noneLeft}
 use Rattle.roster_conf.specs.declared.RespondersConf.{RespondersConf}
 use Rattle.roster_conf.specs.Conf.{empty}

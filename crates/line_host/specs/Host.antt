@@ -2,6 +2,7 @@
 use Prim.Native.Nat.{ℕ, _+_}
 use mathlib.Core.List.{List, [], _∷_, _++_}
 use mathlib.Core.Option.{Option, none, some}
+use Rattle.words.specs.Text.{Bytes}
 use Rattle.words.specs.Choice.{if_then_else_, ifNone_then_else_}
 use Rattle.ids.specs.Limits.{items}
 use Rattle.items.specs.Item.{Item}
@@ -12,7 +13,6 @@ use Rattle.roster_show.specs.Show.{show}
 use Rattle.bodega.specs.Replica.{Replica, fresh, Call, Heartbeat}
 use Rattle.bodega.specs.Step.{Step, Refused, Taken, step}
 use Rattle.node.specs.View.{inRange}
-use Rattle.line_fields.specs.Split.{Bytes}
 use Rattle.line_answer.specs.Text.{refusedText, takenText}
 use Rattle.line_host.specs.Line.{Line, NodeLine, EditLine, ShowLine, HeardLine, CallLine, lineOf}
 

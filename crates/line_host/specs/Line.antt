@@ -5,15 +5,16 @@ use mathlib.Core.List.{List, [], _∷_}
 use mathlib.Core.Option.{Option, none, some}
 use lib.Dec.{eqb, ltb, leb}
 use lib.ListN.{length, getD, drop}
+use Rattle.words.specs.Text.{Bytes}
 use Rattle.words.specs.Choice.{if_then_else_}
-use Rattle.line_fields.specs.Split.{Bytes, fieldsOf}
-use Rattle.line_fields.specs.Kind.{kindOf}
-use Rattle.line_fields.specs.declared.Kind.{Kind}
-use Rattle.line_fields.specs.declared.Kind.the-variants as kinds
-use Rattle.line_fields.specs.declared.EditKind.{EditKind}
-use Rattle.line_fields.specs.declared.EditKind.the-variants.{Lead, Range, Whole, Drop, Reset}
-use Rattle.line_fields.specs.declared.CallKind.{CallKind}
-use Rattle.line_fields.specs.declared.CallKind.the-variants.{Guard, Prepared, Reply, Notice, Commit, Bars, Read, Release}
+use Rattle.line_fields.specs.Split.{fieldsOf}
+use Rattle.line_kind.specs.Kind.{kindOf}
+use Rattle.line_kind.specs.declared.Kind.{Kind}
+use Rattle.line_kind.specs.declared.Kind.the-variants as kinds
+use Rattle.line_kind.specs.declared.EditKind.{EditKind}
+use Rattle.line_kind.specs.declared.EditKind.the-variants.{Lead, Range, Whole, Drop, Reset}
+use Rattle.line_kind.specs.declared.CallKind.{CallKind}
+use Rattle.line_kind.specs.declared.CallKind.the-variants.{Guard, Prepared, Reply, Notice, Commit, Bars, Read, Release}
 use Rattle.line_fields.specs.Number.{hasByte, isNumber, valueOf, numbers, numberAt}
 use Rattle.roster_conf.specs.Edit.{Edit, SetLeader, SetResponders, SetFull, IntoFiltered, ResetFull}
 use Rattle.bodega.specs.Replica.{Command, Get, Put, Request, Call}

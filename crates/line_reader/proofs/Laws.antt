@@ -8,11 +8,12 @@ use lib.Dec.{eqb}
 use lib.ListN.{drop}
 use borrow.Author.Tests.{eqb-true, not-true, not-false}
 use denote.Ref.{now}
+use Rattle.words.specs.Text.{Bytes}
 use Rattle.line_fields.specs.declared.Field.{Field}
 use Rattle.line_fields.specs.declared.NumberAt.{NumberAt}
 use Rattle.line_fields.specs.declared.NumbersAt.{NumbersAt}
 use Rattle.line_fields.specs.declared.OptionalAt.{OptionalAt}
-use Rattle.line_fields.specs.Split.{Bytes, fieldsFrom}
+use Rattle.line_fields.specs.Split.{fieldsFrom}
 use Rattle.line_fields.specs.Number.{numbers}
 use Rattle.line_fields.specs.Reads.{noneLeft, leading, ReadsNumbersAt, ReadsNumbers}
 use Rattle.line_fields.proofs.Laws.{leading-le, numbers-exact}

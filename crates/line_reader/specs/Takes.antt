@@ -4,10 +4,10 @@ use mathlib.Core.Path.{_≡_}
 use mathlib.Core.Bool.{Bool}
 use mathlib.Core.List.{List}
 use denote.Ref.{now}
+use Rattle.words.specs.Text.{Bytes}
 use Rattle.line_fields.specs.declared.Field.{Field}
 use Rattle.line_fields.specs.declared.NumberAt.{NumberAt}
 use Rattle.line_fields.specs.declared.OptionalAt.{OptionalAt}
-use Rattle.line_fields.specs.Split.{Bytes}
 use Rattle.line_fields.specs.Reads.{ReadsField, ReadsNumberAt, ReadsNumbersAt, ReadsOptionalAt}
 use Rattle.line_reader.specs.declared.LineReader.{LineReader}
 use Rattle.line_reader.specs.declared.FieldsNumber.{FieldsNumber}

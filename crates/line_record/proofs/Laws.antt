@@ -11,6 +11,7 @@ use lib.Dec.{leb, eqb}
 use lib.ListN.{length, getD, take, drop}
 use lib.Seq.{getD-take, length-take-le}
 use borrow.Author.Tests.{le-leb, eqb-true, not-true, not-false}
+use Rattle.words.specs.Text.{Bytes}
 use Rattle.words.specs.Choice.{if_then_else_}
 use Rattle.words.specs.Part.{part}
 use Rattle.words.specs.Tab.{tab, tab-ext, tab-snoc}
@@ -19,7 +20,7 @@ use Rattle.line_fields.specs.declared.Field.{Field}
 use Rattle.line_fields.specs.declared.NumberAt.{NumberAt}
 use Rattle.line_fields.specs.declared.NumbersAt.{NumbersAt}
 use Rattle.line_fields.specs.declared.OptionalAt.{OptionalAt}
-use Rattle.line_fields.specs.Split.{Bytes, fieldsFrom}
+use Rattle.line_fields.specs.Split.{fieldsFrom}
 use Rattle.line_fields.specs.Number.{valueOf, hasByte, isNumber, numberAt}
 use Rattle.line_fields.specs.Reads.{noneLeft, between, ReadsField, ReadsNumberAt, leading, ReadsNumbersAt, isOptional, ReadsOptionalAt}
 use Rattle.line_fields.proofs.Laws.{from-past, some-left, none-number, number-before}

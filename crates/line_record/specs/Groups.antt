@@ -4,8 +4,9 @@ use mathlib.Core.Bool.{true, false}
 use mathlib.Core.List.{List, [], _∷_}
 use Prim.Native.Nat.{ℕ, _+_, _*_, _≤_}
 use lib.ListN.{length, take}
+use Rattle.words.specs.Text.{Bytes}
 use Rattle.words.specs.Part.{part}
-use Rattle.line_fields.specs.Split.{Bytes, fieldsFrom}
+use Rattle.line_fields.specs.Split.{fieldsFrom}
 use Rattle.bodega.specs.Replica.{Request}
 use Rattle.inst_reqs.specs.Batch.{commandAt}
 use Rattle.req_batch.specs.Given.{given}

@@ -9,8 +9,8 @@ use lib.Seq.{take-at, length-take-le}
 use lib.IntN.{ℤ, pos, negsuc}
 use lib.Signed.{ltZ}
 use borrow.Author.Tests.{ltb-true, ltb-false}
+use Rattle.words.specs.Text.{Bytes}
 use Rattle.words.specs.Part.{splice}
-use Rattle.line_fields.specs.Split.{Bytes}
 use Rattle.stream_events.proofs.Laws.{fresh-lent}
 use Rattle.stream_turns.specs.declared.Stream.{Stream}
 use Rattle.stream_turns.specs.declared.TurnResult.{TurnResult}

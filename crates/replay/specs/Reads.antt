@@ -2,8 +2,8 @@
 use mathlib.Core.Bool.{Bool}
 use Prim.Native.Nat.{ℕ, zero, suc}
 use lib.IntN.{ℤ, pos, negsuc}
+use Rattle.words.specs.Text.{Bytes}
 use Rattle.words.specs.Choice.{if_then_else_}
-use Rattle.line_fields.specs.Split.{Bytes}
 use Rattle.stream_turns.specs.TurnList.{Fills}
 use Rattle.replay.specs.declared.Filled.{Filled}
 use Rattle.replay.specs.declared.Filled.the-variants.{Piece, Ended, Failed}

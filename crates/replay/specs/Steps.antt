@@ -4,7 +4,7 @@ use mathlib.Core.Bool.{false}
 use mathlib.Core.List.{List}
 use Prim.Native.Nat.{ℕ, _≤_}
 use lib.ListN.{length}
-use Rattle.line_fields.specs.Split.{Bytes}
+use Rattle.words.specs.Text.{Bytes}
 use Rattle.stream_events.specs.Fed.{Lent}
 use Rattle.stream_turns.specs.declared.Stream.{Stream}
 use Rattle.stream_turns.specs.TurnList.{TurnList}

@@ -12,6 +12,7 @@ use lib.Dec.{ltb, leb, eqb}
 use mir.Syntax.{w64}
 use mir.Val.{Fits}
 use borrow.Author.Tests.{lt-ltb, le-ltb, le-leb, eq-eqb}
+use Rattle.words.specs.Text.{Bytes}
 use Rattle.words.specs.Choice.{if_then_else_, ifNone_then_else_}
 use Rattle.words.specs.Part.{splice, splice-same}
 use Rattle.words.specs.Writes.{writes, length-writes}
@@ -21,9 +22,9 @@ use Rattle.roster_conf.specs.Edit as edits
 use Rattle.bodega.specs.Replica.{Replica, Heartbeat}
 use Rattle.bodega.specs.Step.{Step, Refused, Taken, step}
 use Rattle.node.specs.View.{inRange}
-use Rattle.line_fields.specs.Split.{Bytes}
 use Rattle.line_answer.specs.Text.{refusedText}
-use Rattle.line_answer.specs.Wrote.{Wrote, Answered}
+use Rattle.text.specs.Wrote.{Wrote}
+use Rattle.line_answer.specs.Wrote.{Answered}
 use Rattle.line_host.specs.declared.Host as code
 use Rattle.line_host.specs.Line.{Line, NodeLine, EditLine, ShowLine, HeardLine, CallLine, lineOf}
 use Rattle.line_host.specs.Host.{Host, freshHost, Outcome, Refusal, Items, LineResult, refusedLine, called, edited, lineAt, firstLine, atHost, answerLine, textOf}

@@ -7,7 +7,7 @@ use native.Mathlib.Omega.{arith}
 use lib.ListN.{length}
 use lib.Dec.{ltb, eqb}
 use borrow.Author.Tests.{lt-ltb}
-use Rattle.line_fields.specs.Split.{Bytes}
+use Rattle.words.specs.Text.{Bytes}
 use Rattle.line_host.specs.Line.{lineOf}
 use Rattle.line_host.specs.Host.{Host, freshHost, LineResult, answerLine, answerLines, textOf}
 use Rattle.stream_pieces.specs.Pieces.{Begun, noneBegun, concat}

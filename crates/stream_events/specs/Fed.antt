@@ -4,10 +4,10 @@ use mathlib.Core.Bool.{Bool, true, false}
 use mathlib.Core.List.{List, []}
 use Prim.Native.Nat.{ℕ, _-_, _≤_, _<_}
 use lib.ListN.{length, take, drop}
+use Rattle.words.specs.Text.{Bytes}
 use Rattle.ids.specs.Limits.{items}
 use Rattle.items.specs.Item.{places}
-use Rattle.line_fields.specs.Split.{Bytes}
-use Rattle.line_answer.specs.Wrote.{Wrote}
+use Rattle.text.specs.Wrote.{Wrote}
 use Rattle.line_host.specs.declared.Host.{Host}
 use Rattle.line_host.specs.Follows.{hostOf, sound}
 use Rattle.stream_pieces.specs.Pieces.{Begun, before}

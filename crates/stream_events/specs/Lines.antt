@@ -5,8 +5,8 @@ use mathlib.Core.Bool.{_||_}
 use mathlib.Core.List.{List, [], _∷_, _++_}
 use lib.Dec.{ltb, eqb}
 use lib.ListN.{length}
+use Rattle.words.specs.Text.{Bytes}
 use Rattle.words.specs.Choice.{if_then_else_}
-use Rattle.line_fields.specs.Split.{Bytes}
 use Rattle.line_host.specs.Host.{Host, freshHost, LineResult, refusedLine, answerLine, answerLines, textOf}
 use Rattle.stream_pieces.specs.Pieces.{Begun, noneBegun, concat}
 use Rattle.stream_pieces.specs.Streamed.{LineOutput, piecewise}

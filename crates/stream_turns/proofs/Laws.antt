@@ -6,7 +6,7 @@ use Prim.Native.Nat.{ℕ, _+_, _-_, _≤_}
 use native.Mathlib.Omega.{arith}
 use lib.ListN.{length, take, drop, take-append-drop}
 use lib.Seq.{take-add, drop-at, drop-drop, length-take-le}
-use Rattle.line_fields.specs.Split.{Bytes}
+use Rattle.words.specs.Text.{Bytes}
 use Rattle.stream_pieces.specs.declared.Carry.{Carry}
 use Rattle.stream_pieces.specs.Pieces.{Begun, kept}
 use Rattle.stream_pieces.specs.Streamed.{Streamed, streamed, OutputAfter, outputAfter}

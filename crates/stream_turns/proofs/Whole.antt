@@ -7,9 +7,9 @@ use native.Mathlib.Nat.{zero-add}
 use native.Mathlib.Omega.{arith}
 use lib.ListN.{length, take, drop, take-append-drop}
 use lib.Seq.{take-take, drop-drop}
+use Rattle.words.specs.Text.{Bytes}
 use Rattle.words.specs.Tab.{run-part}
 use Rattle.words.specs.Writes.{writes, length-writes, run-writes}
-use Rattle.line_fields.specs.Split.{Bytes}
 use Rattle.line_host.specs.Host.{freshHost}
 use Rattle.stream_pieces.specs.Pieces.{Begun, noneBegun, kept, concat}
 use Rattle.stream_pieces.specs.Streamed.{Streamed, prepend, streamed, lastLine, total, OutputAfter}

@@ -4,7 +4,7 @@ use mathlib.Core.Bool.{true, false}
 use mathlib.Core.List.{List, []}
 use Prim.Native.Nat.{ℕ, _-_, _≤_, _<_}
 use lib.ListN.{length, take, drop}
-use Rattle.line_fields.specs.Split.{Bytes}
+use Rattle.words.specs.Text.{Bytes}
 use Rattle.stream_pieces.specs.Pieces.{kept}
 use Rattle.stream_pieces.specs.Streamed.{Streamed, streamed, OutputAfter, outputAfter}
 use Rattle.stream_events.specs.Lines.{State, start, lineOutput}

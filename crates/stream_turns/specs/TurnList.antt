@@ -4,7 +4,7 @@ use mathlib.Core.Bool.{true, false}
 use mathlib.Core.List.{List, [], _∷_, _++_}
 use Prim.Native.Nat.{ℕ, _-_, _^_, _≤_, _<_}
 use lib.ListN.{length, take, drop}
-use Rattle.line_fields.specs.Split.{Bytes}
+use Rattle.words.specs.Text.{Bytes}
 use Rattle.line_host.specs.Host.{freshHost, answerLines}
 use Rattle.stream_pieces.specs.Pieces.{noneBegun, concat}
 use Rattle.stream_pieces.specs.Streamed.{streamed}

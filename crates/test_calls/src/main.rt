@@ -1,10 +1,10 @@
 // Runs recorded calls on one node. vectors/README.md says what the lines are, what is written for each, and how the
 // recorded ones are made.
 use ids::Slot;
-use line_fields::CallKind;
-use line_fields::EditKind;
-use line_fields::Kind;
 use line_host::Host;
+use line_kind::CallKind;
+use line_kind::EditKind;
+use line_kind::Kind;
 use node::Answered;
 use node::Node;
 use roster_conf::Edited;
@@ -275,7 +275,7 @@ fn call(s: State, mem: &mut [u64], rows: &mut [u64], places: usize, line: &[u8])
     requires { ⌜ (places ≤ 546) × (length (now line) ≤ 1024) ⌝ }
 {
     let end = name_end(line);
-    let kind = line_fields::kind_of(&line[0..end]);
+    let kind = line_kind::kind_of(&line[0..end]);
     let mut area = line_buffers::item_area();
     let done = act(s, mem, rows, &mut area, places, kind, line, end + 1);
     say_answer(s.lines, done.number, done.count, &area);

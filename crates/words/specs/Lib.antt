@@ -3,3 +3,4 @@ pub mod Counted
 pub mod Part
 pub mod Tab
 pub mod Writes
+pub mod Text

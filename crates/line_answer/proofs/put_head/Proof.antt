@@ -1,3 +1,4 @@
+use Rattle.text.proofs.Laws.{field}
 use Rattle.line_answer.proofs.Laws as law
 use native.Mathlib.Omega.{arith}
 use borrow.Author.Needs.{needs}
@@ -23,7 +24,7 @@ same-length : tie.Need-same-length
 same-length c = search needs
 
 returns : tie.Need-returns
-returns c = law.line-3 (c .before .before .before .before .before .before .before .before .before .before .before .before .before .before .before .before .before .before .put-u64 .ensures) (law.field (c .before .before .before .before .before .before .before .before .before .before .before .before .before .before .put-byte .ensures) (c .before .before .before .before .before .before .before .before .before .before .put-bytes .ensures)) (c .before .before .before .before .before .before .put-field .ensures) (c .before .before .put-byte2 .ensures) _ (omega arith)
+returns c = law.line-3 (c .before .before .before .before .before .before .before .before .before .before .before .before .before .before .before .before .before .before .put-u64 .ensures) (field (c .before .before .before .before .before .before .before .before .before .before .before .before .before .before .put-byte .ensures) (c .before .before .before .before .before .before .before .before .before .before .put-bytes .ensures)) (c .before .before .before .before .before .before .put-field .ensures) (c .before .before .put-byte2 .ensures) _ (omega arith)
 
 pub put-head-spec : {M : Type 1} → statement M
 put-head-spec =

@@ -1,4 +1,4 @@
-use Rattle.line_fields.specs.declared.EditKind.the-variants.{Lead, Range, Whole, Drop, Reset}
+use Rattle.line_kind.specs.declared.EditKind.the-variants.{Lead, Range, Whole, Drop, Reset}
 use Rattle.line_draft.proofs.Laws as law
 use borrow.Author.Needs.{needs}
 use Rattle.line_draft.proofs.edit_line.Statement.{statement}

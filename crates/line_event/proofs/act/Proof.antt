@@ -1,4 +1,4 @@
-use Rattle.line_fields.specs.declared.Kind.the-variants.{Node, Edit, Show, Heard, Record, Call, Unknown}
+use Rattle.line_kind.specs.declared.Kind.the-variants.{Node, Edit, Show, Heard, Record, Call, Unknown}
 use Rattle.line_event.proofs.Laws as law
 use borrow.Author.Needs.{needs}
 use Rattle.line_event.proofs.act.Statement.{statement}
