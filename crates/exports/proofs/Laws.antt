@@ -1,139 +1,102 @@
--- What the proofs of this crate share: the answers as numbers, and that an edit of a roster with no leader and default 0 makes another. Assumes nothing.
-use mathlib.Core.Path.{_≡_, refl, sym, ap, _∙_}
+-- That a call's answer says the same of a node and of its plain struct. Assumes nothing.
+use mathlib.Core.Path.{_≡_, refl, sym, ap}
 use mathlib.Core.Bool.{Bool, true, false, _&&_}
-use mathlib.Core.List.{List, _∷_, []}
-use mathlib.Core.Option.{Option, none, some}
-use Prim.Native.Nat.{ℕ, _-_, _^_, _<_}
+use mathlib.Core.List.{List}
+use Prim.Native.Nat.{ℕ}
 use native.Mathlib.Omega.{arith}
-use lib.Dec.{ltb}
+use lib.Dec.{eqb, leb}
 use lib.ListN.{length}
-use lib.Arith.{digits-div, digits-mod}
-use borrow.Author.Tests.{ne-eqb}
-use Rattle.words.specs.Choice.{if_then_else_, ifNone_then_else_}
-use Rattle.inty.specs.declared.Inty.{Inty}
-use Rattle.inty.specs.Value.{valueOf}
-use Rattle.bitmap.specs.Bitmap.{get, setTo, unmark}
-use Rattle.keys.specs.declared.KeyRead.{KeyRead}
-use Rattle.keys.specs.declared.KeyRead.the-variants.{Number, Unread}
-use Rattle.keys.specs.Read.{readKey}
-use Rattle.keys.specs.Shown.{shown}
+use borrow.Author.Tests.{eqb-false, ne-eqb}
+use Rattle.node.specs.declared.Node.{Node}
+use Rattle.node.specs.declared.Answered.{Answered}
+use Rattle.node.specs.declared.Fresh.{Fresh}
+use Rattle.node.specs.declared.Fresh.the-variants.{Made, Refused}
+use Rattle.node.specs.View.{size, view, inRange, ready, givenOf}
+use Rattle.node.specs.Begins.{Gives, Begins}
+use Rattle.bodega.specs.Replica.{Call, Heartbeat}
+use Rattle.bodega.specs.Step as machine
+use Rattle.bodega.specs.Answers.{Given, due, Follows, Answers}
+use Rattle.roster_conf.specs.Edits.{view as rosterOf}
 use Rattle.roster_conf.specs.declared.RespondersConf.{RespondersConf}
-use Rattle.roster_conf.specs.declared.Edited.{Edited}
-use Rattle.roster_conf.specs.declared.Edited.the-variants.{Taken, Refused}
-use Rattle.roster_conf.specs.declared.Responders.{Responders}
-use Rattle.roster_conf.specs.declared.Responders.the-variants.{Mask as Found, NoRoster, Refused as Short}
-use Rattle.roster_conf.specs.Conf.{Conf, setResponders, intoFiltered}
-use Rattle.roster_conf.specs.Ground.{refusal}
-use Rattle.roster_conf.proofs.Grounds.{not-0, edit-positive}
-use Rattle.roster_conf.specs.Edit.{Edit, SetLeader, SetResponders, SetFull, IntoFiltered, ResetFull, between, edit, grounds, EditResult, refused, taken, editResult}
-use Rattle.roster_conf.specs.Edits.{view, holdsRows, inRange, due, Gives, Edits, lookup}
-use Rattle.exports.specs.declared.Key.{Key}
-use Rattle.exports.specs.declared.Count.{Count}
-use Rattle.exports.specs.declared.Mask.{Mask}
-use Rattle.exports.specs.Numbers.{keyOf, plain, countOf, edited, Counts, maskOf}
+use Rattle.call_heartbeat.specs.Heartbeat.{fitting, carried}
+use Rattle.export_plain.specs.declared.Plain.{Plain}
+use Rattle.export_plain.specs.declared.PlainAnswered.{PlainAnswered}
+use Rattle.export_plain.specs.declared.Roster.{Roster}
+use Rattle.export_plain.specs.Plain.{confOf, nodeOf, plainOf, noNode, shownOf, answeredOf, begunOf, given, freshOf, GivesBack}
+use Rattle.export_plain.proofs.Laws.{back}
 
--- ---- a key
+-- a call that is refused leaves the node
+same-node : (ok : Node → List ℕ → Bool) (c : Call) (n : Node) (mem area : List ℕ) (g : Given Node) (mem′ area′ : List ℕ) → Answers ok view c n mem area g mem′ area′ → (g .number ≡ 0 → ⊥) → g .node ≡ n
+same-node ok c n mem area g mem′ area′ h z = go (due ok view c n mem area) h
+  where
+    go : (s : machine.Step) → Follows ok view s n mem area g mem′ area′ → g .node ≡ n
+    go (machine.Refused k) f = f .sameNode
+    go (machine.Taken s l) f = absurd (z (f .number))
 
-module _ (key : List ℕ) (k : KeyRead) (e : shown k ≡ readKey key) where
-  pub key-unread : k ≡ Unread → _≡_ {A = Key} (record { read = 0; hi = 0; lo = 0 }) (keyOf (readKey key))
-  unfolding keyOf
-  key-unread f = let q : readKey key ≡ none = sym e ∙ ap shown f in sym (simp q)
+shown : (p : Plain) (a : Answered) → ((a .number ≡ 0 → ⊥) → a .node ≡ nodeOf p) → nodeOf (shownOf p a) ≡ a .node
+shown p a same = go (eqb (a .number) 0) refl
+  where
+    go : (t : Bool) → eqb (a .number) 0 ≡ t → nodeOf (shownOf p a) ≡ a .node
+    go true e = rw e (back (a .node))
+    go false e = rw e (sym (same (eqb-false (a .number) 0 e)))
 
-  pub key-read : (n : Inty) → k ≡ Number n → n .lo < 2 ^ 64 → _≡_ {A = Key} (record { read = 1; hi = n .hi; lo = n .lo }) (keyOf (readKey key))
-  unfolding keyOf
-  key-read n f h =
-      let q : readKey key ≡ some (valueOf n) = sym e ∙ ap shown f in
-      sym (simp (q, digits-div (n .hi) h, digits-mod (n .hi) h))
+pub gives-back : (p : Plain) (a : Answered) (r : PlainAnswered) → r ≡ answeredOf p a → GivesBack p r
+unfolding GivesBack
+gives-back p a r f = rw f (go (eqb (a .number) 0) refl)
+  where
+    go : (t : Bool) → eqb (a .number) 0 ≡ t → GivesBack p (answeredOf p a)
+    go true e = rw e (ap plainOf (sym (back (a .node))))
+    go false e = rw e refl
 
--- ---- an edit
+-- the callee's answer, said of the plain node
+pub answers : (ok : Node → List ℕ → Bool) (c : Call) (p : Plain) (n : Node) (mem area mem′ area′ : List ℕ) (a : Answered) (r : PlainAnswered) → n ≡ nodeOf p
+    → Answers ok view c n mem area (givenOf a) mem′ area′ → r ≡ answeredOf p a → Answers ok view c (nodeOf p) mem area (given r) mem′ area′
+answers ok c p n mem area mem′ area′ a r e h f =
+    let it : Answers ok view c (nodeOf p) mem area (givenOf a) mem′ area′ = rw e at h in
+    let back-again : given (answeredOf p a) ≡ givenOf a = (λ i. record { number = a .number; count = a .count; node = shown p a (same-node ok c (nodeOf p) mem area (givenOf a) mem′ area′ it) i }) in
+    rw (f, back-again) it
 
-pub counted-taken : (d : Edited) (c : RespondersConf) (n : ℕ) → d ≡ Taken c → _≡_ {A = Count} (record { number = 0; count = c .count }) (countOf d n)
-counted-taken d c n e = sym (ap (λ (x : Edited). countOf x n) e)
+-- and of a plain roster
+pub heard : (p : Plain) (n : Node) (mem area mem′ area′ rows : List ℕ) (peer ballot : ℕ) (attached : Bool) (x : Roster) (c : RespondersConf) (commit exec snap : ℕ)
+    (a : Answered) (r : PlainAnswered) → n ≡ nodeOf p → c ≡ confOf x
+    → Answers (λ (k : Node) (m : List ℕ). ready k m && fitting attached (c .count) rows) view (Heartbeat peer ballot (carried attached (rosterOf c rows)) commit exec snap) n mem area
+    (givenOf a) mem′ area′
+    → r ≡ answeredOf p a
+    → Answers (λ (k : Node) (m : List ℕ). ready k m && fitting attached (x .ranges) rows) view (Heartbeat peer ballot (carried attached (rosterOf (confOf x) rows)) commit exec snap)
+    (nodeOf p) mem area (given r) mem′ area′
+heard p n mem area mem′ area′ rows peer ballot attached x c commit exec snap a r e f h g = answers _ _ p n mem area mem′ area′ a r e (rw f at h) g
 
-pub counted-refused : (d : Edited) (k n : ℕ) → d ≡ Refused k → _≡_ {A = Count} (record { number = k; count = n }) (countOf d n)
-counted-refused d k n e = sym (ap (λ (x : Edited). countOf x n) e)
+-- ---- a fresh node
 
-abbrev Bare : Conf → Type 0
-Bare c = (c .leader ≡ none) × (c .default ≡ 0)
-
--- a refusal above 0, or a roster with no leader and default 0
-abbrev Fine : EditResult → Type 0
-Fine (refused k) = 0 < k
-Fine (taken c) = Bare c
-
-module _ (p n : ℕ) (s : List ℕ) (e : Edit) (b : Bare (edit (view (plain n 0) s) e)) where
-  answer-fine : (o : Option ℕ) → refusal (grounds p (view (plain n 0) s) e) ≡ o → Fine (ifNone o then taken (edit (view (plain n 0) s) e) else refused)
-  answer-fine none f = b
-  answer-fine (some k) f = not-0 (grounds p (view (plain n 0) s) e) k (edit-positive p (view (plain n 0) s) e) f
-
-  due-fine : Fine (due p (plain n 0) s e)
-  unfolding due editResult
-  due-fine = go (holdsRows (length s) n && inRange p)
+module _ (f : Fresh) (r : PlainAnswered) (e : r ≡ begunOf f) where
+  pub fresh-begins : (id population quorum : ℕ) (before after : List ℕ) → Begins id population quorum before f after → Begins id population quorum before (freshOf r) after
+  unfolding begunOf
+  fresh-begins id population quorum before after b = rw e (go f b)
     where
-      go : (t : Bool) → Fine (if t then editResult p (view (plain n 0) s) e else refused 2)
-      go true = answer-fine (refusal (grounds p (view (plain n 0) s) e)) refl
-      go false = omega arith
+      number : (k : ℕ) (t : Bool) → Gives t id population quorum before (Refused k) after → Gives t id population quorum before (freshOf (begunOf (Refused k))) after
+      number k true g = absurd g
+      number k false g = simp (ne-eqb k 0 (λ z. absurd (omega (arith, g .0)))) g
 
--- what the number and the count say is what the answer says
-gives : (a : EditResult) (n : ℕ) (s after : List ℕ) (d : Edited) → Fine a → Gives a d s after → Gives a (edited (countOf d n)) s after
-unfolding edited view
-gives (refused k) n s after (Refused j) f g = simp (ne-eqb j 0 (λ z. absurd (omega (arith, g .0)))) g
-gives (refused k) n s after (Taken d) f g = absurd g
-gives (taken c) n s after (Refused j) f g = absurd g
-gives (taken c) n s after (Taken d) f g =
-    record {
-      roster = λ i. record { leader = sym (f .0) i; ranges = g .roster i .ranges; default = sym (f .1) i };
-      few = g .few;
-      beyond = g .beyond;
-    }
+      go : (f : Fresh) → Begins id population quorum before f after → Begins id population quorum before (freshOf (begunOf f)) after
+      go (Made n) b = rw (back n) b
+      go (Refused k) b = number k (leb size (length before) && inRange id population quorum) b
 
-count-same : (d : Edited) (n : ℕ) → (countOf d n .number ≡ 0 → ⊥) → countOf d n .count ≡ n
-count-same (Taken c) n h = absurd (h refl)
-count-same (Refused k) n h = refl
-
-counts : (e : Edit) (p n : ℕ) (s after : List ℕ) (c : RespondersConf) (d : Edited) (r : Count) → Bare (edit (view (plain n 0) s) e)
-    → c ≡ plain n 0 → Edits e p c s d after → r ≡ countOf d n → Counts e p n s r after
-counts e p n s after c d r b f g h =
-    rw h
-    (record {
-      edits = gives (due p (plain n 0) s e) n s after d (due-fine p n s e b) (rw f at g);
-      same = count-same d n;
-    })
-
-bare-between : (start end : Option ℕ) (mask : ℕ) (c : Conf) → Bare c → Bare (between start end mask c)
-unfolding setResponders
-bare-between none end mask c b = b
-bare-between (some x) none mask c b = b
-bare-between (some x) (some y) mask c b = b
-
-module _ (p n : ℕ) (s after : List ℕ) (c : RespondersConf) (d : Edited) (r : Count) (f : c ≡ plain n 0) (h : r ≡ countOf d n) where
-  pub range-counts : (start end : List ℕ) (mask : ℕ) → Edits (SetResponders start end mask) p c s d after → Counts (SetResponders start end mask) p n s r after
-  unfolding edit view
-  range-counts start end mask g = counts (SetResponders start end mask) p n s after c d r (bare-between (readKey start) (readKey end) mask (view (plain n 0) s) (refl, refl)) f g h
-
-  pub whole-counts : (mask : ℕ) → Edits (SetFull mask) p c s d after → Counts (SetFull mask) p n s r after
-  unfolding edit view setResponders
-  whole-counts mask g = counts (SetFull mask) p n s after c d r (refl, refl) f g h
-
-  pub drop-counts : (id : ℕ) → Edits (IntoFiltered id) p c s d after → Counts (IntoFiltered id) p n s r after
-  unfolding edit view intoFiltered setTo unmark
-  drop-counts id g = counts (IntoFiltered id) p n s after c d r (refl, unmarked (ltb id 64 && get 0 id)) f g h
+  pub fresh-back : GivesBack noNode r
+  unfolding GivesBack begunOf
+  fresh-back = rw e (go f)
     where
-      unmarked : (b : Bool) → (if b then 0 - 2 ^ id else 0) ≡ 0
-      unmarked true = omega arith
-      unmarked false = refl
+      none : (k : ℕ) (t : Bool) → eqb k 0 ≡ t → GivesBack noNode (begunOf (Refused k))
+      none k true p = rw p refl
+      none k false p = rw p refl
 
--- ---- a lookup
+      go : (f : Fresh) → GivesBack noNode (begunOf f)
+      go (Made n) = ap plainOf (sym (back n))
+      go (Refused k) = none k (eqb k 0) refl
 
-module _ (c : RespondersConf) (n default : ℕ) (s key : List ℕ) (r : Responders) (f : c ≡ plain n default) (e : r ≡ lookup c s key) where
-  answer-is : (x : Responders) → r ≡ x → maskOf x ≡ maskOf (lookup (plain n default) s key)
-  answer-is x g = ap maskOf (sym g ∙ e ∙ ap (λ (z : RespondersConf). lookup z s key) f)
-
-  pub lookup-found : (m : ℕ) → r ≡ Found m → _≡_ {A = Mask} (record { found = 1; mask = m }) (maskOf (lookup (plain n default) s key))
-  lookup-found m g = answer-is (Found m) g
-
-  pub lookup-none : r ≡ NoRoster → _≡_ {A = Mask} (record { found = 0; mask = 0 }) (maskOf (lookup (plain n default) s key))
-  lookup-none g = answer-is NoRoster g
-
-  pub lookup-short : (k : ℕ) → r ≡ Short k → _≡_ {A = Mask} (record { found = 2; mask = 0 }) (maskOf (lookup (plain n default) s key))
-  lookup-short k g = answer-is (Short k) g
+  pub fresh-count : r .count ≡ 0
+  unfolding begunOf
+  fresh-count = rw e (go f)
+    where
+      go : (f : Fresh) → begunOf f .count ≡ 0
+      go (Made n) = refl
+      go (Refused k) = refl

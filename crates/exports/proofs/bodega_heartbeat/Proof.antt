@@ -1,0 +1,30 @@
+use Rattle.exports.proofs.Laws as law
+use borrow.Author.Needs.{needs}
+use Rattle.exports.proofs.bodega_heartbeat.Statement.{statement}
+use Rattle.exports.proofs.bodega_heartbeat.Tie as tie
+
+node-of-requires : tie.Need-node-of-requires
+node-of-requires c κs = search needs
+
+conf-of-requires : tie.Need-conf-of-requires
+conf-of-requires c κs = search needs
+
+heartbeat-requires : tie.Need-heartbeat-requires
+heartbeat-requires c κs = search needs
+
+answered-requires : tie.Need-answered-requires
+answered-requires c κs = search needs
+
+same-length : tie.Need-same-length
+same-length c = search needs
+
+same-length-2 : tie.Need-same-length-2
+same-length-2 c = search needs
+
+returns : tie.Need-returns
+returns c = search (needs, law.heard, law.gives-back)
+
+pub bodega-heartbeat-spec : {M : Type 1} → statement M
+bodega-heartbeat-spec =
+    tie.close
+    (tie.spec node-of-requires conf-of-requires heartbeat-requires answered-requires same-length same-length-2 returns)
