@@ -38,14 +38,14 @@ use Rattle.line_reader.specs.Takes.{ReadsNumbersField}
 use Rattle.call_heartbeat.specs.Heartbeat.{carried, fitting}
 use Rattle.line_kind.specs.declared.CallKind.{CallKind}
 use Rattle.line_kind.specs.declared.CallKind.the-variants as kinds
-use Rattle.line_host.specs.Line.{isHeard, isRead, isCall, callOf}
+use Rattle.line_host.specs.Line.{isHeard, isRead, isCall, callOf, callBy}
 use Rattle.line_host.specs.Follows.{AnswersLine, asByte}
 use Rattle.line_host.proofs.Laws.{not-both, some-left}
 use Rattle.line_calls.specs.declared.ReadFields.{ReadFields}
 use Rattle.line_calls.specs.declared.Asked.{Asked}
 use Rattle.line_calls.specs.declared.HeardFields.{HeardFields}
 use Rattle.line_calls.specs.ReadsRead.{ReadsRead}
-use Rattle.line_calls.specs.Asks.{inByte, width, callBy, noCall, AsksNumbers, Asks, heardBy, ReadsHeard}
+use Rattle.line_calls.specs.Asks.{inByte, width, noCall, AsksNumbers, Asks, heardBy, ReadsHeard}
 
 -- ---- a replica number that no byte has: from 255 on the number of the refusal is the same
 

@@ -16,7 +16,7 @@ use Rattle.line_fields.specs.Number.{numbers, numberAt}
 use Rattle.line_fields.specs.Reads.{between}
 use Rattle.line_kind.specs.declared.CallKind.{CallKind}
 use Rattle.line_kind.specs.declared.CallKind.the-variants.{Guard, Prepared, Reply, Notice, Commit, Bars, Read, Release}
-use Rattle.line_host.specs.Line.{isHeard}
+use Rattle.line_host.specs.Line.{isHeard, callBy}
 use Rattle.line_host.specs.Follows.{asByte}
 use Rattle.line_calls.specs.declared.Asked.{Asked}
 use Rattle.line_calls.specs.declared.HeardFields.{HeardFields}
@@ -34,7 +34,7 @@ inByte (machine.Bars start accept commit exec) = machine.Bars start accept commi
 inByte (machine.Read leases q) = machine.Read leases q
 inByte (machine.Release slot) = machine.Release slot
 
--- ---- lines whose fields are numbers: how many, and the call that they are; a read's line has a key
+-- ---- lines whose fields are numbers: how many; a read's line has a key
 
 abbrev pub width : CallKind → ℕ
 width Guard = 3
@@ -45,16 +45,6 @@ width Commit = 3
 width Bars = 4
 width Read = 0
 width Release = 1
-
-abbrev pub callBy : CallKind → (ℕ → ℕ) → Bytes → machine.Call
-callBy Guard v text = machine.Guard (v 0) (v 1) (v 2)
-callBy Prepared v text = machine.Prepared (v 0)
-callBy Reply v text = machine.Reply (v 0) (v 1) (v 2)
-callBy Notice v text = machine.Notice (v 0) (v 1) (v 2)
-callBy Commit v text = machine.CommitNotice (v 0) (v 1) (v 2)
-callBy Bars v text = machine.Bars (v 0) (v 1) (v 2) (v 3)
-callBy Read v text = machine.Read (v 2) (record { client = v 0; request = v 1; key = text })
-callBy Release v text = machine.Release (v 0)
 
 -- ---- what is read of a line
 

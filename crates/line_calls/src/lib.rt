@@ -16,10 +16,10 @@ ghost use Rattle.line_kind.specs.declared.CallKind.the-variants.{Read};
 ghost use Rattle.line_fields.specs.Split.{fieldsFrom};
 ghost use Rattle.roster_conf.specs.Edits.{holdsRows};
 ghost use Rattle.call_apply.specs.Call.{callOf as applied};
-ghost use Rattle.line_host.specs.Line.{isHeard, isRead, isCall, callOf};
+ghost use Rattle.line_host.specs.Line.{isHeard, isRead, isCall, callOf, callBy};
 ghost use Rattle.line_host.specs.Follows.{AnswersLine};
 ghost use Rattle.line_calls.specs.ReadsRead.{ReadsRead};
-ghost use Rattle.line_calls.specs.Asks.{inByte, width, callBy, noCall, AsksNumbers, Asks, heardBy, ReadsHeard};
+ghost use Rattle.line_calls.specs.Asks.{inByte, width, noCall, AsksNumbers, Asks, heardBy, ReadsHeard};
 
 // The call that a line's fields are, where they are well-formed. A read's key is a part of the line.
 struct Asked {

@@ -9,22 +9,21 @@ use roster_conf::RespondersConf;
 use roster_show::Shown;
 ghost use mathlib.Core.Path.{_≡_};
 ghost use mathlib.Core.Bool.{false};
-ghost use mathlib.Core.List.{[]};
 ghost use Prim.Native.Nat.{_≤_};
-ghost use lib.ListN.{length, getD};
+ghost use lib.ListN.{length};
+ghost use Rattle.line_kind.specs.declared.EditKind.the-variants.{Lead, Range, Whole, Drop, Reset};
 ghost use Rattle.line_fields.specs.Split.{fieldsFrom};
 ghost use Rattle.line_fields.specs.Number.{numbers, numberAt};
-ghost use Rattle.roster_conf.specs.Edit.{SetLeader, SetResponders, SetFull, IntoFiltered, ResetFull};
 ghost use Rattle.roster_conf.specs.Edits.{Edits};
 ghost use Rattle.node.specs.View.{inRange};
-ghost use Rattle.line_host.specs.Line.{isEdit, editOf, isRange};
+ghost use Rattle.line_host.specs.Line.{isEdit, editOf};
 ghost use Rattle.line_host.specs.Follows.{EditsLine};
 ghost use Rattle.line_draft.specs.Drafts.{ReadsRange, ShowsLine, BeginsBy, BeginsLine};
 
 // ---- the draft
 
 fn lead_line(draft: RespondersConf, rows: &[u64], population: u8, line: &[u8], at: usize) -> Edited
-    ensures { λ r. ⌜ EditsLine (numbers 1 (fieldsFrom (now (line .entry)) at)) (SetLeader (numberAt (fieldsFrom (now (line .entry)) at) 0)) population draft (now (rows .entry)) r (now (rows .entry)) ⌝ }
+    ensures { λ r. ⌜ EditsLine (isEdit Lead (fieldsFrom (now (line .entry)) at)) (editOf Lead (fieldsFrom (now (line .entry)) at)) population draft (now (rows .entry)) r (now (rows .entry)) ⌝ }
 {
     let mut a = [0u64; 1];
     if !line_reader::numbers(line, at, 1, &mut a) {
@@ -40,7 +39,7 @@ fn drop_line(
     line: &[u8],
     at: usize,
 ) -> Edited
-    ensures { λ r. ⌜ EditsLine (numbers 1 (fieldsFrom (now (line .entry)) at)) (IntoFiltered (numberAt (fieldsFrom (now (line .entry)) at) 0)) population draft (now (rows .entry)) r (now (rows .exit)) ⌝ }
+    ensures { λ r. ⌜ EditsLine (isEdit Drop (fieldsFrom (now (line .entry)) at)) (editOf Drop (fieldsFrom (now (line .entry)) at)) population draft (now (rows .entry)) r (now (rows .exit)) ⌝ }
 {
     let mut a = [0u64; 1];
     if !line_reader::numbers(line, at, 1, &mut a) {
@@ -56,7 +55,7 @@ fn whole_line(
     line: &[u8],
     at: usize,
 ) -> Edited
-    ensures { λ r. ⌜ EditsLine (numbers 1 (fieldsFrom (now (line .entry)) at)) (SetFull (numberAt (fieldsFrom (now (line .entry)) at) 0)) population draft (now (rows .entry)) r (now (rows .exit)) ⌝ }
+    ensures { λ r. ⌜ EditsLine (isEdit Whole (fieldsFrom (now (line .entry)) at)) (editOf Whole (fieldsFrom (now (line .entry)) at)) population draft (now (rows .entry)) r (now (rows .exit)) ⌝ }
 {
     let mut a = [0u64; 1];
     if !line_reader::numbers(line, at, 1, &mut a) {
@@ -66,7 +65,7 @@ fn whole_line(
 }
 
 fn reset_line(draft: RespondersConf, rows: &[u64], population: u8, line: &[u8], at: usize) -> Edited
-    ensures { λ r. ⌜ EditsLine (numbers 0 (fieldsFrom (now (line .entry)) at)) (ResetFull) population draft (now (rows .entry)) r (now (rows .entry)) ⌝ }
+    ensures { λ r. ⌜ EditsLine (isEdit Reset (fieldsFrom (now (line .entry)) at)) (editOf Reset (fieldsFrom (now (line .entry)) at)) population draft (now (rows .entry)) r (now (rows .entry)) ⌝ }
 {
     if !line_fields::ended(line, at) {
         return Edited::Refused(1);
@@ -127,7 +126,7 @@ fn range_line(
     line: &[u8],
     at: usize,
 ) -> Edited
-    ensures { λ r. ⌜ EditsLine (isRange (fieldsFrom (now (line .entry)) at)) (SetResponders (getD (fieldsFrom (now (line .entry)) at) 0 []) (getD (fieldsFrom (now (line .entry)) at) 1 []) (numberAt (fieldsFrom (now (line .entry)) at) 2)) population draft (now (rows .entry)) r (now (rows .exit)) ⌝ }
+    ensures { λ r. ⌜ EditsLine (isEdit Range (fieldsFrom (now (line .entry)) at)) (editOf Range (fieldsFrom (now (line .entry)) at)) population draft (now (rows .entry)) r (now (rows .exit)) ⌝ }
 {
     let f = range_fields(line, at);
     if !f.good {

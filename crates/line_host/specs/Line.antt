@@ -57,8 +57,11 @@ batchOf (client ∷ request ∷ key ∷ value ∷ fs) = record { client = valueO
 abbrev pub isRecord : List Bytes → Bool
 isRecord fs = leb 2 (length fs) && isNumber (getD fs 0 []) && isNumber (getD fs 1 []) && areGroups (drop 2 fs)
 
+abbrev pub recordOf : List Bytes → Call
+recordOf fs = call.Record (numberAt fs 0) (numberAt fs 1) (batchOf (drop 2 fs))
+
 abbrev pub recordLine : List Bytes → Option Line
-recordLine fs = only (isRecord fs) (CallLine (call.Record (numberAt fs 0) (numberAt fs 1) (batchOf (drop 2 fs))))
+recordLine fs = only (isRecord fs) (CallLine (recordOf fs))
 
 -- ---- the heartbeat
 
@@ -103,15 +106,19 @@ isCall Bars fs = numbers 4 fs
 isCall Read fs = isRead fs
 isCall Release fs = numbers 1 fs
 
+-- the call of these numbers; a read has a key too
+abbrev pub callBy : CallKind → (ℕ → ℕ) → Bytes → Call
+callBy Guard v key = call.Guard (v 0) (v 1) (v 2)
+callBy Prepared v key = call.Prepared (v 0)
+callBy Reply v key = call.Reply (v 0) (v 1) (v 2)
+callBy Notice v key = call.Notice (v 0) (v 1) (v 2)
+callBy Commit v key = call.CommitNotice (v 0) (v 1) (v 2)
+callBy Bars v key = call.Bars (v 0) (v 1) (v 2) (v 3)
+callBy Read v key = call.Read (v 2) (record { client = v 0; request = v 1; key = key })
+callBy Release v key = call.Release (v 0)
+
 abbrev pub callOf : CallKind → List Bytes → Call
-callOf Guard fs = call.Guard (numberAt fs 0) (numberAt fs 1) (numberAt fs 2)
-callOf Prepared fs = call.Prepared (numberAt fs 0)
-callOf Reply fs = call.Reply (numberAt fs 0) (numberAt fs 1) (numberAt fs 2)
-callOf Notice fs = call.Notice (numberAt fs 0) (numberAt fs 1) (numberAt fs 2)
-callOf Commit fs = call.CommitNotice (numberAt fs 0) (numberAt fs 1) (numberAt fs 2)
-callOf Bars fs = call.Bars (numberAt fs 0) (numberAt fs 1) (numberAt fs 2) (numberAt fs 3)
-callOf Read fs = call.Read (numberAt fs 2) (record { client = numberAt fs 0; request = numberAt fs 1; key = getD fs 3 [] })
-callOf Release fs = call.Release (numberAt fs 0)
+callOf k fs = callBy k (numberAt fs) (getD fs 3 [])
 
 -- by its name's kind, and the fields after it
 abbrev pub lineBy : Kind → List Bytes → Option Line

@@ -7,12 +7,10 @@ use node::Node;
 ghost use mathlib.Core.Path.{_≡_};
 ghost use mathlib.Core.Bool.{false};
 ghost use Prim.Native.Nat.{_+_, _*_, _≤_};
-ghost use lib.ListN.{length, drop};
+ghost use lib.ListN.{length};
 ghost use Rattle.words.specs.Writes.{writes};
 ghost use Rattle.line_fields.specs.Split.{fieldsFrom};
-ghost use Rattle.line_fields.specs.Number.{numberAt};
-ghost use Rattle.bodega.specs.Replica.{Record};
-ghost use Rattle.line_host.specs.Line.{isRecord, batchOf};
+ghost use Rattle.line_host.specs.Line.{isRecord, recordOf};
 ghost use Rattle.line_host.specs.Follows.{AnswersLine};
 ghost use Rattle.line_record.specs.Groups.{rowOf, ReadsGroup, ReadsGroups};
 
@@ -141,7 +139,7 @@ pub fn record_line(
     at: usize,
 ) -> Answered
     requires { ⌜ (length (now line) ≤ 1024) × (1542 ≤ length (now groups)) ⌝ }
-    ensures { λ r. ⌜ AnswersLine (isRecord (fieldsFrom (now (line .entry)) at)) (Record (numberAt (fieldsFrom (now (line .entry)) at) 0) (numberAt (fieldsFrom (now (line .entry)) at) 1) (batchOf (drop 2 (fieldsFrom (now (line .entry)) at)))) node (now (mem .entry)) (now (area .entry)) r (now (mem .exit)) (now (area .exit)) ⌝ }
+    ensures { λ r. ⌜ AnswersLine (isRecord (fieldsFrom (now (line .entry)) at)) (recordOf (fieldsFrom (now (line .entry)) at)) node (now (mem .entry)) (now (area .entry)) r (now (mem .exit)) (now (area .exit)) ⌝ }
 {
     let mut a = [0u64; 2];
     let n = line_reader::numbers_from(line, at, 2, &mut a);
