@@ -28,7 +28,7 @@ use Rattle.roster_conf.specs.Conf.{empty, setLeader, setFull, intoFiltered, res
 use Rattle.roster_conf.specs.Edit.{edit, SetResponders}
 use Rattle.bodega.specs.Replica.{Request, ReadReq, Put, Get, Replica, fresh, Call, Heartbeat, Guard, Prepared, Record, Reply, Notice, CommitNotice, Bars, Read, Release}
 use Rattle.bodega.specs.Step.{Step, Refused, Taken, answers}
-use Rattle.bodega.specs.Text.{bytes}
+use Rattle.words.specs.Text.{bytes}
 use Rattle.bodega.proofs.Computes.{computes}
 
 -- the items of a step, or the number of its refusal
@@ -176,7 +176,7 @@ def main():
     for part in ("src", "specs", "proofs"):
         os.makedirs(os.path.join(crate, part))
     with open(os.path.join(repo, "crates.txt"), "w", encoding="utf-8") as f:
-        f.write("".join(listed) + "definitions: bodega items responders\n")
+        f.write("".join(listed) + "definitions: bodega items roster_conf words\n")
     with open(os.path.join(crate, "src", "lib.rt"), "w", encoding="utf-8") as f:
         f.write("// Scripts, by computing.\n")
     open(os.path.join(crate, "specs", "Lib.antt"), "w").close()
