@@ -12,6 +12,7 @@ use lib.ListN.{length, set, replicate, getElem?, length-append, length-replicate
 use borrow.Author.Tests.{lt-ltb, le-ltb, eq-eqb, ne-eqb, not-true, not-false}
 use Rattle.words.specs.Choice.{if_then_else_, ifNone_then_else_}
 use Rattle.words.specs.Writes.{writes}
+use Rattle.layout.specs.Layout.{slotPlaces, heldPlaces, slotWords}
 use Rattle.bitmap.specs.Bitmap.{count}
 use Rattle.items.specs.Item.{Item, encode, places}
 use Rattle.bodega.specs.Replica as machine
@@ -165,7 +166,7 @@ module _ (s : List ℕ) (c : ℕ) (cell : Cell) (e : cellOf cell ≡ shortAt s c
         pub due-open : not u ≡ true → 0 ≡ length items
         due-open k = rw (is-for, h, quorum-of book b quorum u g, not-true u k)
 
-        pub due-reads : (n : ℕ) → not u ≡ false → (n ≡ length (holdingOf here)) × (n ≤ 16) → n ≡ length items
+        pub due-reads : (n : ℕ) → not u ≡ false → (n ≡ length (holdingOf here)) × (n ≤ heldPlaces) → n ≡ length items
         due-reads n k p =
             rw (is-for, h, quorum-of book b quorum u g, not-false u k) (p .0 ∙ sym (length-answers quorum leader noted ∙ ap (λ (l : List machine.ReadReq). length l) (holding-stays peer ballot here)))
 
@@ -206,8 +207,8 @@ module _ (s : List ℕ) (c : ℕ) (cell : Cell) (e : cellOf cell ≡ shortAt s c
           left-is = rw (is-for, h, quorum-here, not-false u k) (ap (λ (i : machine.Instance). emptied i) (p .inst))
 
           module _ (area : List ℕ) where
-            pub release-room : (c < 32) × (7744 ≤ length s) × (length items ≤ places area)
-                → (c < 32) × (7744 ≤ length s₁) × (0 + length (holdingOf (instIn s₁ c)) ≤ places area)
+            pub release-room : (c < slotPlaces) × (slotWords ≤ length s) × (length items ≤ places area)
+                → (c < slotPlaces) × (slotWords ≤ length s₁) × (0 + length (holdingOf (instIn s₁ c)) ≤ places area)
             release-room w =
                 let many : length items ≡ length (holdingOf (instIn s₁ c)) = ap (λ (l : List Item). length l) items-are ∙ length-answers quorum leader (instIn s₁ c) in
                 (w .0, omega (arith, p .puts .size, w .1), omega (arith, many, w .2))
@@ -257,7 +258,7 @@ module _ (quorum : ℕ) (leader : Option ℕ) (peer ballot : ℕ) where
     insts = instsOf start held s
 
     abbrev place : ℕ
-    place = (start + k) % 32
+    place = (start + k) % slotPlaces
 
     abbrev Due : Noticed
     Due = noticedAt quorum leader peer ballot k insts
@@ -275,7 +276,7 @@ module _ (quorum : ℕ) (leader : Option ℕ) (peer ballot : ℕ) where
       pub held-room : (area : List ℕ) → length (Due .items) ≤ places area → length (noticedItems quorum leader peer ballot (eqb (k + 1) held) (instIn s place)) ≤ places area
       held-room area g = rw (ap (λ (w : Noticed). length (w .items)) held-case) at g
 
-      pub notes-held : (area t area′ : List ℕ) (r : ℕ) → held ≤ 32 → Notes quorum leader peer ballot (eqb (k + 1) held) place s area r t area′
+      pub notes-held : (area t area′ : List ℕ) (r : ℕ) → held ≤ slotPlaces → Notes quorum leader peer ballot (eqb (k + 1) held) place s area r t area′
           → NotesAt quorum leader peer ballot start held k s area r t area′
       unfolding instIn
       notes-held area t area′ r w x =
@@ -316,7 +317,7 @@ module _ (quorum : ℕ) (leader : Option ℕ) (peer ballot : ℕ) where
         pub null-room : (area : List ℕ) → length (Due .items) ≤ places area → length (noticedItems quorum leader peer ballot true (instIn s₁ place)) ≤ places area
         null-room area g = rw null-here (rw (ap (λ (w : Noticed). length (w .items)) null-case) at g)
 
-        pub notes-null : (area t area′ : List ℕ) (r : ℕ) → k < 32 → Notes quorum leader peer ballot true place s₁ area r t area′
+        pub notes-null : (area t area′ : List ℕ) (r : ℕ) → k < slotPlaces → Notes quorum leader peer ballot true place s₁ area r t area′
             → NotesAt quorum leader peer ballot start held k s area r t area′
         unfolding instIn
         notes-null area t area′ r w y =

@@ -14,7 +14,8 @@ ghost use Prim.Native.Nat.{ℕ, _+_, _≤_, _<_};
 ghost use lib.Dec.{eqb};
 ghost use lib.ListN.{length};
 ghost use Rattle.ids.specs.Leader.{leaderOf};
-ghost use Rattle.ids.specs.Limits.{window, top};
+ghost use Rattle.ids.specs.Limits.{top};
+ghost use Rattle.layout.specs.Layout.{slotPlaces, slotWords};
 ghost use Rattle.items.specs.Item.{places};
 ghost use Rattle.bodega.specs.Replica.{ReadReq};
 ghost use Rattle.inst_cell.specs.Cell.{bookOf};
@@ -48,7 +49,7 @@ fn is_for(bal: Ballot, ballot: Ballot, last: bool) -> bool
 
 // Reads that stand at place c without a notice book are none of the slot's.
 fn clear_unseen(s: &mut [u64], c: usize, book: ReplicaBk)
-    requires { ⌜ (c < 32) × (7744 ≤ length (now s)) ⌝ }
+    requires { ⌜ (c < slotPlaces) × (slotWords ≤ length (now s)) ⌝ }
     ensures { λ _. ⌜ Puts (now (s .entry)) c (shortAt (now (s .entry)) c) (batchAt (now (s .entry)) c) (seenBy (bookOf book) (readsAt (now (s .entry)) c)) (now (s .exit)) ⌝ }
 {
     let ReplicaBk::Some(_b) = book else {
@@ -59,7 +60,7 @@ fn clear_unseen(s: &mut [u64], c: usize, book: ReplicaBk)
 
 // The slot at place c with the notice.
 fn put_notice(s: &mut [u64], c: usize, peer: Replica, ballot: Ballot)
-    requires { ⌜ (c < 32) × (7744 ≤ length (now s)) ⌝ }
+    requires { ⌜ (c < slotPlaces) × (slotWords ≤ length (now s)) ⌝ }
     ensures { λ _. ⌜ Sets (now (s .entry)) c (withNotice (peer .0) (ballot .0) (instIn (now (s .entry)) c)) (now (s .exit)) ⌝ }
 {
     let cell = insts::load(s, c);
@@ -81,7 +82,7 @@ fn put_notice(s: &mut [u64], c: usize, peer: Replica, ballot: Ballot)
 
 // How many items a notice has at the slot of place c.
 fn due_in(s: &[u64], c: usize, last: bool, quorum: u8, peer: Replica, ballot: Ballot) -> usize
-    requires { ⌜ (c < 32) × (7744 ≤ length (now s)) ⌝ }
+    requires { ⌜ (c < slotPlaces) × (slotWords ≤ length (now s)) ⌝ }
     ensures { λ r. ⌜ ((leader : Option ℕ) → r ≡ length (noticedItems quorum leader (peer .0) (ballot .0) last (instIn (now (s .entry)) c))) ⌝ }
 {
     let cell = insts::load(s, c);
@@ -108,7 +109,7 @@ fn notice_in(
     ballot: Ballot,
     area: &mut [u64],
 ) -> usize
-    requires { ⌜ (c < 32) × (7744 ≤ length (now s)) × (length (noticedItems quorum (leaderOf leader) (peer .0) (ballot .0) last (instIn (now s) c)) ≤ places (now area)) ⌝ }
+    requires { ⌜ (c < slotPlaces) × (slotWords ≤ length (now s)) × (length (noticedItems quorum (leaderOf leader) (peer .0) (ballot .0) last (instIn (now s) c)) ≤ places (now area)) ⌝ }
     ensures { λ r. ⌜ Notes quorum (leaderOf leader) (peer .0) (ballot .0) last c (now (s .entry)) (now (area .entry)) r (now (s .exit)) (now (area .exit)) ⌝ }
 {
     let cell = insts::load(s, c);
@@ -127,7 +128,7 @@ fn notice_in(
 
 // How many slots are held once there are null ones up to the k-th.
 pub fn held_after(held: usize, k: usize) -> usize
-    requires { ⌜ k < 32 ⌝ }
+    requires { ⌜ k < slotPlaces ⌝ }
     ensures { λ r. ⌜ r ≡ after held k ⌝ }
 {
     let next = k + 1;
@@ -147,13 +148,13 @@ pub fn due(
     peer: Replica,
     ballot: Ballot,
 ) -> usize
-    requires { ⌜ (start .0 ≤ top) × (held ≤ window) × (k < 32) × (7744 ≤ length (now s)) ⌝ }
+    requires { ⌜ (start .0 ≤ top) × (held ≤ slotPlaces) × (k < slotPlaces) × (slotWords ≤ length (now s)) ⌝ }
     ensures { λ r. ⌜ ((leader : Option ℕ) → r ≡ length (noticedAt quorum leader (peer .0) (ballot .0) k (instsOf (start .0) held (now (s .entry))) .items)) ⌝ }
 {
     if held <= k {
         return 0;
     }
-    let c = ((start.0 + k as u64) % 32) as usize;
+    let c = ((start.0 + k as u64) % layout::PLACES) as usize;
     let last = k + 1 == held;
     due_in(s, c, last, quorum, peer, ballot)
 }
@@ -170,10 +171,10 @@ pub fn notice_at(
     ballot: Ballot,
     area: &mut [u64],
 ) -> usize
-    requires { ⌜ (start .0 ≤ top) × (held ≤ window) × (k < 32) × (7744 ≤ length (now s)) × (length (noticedAt quorum (leaderOf leader) (peer .0) (ballot .0) k (instsOf (start .0) held (now s)) .items) ≤ places (now area)) ⌝ }
+    requires { ⌜ (start .0 ≤ top) × (held ≤ slotPlaces) × (k < slotPlaces) × (slotWords ≤ length (now s)) × (length (noticedAt quorum (leaderOf leader) (peer .0) (ballot .0) k (instsOf (start .0) held (now s)) .items) ≤ places (now area)) ⌝ }
     ensures { λ r. ⌜ NotesAt quorum (leaderOf leader) (peer .0) (ballot .0) (start .0) held k (now (s .entry)) (now (area .entry)) r (now (s .exit)) (now (area .exit)) ⌝ }
 {
-    let c = ((start.0 + k as u64) % 32) as usize;
+    let c = ((start.0 + k as u64) % layout::PLACES) as usize;
     if k < held {
         let last = k + 1 == held;
         return notice_in(s, c, last, quorum, leader, peer, ballot, area);

@@ -9,6 +9,7 @@ use lib.ListN.{length, drop}
 use borrow.Author.Tests.{lt-ltb, le-ltb, not-true, not-false}
 use Rattle.words.specs.Choice.{if_then_else_}
 use Rattle.words.specs.Writes.{writes}
+use Rattle.layout.specs.Layout.{slotPlaces}
 use Rattle.items.specs.Item.{Commit, encode, places}
 use Rattle.items.specs.Area.{Put, putItem}
 use Rattle.items.proofs.Laws.{put-area}
@@ -139,19 +140,19 @@ module _ (start n ballot bar : ℕ) where
     abbrev pub GoingAt : ℕ → ℕ → List ℕ → List ℕ → Type 0
     GoingAt = Going (stopsAt ballot) marked markItems start n (bar - start) (commit - start) place s₀ area₀
 
-    module _ (k at : ℕ) (s area : List ℕ) (y : GoingAt k at s area) (l : k < min n (bar - start)) (t : Bool) (e : t ≡ stopsAt ballot (instIn s ((start + k) % 32))) (f : t ≡ false) where
-      item-is : oneIfOpen (instIn s ((start + k) % 32)) ≡ length (markItems (start + k) (instIn s ((start + k) % 32)))
-      item-is = one-item (start + k) (instIn s ((start + k) % 32))
+    module _ (k at : ℕ) (s area : List ℕ) (y : GoingAt k at s area) (l : k < min n (bar - start)) (t : Bool) (e : t ≡ stopsAt ballot (instIn s ((start + k) % slotPlaces))) (f : t ≡ false) where
+      item-is : oneIfOpen (instIn s ((start + k) % slotPlaces)) ≡ length (markItems (start + k) (instIn s ((start + k) % slotPlaces)))
+      item-is = one-item (start + k) (instIn s ((start + k) % slotPlaces))
 
       pub mark-fits : start ≤ commit → commit ≤ start + n → place + length (walked start n commit ballot bar s₀ .items) ≤ places area₀
-          → at + oneIfOpen (instIn s ((start + k) % 32)) ≤ places area
+          → at + oneIfOpen (instIn s ((start + k) % slotPlaces)) ≤ places area
       mark-fits h g r =
           rw item-is
           (fits (stopsAt ballot) marked markItems start n (bar - start) (commit - start) place s₀ area₀ k at s area y l t e f (rw (left-start commit s₀ h g) r))
 
-      pub mark-step : n ≤ 32 → (r : ℕ) (u area′ : List ℕ) → Marks ((start + k) % 32) at (start + k) s area r u area′ → GoingAt (k + 1) r u area′
+      pub mark-step : n ≤ slotPlaces → (r : ℕ) (u area′ : List ℕ) → Marks ((start + k) % slotPlaces) at (start + k) s area r u area′ → GoingAt (k + 1) r u area′
       mark-step w r u area′ m =
-          going-step (stopsAt ballot) marked markItems start n (bar - start) (commit - start) place s₀ area₀ k at s area y l t e f w r u area′ (m .marked) (marked-is s ((start + k) % 32))
+          going-step (stopsAt ballot) marked markItems start n (bar - start) (commit - start) place s₀ area₀ k at s area y l t e f w r u area′ (m .marked) (marked-is s ((start + k) % slotPlaces))
           (m .items) (m .next ∙ ap (λ (j : ℕ). at + j) item-is)
 
     pub advances : start ≤ commit → commit ≤ start + n → {r : ℕ} {t area′ : List ℕ} → Passed (stopsAt ballot) marked markItems start n (bar - start) (commit - start) place s₀ area₀ r t area′

@@ -8,6 +8,7 @@ use native.Mathlib.Decide.{decLt}
 use lib.ListN.{length, drop, length-append, take-append-drop}
 use Rattle.words.specs.Choice.{if_then_else_}
 use Rattle.words.specs.Writes.{writes, length-writes}
+use Rattle.layout.specs.Layout.{slotPlaces}
 use Rattle.items.specs.Item.{Item, encode, places}
 use Rattle.bodega.specs.Replica.{Instance, Request, ReadReq}
 use Rattle.bodega.specs.Heartbeat.{Walk}
@@ -53,7 +54,7 @@ module _ (stop : Instance → Bool) (f : Instance → Instance) (g : ℕ → Ins
 
     module _ (k : ℕ) (s : List ℕ) (h : k < min n end) where
       abbrev here : Instance
-      here = instIn s ((start + k) % 32)
+      here = instIn s ((start + k) % slotPlaces)
 
       one-less : end - k ≡ suc (end - (k + 1))
       one-less = omega arith
@@ -77,11 +78,11 @@ module _ (stop : Instance → Bool) (f : Instance → Instance) (g : ℕ → Ins
       pub count-end : min n end ≤ k → count ≡ total
       count-end h = let e : length (left k s .items) ≡ 0 = rw (left-end k s h) in omega arith
 
-      module _ (h : k < min n end) (t : Bool) (e : t ≡ stop (instIn s ((start + k) % 32))) where
+      module _ (h : k < min n end) (t : Bool) (e : t ≡ stop (instIn s ((start + k) % slotPlaces))) where
         pub count-stop : t ≡ true → count ≡ total
         count-stop y = let z : length (left k s .items) ≡ 0 = rw (left-stop k s h (sym e ∙ y)) in omega arith
 
-        pub count-step : t ≡ false → (r : ℕ) → r ≡ length (g (start + k) (instIn s ((start + k) % 32))) → count + r + length (left (k + 1) s .items) ≡ total
+        pub count-step : t ≡ false → (r : ℕ) → r ≡ length (g (start + k) (instIn s ((start + k) % slotPlaces))) → count + r + length (left (k + 1) s .items) ≡ total
         count-step y r q = omega (arith, left-items k s h (sym e ∙ y))
 
     -- ---- the pass done, from the slot of number `from` and from a place of the area on
@@ -121,13 +122,13 @@ module _ (stop : Instance → Bool) (f : Instance → Instance) (g : ℕ → Ins
         pub going-end : k ≤ n → min n end ≤ k → Passed at s area
         going-end h e = done h (left-end k s e)
 
-        module _ (h : k < min n end) (t : Bool) (e : t ≡ stop (instIn s ((start + k) % 32))) where
+        module _ (h : k < min n end) (t : Bool) (e : t ≡ stop (instIn s ((start + k) % slotPlaces))) where
           pub going-stop : t ≡ true → Passed at s area
           going-stop z = done (omega arith) (left-stop k s h (sym e ∙ z))
 
           module _ (z : t ≡ false) where
             abbrev new : List Item
-            new = g (start + k) (instIn s ((start + k) % 32))
+            new = g (start + k) (instIn s ((start + k) % slotPlaces))
 
             more : length (left k s .items) ≡ length new + length (left (k + 1) s .items)
             more = left-items k s h (sym e ∙ z)
@@ -136,8 +137,8 @@ module _ (stop : Instance → Bool) (f : Instance → Instance) (g : ℕ → Ins
             pub fits : place + length (left from s₀ .items) ≤ places area₀ → at + length new ≤ places area
             fits r = let q = y .next in rw (y .room) (omega (arith, more))
 
-            module _ {x : Short} {a : List Request} {b : List ReadReq} (w : n ≤ 32) (r : ℕ) (u area′ : List ℕ) (p : Puts s ((start + k) % 32) x a b u)
-                (i : instOf x a b ≡ f (instIn s ((start + k) % 32))) (o : area′ ≡ writes area (at * 6) (encode new)) (q : r ≡ at + length new) where
+            module _ {x : Short} {a : List Request} {b : List ReadReq} (w : n ≤ slotPlaces) (r : ℕ) (u area′ : List ℕ) (p : Puts s ((start + k) % slotPlaces) x a b u)
+                (i : instOf x a b ≡ f (instIn s ((start + k) % slotPlaces))) (o : area′ ≡ writes area (at * 6) (encode new)) (q : r ≡ at + length new) where
               left-same : left (k + 1) u ≡ left (k + 1) s
               unfolding left
               left-same = rw (rest-after start n k p (omega arith) w)
@@ -145,7 +146,7 @@ module _ (stop : Instance → Bool) (f : Instance → Instance) (g : ℕ → Ins
               insts-are : instsOf start (k + 1) u ++ left (k + 1) u .insts ≡ instsOf start from s₀ ++ left from s₀ .insts
               insts-are =
                   rw (left-same, appended start k p (omega arith), i)
-                  (append-assoc (instsOf start k s) (f (instIn s ((start + k) % 32)) ∷ []) (left (k + 1) s .insts)
+                  (append-assoc (instsOf start k s) (f (instIn s ((start + k) % slotPlaces)) ∷ []) (left (k + 1) s .insts)
                   ∙ sym (ap (λ (v : Walk). instsOf start k s ++ v .insts) (left-pass k s h (sym e ∙ z))) ∙ y .insts)
 
               items-are : writes area′ (r * 6) (encode (left (k + 1) u .items)) ≡ writes area₀ (place * 6) (encode (left from s₀ .items))

@@ -7,7 +7,8 @@ ghost use mathlib.Core.Path.{_≡_};
 ghost use Prim.Native.Nat.{_+_, _-_, _≤_, _<_, min};
 ghost use lib.Dec.{ltb};
 ghost use lib.ListN.{length};
-ghost use Rattle.ids.specs.Limits.{window, top};
+ghost use Rattle.ids.specs.Limits.{top};
+ghost use Rattle.layout.specs.Layout.{slotPlaces, slotWords};
 ghost use Rattle.items.specs.Item.{places};
 ghost use Rattle.bodega.specs.Replica.{order};
 ghost use Rattle.inst_cell.specs.Cell.{statusOf};
@@ -29,7 +30,7 @@ fn is_below_accepting(status: Status) -> bool
 
 // Whether the walk ends before the slot at place c.
 fn stops(s: &[u64], c: usize, ballot: Ballot) -> bool
-    requires { ⌜ (c < 32) × (7744 ≤ length (now s)) ⌝ }
+    requires { ⌜ (c < slotPlaces) × (slotWords ≤ length (now s)) ⌝ }
     ensures { λ r. ⌜ r ≡ stopsAt (ballot .0) (instIn (now (s .entry)) c) ⌝ }
 {
     let cell = insts::load(s, c);
@@ -42,7 +43,7 @@ fn stops(s: &[u64], c: usize, ballot: Ballot) -> bool
 
 // How many items an open slot gives.
 pub fn one_if_open(s: &[u64], c: usize) -> usize
-    requires { ⌜ (c < 32) × (7744 ≤ length (now s)) ⌝ }
+    requires { ⌜ (c < slotPlaces) × (slotWords ≤ length (now s)) ⌝ }
     ensures { λ r. ⌜ r ≡ oneIfOpen (instIn (now (s .entry)) c) ⌝ }
 {
     if insts::is_open(s, c) {
@@ -53,7 +54,7 @@ pub fn one_if_open(s: &[u64], c: usize) -> usize
 
 // A slot that the walk passes: marked Committed, with its item, unless it was already. Gives the next place of the area.
 fn mark(s: &mut [u64], c: usize, area: &mut [u64], place: usize, slot: Slot) -> usize
-    requires { ⌜ (c < 32) × (7744 ≤ length (now s)) × (place + oneIfOpen (instIn (now s) c) ≤ places (now area)) ⌝ }
+    requires { ⌜ (c < slotPlaces) × (slotWords ≤ length (now s)) × (place + oneIfOpen (instIn (now s) c) ≤ places (now area)) ⌝ }
     ensures { λ r. ⌜ Marks c place (slot .0) (now (s .entry)) (now (area .entry)) r (now (s .exit)) (now (area .exit)) ⌝ }
 {
     if !insts::is_open(s, c) {
@@ -87,14 +88,14 @@ pub fn count_commits(
     ballot: Ballot,
     bar: Slot,
 ) -> usize
-    requires { ⌜ (start .0 ≤ commit .0) × (commit .0 ≤ start .0 + n) × (start .0 ≤ top) × (n ≤ window) × (7744 ≤ length (now s)) ⌝ }
+    requires { ⌜ (start .0 ≤ commit .0) × (commit .0 ≤ start .0 + n) × (start .0 ≤ top) × (n ≤ slotPlaces) × (slotWords ≤ length (now s)) ⌝ }
     ensures { λ r. ⌜ r ≡ length (walked (start .0) n (commit .0) (ballot .0) (bar .0) (now (s .entry)) .items) ⌝ }
 {
     let to = reach(start, n, bar);
     let mut k = (commit.0 - start.0) as usize;
     let mut count = 0;
     while k < to {
-        let c = ((start.0 + k as u64) % 32) as usize;
+        let c = ((start.0 + k as u64) % layout::PLACES) as usize;
         if stops(s, c, ballot) {
             return count;
         }
@@ -115,7 +116,7 @@ pub fn advance(
     ballot: Ballot,
     bar: Slot,
 ) -> usize
-    requires { ⌜ (start .0 ≤ commit .0) × (commit .0 ≤ start .0 + n) × (start .0 ≤ top) × (n ≤ window) × (7744 ≤ length (now s)) × (place + length (walked (start .0) n (commit .0) (ballot .0) (bar .0) (now s) .items) ≤ places (now area)) ⌝ }
+    requires { ⌜ (start .0 ≤ commit .0) × (commit .0 ≤ start .0 + n) × (start .0 ≤ top) × (n ≤ slotPlaces) × (slotWords ≤ length (now s)) × (place + length (walked (start .0) n (commit .0) (ballot .0) (bar .0) (now s) .items) ≤ places (now area)) ⌝ }
     ensures { λ r. ⌜ Advances place (start .0) n (commit .0) (ballot .0) (bar .0) (now (s .entry)) (now (area .entry)) r (now (s .exit)) (now (area .exit)) ⌝ }
 {
     let to = reach(start, n, bar);
@@ -123,7 +124,7 @@ pub fn advance(
     let mut at = place;
     while k < to {
         let slot = start.0 + k as u64;
-        let c = (slot % 32) as usize;
+        let c = (slot % layout::PLACES) as usize;
         if stops(s, c, ballot) {
             return at;
         }

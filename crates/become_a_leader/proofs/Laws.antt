@@ -9,6 +9,7 @@ use lib.ListN.{length, drop, replicate, take-append-drop}
 use borrow.Author.Tests.{not-true, not-false}
 use Rattle.words.specs.Choice.{if_then_else_}
 use Rattle.words.specs.Writes.{writes}
+use Rattle.layout.specs.Layout.{slotPlaces, heldPlaces}
 use Rattle.items.specs.Item.{Item, Prelog, encode, places}
 use Rattle.items.specs.Area.{Put, putItem}
 use Rattle.items.proofs.Laws.{put-area}
@@ -34,7 +35,7 @@ use Rattle.become_a_leader.proofs.Lists.{never, answersAt, prelog-pass,
 
 module _ (start n : ℕ) (s : List ℕ) where
   abbrev here : ℕ → Instance
-  here k = instIn s ((start + k) % 32)
+  here k = instIn s ((start + k) % slotPlaces)
 
   pub any-here : (t : Bool) → t ≡ any (λ (i : Instance). isOpen (i .status)) (instsOf start n s) → anyOpen (instsOf start n s) ≡ t
   any-here t e = sym (e ∙ slot.any-is (instsOf start n s))
@@ -85,7 +86,7 @@ module _ (start n : ℕ) (s : List ℕ) (t : Bool) (e : t ≡ any (λ (i : Insta
   pub one-slot-more : t ≡ false → n + 1 ≡ slotsAfter n (instsOf start n s)
   one-slot-more f = sym (rw (any-here start n s t e ∙ f))
 
-  pub pad-fits : t ≡ false → slotsAfter n (instsOf start n s) ≤ 32 → n + 1 ≤ 32
+  pub pad-fits : t ≡ false → slotsAfter n (instsOf start n s) ≤ slotPlaces → n + 1 ≤ slotPlaces
   pad-fits f h = rw (← (one-slot-more f)) at h
 
   pub opens-same : t ≡ true → Opens start n s n s
@@ -113,8 +114,8 @@ module _ (start n : ℕ) (s : List ℕ) (t : Bool) (e : t ≡ any (λ (i : Insta
     pub within : (from ≤ last) × (last < n)
     within = (omega (arith, slot.first-last (instsOf start n s)), omega (arith, slot.last-within (instsOf start n s) some-open, length-insts start n s))
 
-    pub counts : (opens held : ℕ) → (opens ≡ length (prelogs start (instsOf start n s))) × (opens ≤ 32)
-        → (held ≡ length (releasedFrom 0 none (last + 1 - from) (drop from (instsOf start n s)) .items)) × (held ≤ 512)
+    pub counts : (opens held : ℕ) → (opens ≡ length (prelogs start (instsOf start n s))) × (opens ≤ slotPlaces)
+        → (held ≡ length (releasedFrom 0 none (last + 1 - from) (drop from (instsOf start n s)) .items)) × (held ≤ slotPlaces * heldPlaces)
         → (quorum : ℕ) (leader : Option ℕ) (ballot : ℕ) → 2 + opens + held ≡ length (stepUp start quorum leader ballot (instsOf start n s) .items)
     counts opens held o d quorum leader ballot = count-some start quorum leader ballot (instsOf start n s) some-open from last opens held g h (o .0) (d .0)
 
@@ -198,18 +199,18 @@ module _ (start n ballot : ℕ) where
     Prelogging = Going never (reprepared ballot) prelogOf start n n 0 place s₀ area₀
 
     module _ (k at : ℕ) (s area : List ℕ) (y : Prelogging k at s area) (h : k < n) where
-      item-is : oneIfOpen (instIn s ((start + k) % 32)) ≡ length (prelogOf (start + k) (instIn s ((start + k) % 32)))
-      item-is = one-item (start + k) (instIn s ((start + k) % 32))
+      item-is : oneIfOpen (instIn s ((start + k) % slotPlaces)) ≡ length (prelogOf (start + k) (instIn s ((start + k) % slotPlaces)))
+      item-is = one-item (start + k) (instIn s ((start + k) % slotPlaces))
 
-      pub prelog-fits : place + length (prelogs start (instsOf start n s₀)) ≤ places area₀ → at + oneIfOpen (instIn s ((start + k) % 32)) ≤ places area
+      pub prelog-fits : place + length (prelogs start (instsOf start n s₀)) ≤ places area₀ → at + oneIfOpen (instIn s ((start + k) % slotPlaces)) ≤ places area
       prelog-fits r =
           rw item-is
           (fits never (reprepared ballot) prelogOf start n n 0 place s₀ area₀ k at s area y (omega arith) false refl refl (rw (prelog-left s₀) r))
 
-      pub prelog-step : n ≤ 32 → (r : ℕ) (u area′ : List ℕ) → Prelogs ((start + k) % 32) at (start + k) ballot s area r u area′ → Prelogging (k + 1) r u area′
+      pub prelog-step : n ≤ slotPlaces → (r : ℕ) (u area′ : List ℕ) → Prelogs ((start + k) % slotPlaces) at (start + k) ballot s area r u area′ → Prelogging (k + 1) r u area′
       prelog-step w r u area′ p =
           going-step never (reprepared ballot) prelogOf start n n 0 place s₀ area₀ k at s area y (omega arith) false refl refl w r u area′ (p .prepared)
-          (anew-is ballot s ((start + k) % 32)) (p .items) (p .next ∙ ap (λ (j : ℕ). at + j) item-is)
+          (anew-is ballot s ((start + k) % slotPlaces)) (p .items) (p .next ∙ ap (λ (j : ℕ). at + j) item-is)
 
 pub count-open-start : (start n : ℕ) (s : List ℕ) → 0 + length (prelogLeft start n 0 0 s .items) ≡ length (prelogs start (instsOf start n s))
 count-open-start start n s = rw (prelog-left start n 0 s) (omega arith)
@@ -230,19 +231,19 @@ module _ (start n to quorum : ℕ) (leader : Option ℕ) where
 
     module _ (k at : ℕ) (s area : List ℕ) (y : Releasing k at s area) (h : k < to) (g : to ≤ n) where
       pub release-fits : from ≤ n → place + length (releasedFrom quorum leader (to - from) (drop from (instsOf start n s₀)) .items) ≤ places area₀
-          → at + length (holdingOf (instIn s ((start + k) % 32))) ≤ places area
+          → at + length (holdingOf (instIn s ((start + k) % slotPlaces))) ≤ places area
       release-fits f r =
-          rw (← (length-answers quorum leader (instIn s ((start + k) % 32))))
+          rw (← (length-answers quorum leader (instIn s ((start + k) % slotPlaces))))
           (fits never emptied (answersAt quorum leader) start n to from place s₀ area₀ k at s area y (omega arith) false refl refl (rw (held-left from s₀ f) r))
 
       pub release-next : from ≤ n → place + length (releasedFrom quorum leader (to - from) (drop from (instsOf start n s₀)) .items) ≤ places area₀ → (r : ℕ) (u area′ : List ℕ)
-          → Releases quorum leader ((start + k) % 32) at s area r u area′ → at + r ≤ places area
-      release-next f q r u area′ p = let z : r ≡ length (holdingOf (instIn s ((start + k) % 32))) = p .count ∙ length-answers quorum leader (instIn s ((start + k) % 32)) in rw z (release-fits f q)
+          → Releases quorum leader ((start + k) % slotPlaces) at s area r u area′ → at + r ≤ places area
+      release-next f q r u area′ p = let z : r ≡ length (holdingOf (instIn s ((start + k) % slotPlaces))) = p .count ∙ length-answers quorum leader (instIn s ((start + k) % slotPlaces)) in rw z (release-fits f q)
 
-      pub release-step : n ≤ 32 → (r : ℕ) (u area′ : List ℕ) → Releases quorum leader ((start + k) % 32) at s area r u area′ → Releasing (k + 1) (at + r) u area′
+      pub release-step : n ≤ slotPlaces → (r : ℕ) (u area′ : List ℕ) → Releases quorum leader ((start + k) % slotPlaces) at s area r u area′ → Releasing (k + 1) (at + r) u area′
       release-step w r u area′ p =
           going-step never emptied (answersAt quorum leader) start n to from place s₀ area₀ k at s area y (omega arith) false refl refl w (at + r) u area′ (p .emptied)
-          (emptied-is s ((start + k) % 32)) (p .items) (ap (λ (j : ℕ). at + j) (p .count))
+          (emptied-is s ((start + k) % slotPlaces)) (p .items) (ap (λ (j : ℕ). at + j) (p .count))
 
 pub count-held-start : (start n to from : ℕ) (s : List ℕ) → from ≤ n
     → 0 + length (heldLeft start n to 0 none from s .items) ≡ length (releasedFrom 0 none (to - from) (drop from (instsOf start n s)) .items)

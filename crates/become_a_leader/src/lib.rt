@@ -8,10 +8,11 @@ use inst_cell::Status;
 use items::Item;
 ghost use mathlib.Core.Path.{_≡_};
 ghost use mathlib.Core.Option.{Option, none};
-ghost use Prim.Native.Nat.{ℕ, _+_, _-_, _≤_, _<_};
+ghost use Prim.Native.Nat.{ℕ, _+_, _-_, _*_, _≤_, _<_};
 ghost use lib.ListN.{length, drop};
 ghost use Rattle.ids.specs.Leader.{leaderOf};
-ghost use Rattle.ids.specs.Limits.{window, top};
+ghost use Rattle.ids.specs.Limits.{top};
+ghost use Rattle.layout.specs.Layout.{slotPlaces, heldPlaces, slotWords};
 ghost use Rattle.items.specs.Item.{places};
 ghost use Rattle.bodega.specs.Conflease.{firstOpen, lastOpen, prelogs};
 ghost use Rattle.insts.specs.Slots.{shortAt, batchAt, readsAt, instIn, instsOf, Puts};
@@ -20,7 +21,7 @@ ghost use Rattle.become_a_leader.specs.StepUp.{slotsAfter, preparedAnew,
 
 // How many slots are held after it: one more where none is open.
 pub fn slots_after(s: &[u64], start: Slot, n: usize) -> usize
-    requires { ⌜ (start .0 ≤ top) × (n ≤ window) × (7744 ≤ length (now s)) ⌝ }
+    requires { ⌜ (start .0 ≤ top) × (n ≤ slotPlaces) × (slotWords ≤ length (now s)) ⌝ }
     ensures { λ r. ⌜ r ≡ slotsAfter n (instsOf (start .0) n (now (s .entry))) ⌝ }
 {
     if insts::any_open(s, start, n) {
@@ -31,12 +32,12 @@ pub fn slots_after(s: &[u64], start: Slot, n: usize) -> usize
 
 // The number of the first open slot of n, n where none is.
 fn first_open(s: &[u64], start: Slot, n: usize) -> usize
-    requires { ⌜ (start .0 ≤ top) × (n ≤ window) × (7744 ≤ length (now s)) ⌝ }
+    requires { ⌜ (start .0 ≤ top) × (n ≤ slotPlaces) × (slotWords ≤ length (now s)) ⌝ }
     ensures { λ r. ⌜ r ≡ firstOpen (instsOf (start .0) n (now (s .entry))) ⌝ }
 {
     let mut i = 0;
     while i < n {
-        let c = ((start.0 + i as u64) % 32) as usize;
+        let c = ((start.0 + i as u64) % layout::PLACES) as usize;
         if insts::is_open(s, c) {
             return i;
         }
@@ -47,13 +48,13 @@ fn first_open(s: &[u64], start: Slot, n: usize) -> usize
 
 // The number of the last open slot of n, n where none is.
 fn last_open(s: &[u64], start: Slot, n: usize) -> usize
-    requires { ⌜ (start .0 ≤ top) × (n ≤ window) × (7744 ≤ length (now s)) ⌝ }
+    requires { ⌜ (start .0 ≤ top) × (n ≤ slotPlaces) × (slotWords ≤ length (now s)) ⌝ }
     ensures { λ r. ⌜ r ≡ lastOpen (instsOf (start .0) n (now (s .entry))) ⌝ }
 {
     let mut i = n;
     while 0 < i {
         i -= 1;
-        let c = ((start.0 + i as u64) % 32) as usize;
+        let c = ((start.0 + i as u64) % layout::PLACES) as usize;
         if insts::is_open(s, c) {
             return i;
         }
@@ -63,13 +64,13 @@ fn last_open(s: &[u64], start: Slot, n: usize) -> usize
 
 // How many of n slots are open.
 fn count_open(s: &[u64], start: Slot, n: usize) -> usize
-    requires { ⌜ (start .0 ≤ top) × (n ≤ window) × (7744 ≤ length (now s)) ⌝ }
-    ensures { λ r. ⌜ (r ≡ length (prelogs (start .0) (instsOf (start .0) n (now (s .entry))))) × (r ≤ window) ⌝ }
+    requires { ⌜ (start .0 ≤ top) × (n ≤ slotPlaces) × (slotWords ≤ length (now s)) ⌝ }
+    ensures { λ r. ⌜ (r ≡ length (prelogs (start .0) (instsOf (start .0) n (now (s .entry))))) × (r ≤ slotPlaces) ⌝ }
 {
     let mut k = 0;
     let mut count = 0;
     while k < n {
-        let c = ((start.0 + k as u64) % 32) as usize;
+        let c = ((start.0 + k as u64) % layout::PLACES) as usize;
         count += advance_commit_bar::one_if_open(s, c);
         k += 1;
     }
@@ -78,13 +79,13 @@ fn count_open(s: &[u64], start: Slot, n: usize) -> usize
 
 // How many reads the slots hold from the one of number `from` up to that of number `to`.
 fn count_held(s: &[u64], start: Slot, n: usize, from: usize, to: usize) -> usize
-    requires { ⌜ (start .0 ≤ top) × (from ≤ to) × (to ≤ n) × (n ≤ window) × (7744 ≤ length (now s)) ⌝ }
-    ensures { λ r. ⌜ (r ≡ length (releasedFrom 0 none (to - from) (drop from (instsOf (start .0) n (now (s .entry)))) .items)) × (r ≤ 512) ⌝ }
+    requires { ⌜ (start .0 ≤ top) × (from ≤ to) × (to ≤ n) × (n ≤ slotPlaces) × (slotWords ≤ length (now s)) ⌝ }
+    ensures { λ r. ⌜ (r ≡ length (releasedFrom 0 none (to - from) (drop from (instsOf (start .0) n (now (s .entry)))) .items)) × (r ≤ slotPlaces * heldPlaces) ⌝ }
 {
     let mut k = from;
     let mut count = 0;
     while k < to {
-        let c = ((start.0 + k as u64) % 32) as usize;
+        let c = ((start.0 + k as u64) % layout::PLACES) as usize;
         count += release_held_reads::holding(s, c);
         k += 1;
     }
@@ -93,7 +94,7 @@ fn count_held(s: &[u64], start: Slot, n: usize, from: usize, to: usize) -> usize
 
 // How many items it has.
 pub fn count_items(s: &[u64], start: Slot, n: usize) -> usize
-    requires { ⌜ (start .0 ≤ top) × (n ≤ window) × (7744 ≤ length (now s)) ⌝ }
+    requires { ⌜ (start .0 ≤ top) × (n ≤ slotPlaces) × (slotWords ≤ length (now s)) ⌝ }
     ensures { λ r. ⌜ ((quorum : ℕ) (leader : Option ℕ) (ballot : ℕ) → r ≡ length (stepUp (start .0) quorum leader ballot (instsOf (start .0) n (now (s .entry))) .items)) ⌝ }
 {
     if !insts::any_open(s, start, n) {
@@ -108,7 +109,7 @@ pub fn count_items(s: &[u64], start: Slot, n: usize) -> usize
 
 // A null slot after the n that are held, where none is open. Gives how many there are then.
 fn open_one(s: &mut [u64], start: Slot, n: usize) -> usize
-    requires { ⌜ (start .0 ≤ top) × (slotsAfter n (instsOf (start .0) n (now s)) ≤ window) × (n ≤ window) × (7744 ≤ length (now s)) ⌝ }
+    requires { ⌜ (start .0 ≤ top) × (slotsAfter n (instsOf (start .0) n (now s)) ≤ slotPlaces) × (n ≤ slotPlaces) × (slotWords ≤ length (now s)) ⌝ }
     ensures { λ r. ⌜ Opens (start .0) n (now (s .entry)) r (now (s .exit)) ⌝ }
 {
     if insts::any_open(s, start, n) {
@@ -121,7 +122,7 @@ fn open_one(s: &mut [u64], start: Slot, n: usize) -> usize
 
 // The slot at place c Preparing at the ballot, with empty acks.
 fn prepare(s: &mut [u64], c: usize, ballot: Ballot)
-    requires { ⌜ (c < 32) × (7744 ≤ length (now s)) ⌝ }
+    requires { ⌜ (c < slotPlaces) × (slotWords ≤ length (now s)) ⌝ }
     ensures { λ _. ⌜ Puts (now (s .entry)) c (prepareShort (ballot .0) (shortAt (now (s .entry)) c)) (batchAt (now (s .entry)) c) (readsAt (now (s .entry)) c) (now (s .exit)) ⌝ }
 {
     let old = insts::load(s, c);
@@ -146,7 +147,7 @@ fn prelog(
     slot: Slot,
     ballot: Ballot,
 ) -> usize
-    requires { ⌜ (c < 32) × (7744 ≤ length (now s)) × (place + oneIfOpen (instIn (now s) c) ≤ places (now area)) ⌝ }
+    requires { ⌜ (c < slotPlaces) × (slotWords ≤ length (now s)) × (place + oneIfOpen (instIn (now s) c) ≤ places (now area)) ⌝ }
     ensures { λ r. ⌜ Prelogs c place (slot .0) (ballot .0) (now (s .entry)) (now (area .entry)) r (now (s .exit)) (now (area .exit)) ⌝ }
 {
     if !insts::is_open(s, c) {
@@ -166,14 +167,14 @@ fn prelog_all(
     n: usize,
     ballot: Ballot,
 ) -> usize
-    requires { ⌜ (start .0 ≤ top) × (n ≤ window) × (7744 ≤ length (now s)) × (place + length (prelogs (start .0) (instsOf (start .0) n (now s))) ≤ places (now area)) ⌝ }
+    requires { ⌜ (start .0 ≤ top) × (n ≤ slotPlaces) × (slotWords ≤ length (now s)) × (place + length (prelogs (start .0) (instsOf (start .0) n (now s))) ≤ places (now area)) ⌝ }
     ensures { λ r. ⌜ Passes (preparedAnew (start .0) (ballot .0) (instsOf (start .0) n (now (s .entry)))) place (start .0) n 0 (now (s .entry)) (now (area .entry)) r (now (s .exit)) (now (area .exit)) ⌝ }
 {
     let mut k = 0;
     let mut at = place;
     while k < n {
         let slot = start.0 + k as u64;
-        let c = (slot % 32) as usize;
+        let c = (slot % layout::PLACES) as usize;
         at = prelog(s, c, area, at, Slot(slot), ballot);
         k += 1;
     }
@@ -192,13 +193,13 @@ fn release_all(
     quorum: u8,
     leader: Leader,
 ) -> usize
-    requires { ⌜ (start .0 ≤ top) × (from ≤ to) × (to ≤ n) × (n ≤ window) × (7744 ≤ length (now s)) × (place + length (releasedFrom quorum (leaderOf leader) (to - from) (drop from (instsOf (start .0) n (now s))) .items) ≤ places (now area)) ⌝ }
+    requires { ⌜ (start .0 ≤ top) × (from ≤ to) × (to ≤ n) × (n ≤ slotPlaces) × (slotWords ≤ length (now s)) × (place + length (releasedFrom quorum (leaderOf leader) (to - from) (drop from (instsOf (start .0) n (now s))) .items) ≤ places (now area)) ⌝ }
     ensures { λ r. ⌜ Passes (releasedFrom quorum (leaderOf leader) (to - from) (drop from (instsOf (start .0) n (now (s .entry))))) place (start .0) n from (now (s .entry)) (now (area .entry)) r (now (s .exit)) (now (area .exit)) ⌝ }
 {
     let mut k = from;
     let mut at = place;
     while k < to {
-        let c = ((start.0 + k as u64) % 32) as usize;
+        let c = ((start.0 + k as u64) % layout::PLACES) as usize;
         at += release_held_reads::release(s, c, quorum, leader, area, at);
         k += 1;
     }
@@ -215,7 +216,7 @@ pub fn become_a_leader(
     leader: Leader,
     ballot: Ballot,
 ) -> usize
-    requires { ⌜ (start .0 ≤ top) × (slotsAfter n (instsOf (start .0) n (now s)) ≤ window) × (n ≤ window) × (7744 ≤ length (now s)) × (length (stepUp (start .0) quorum (leaderOf leader) (ballot .0) (instsOf (start .0) n (now s)) .items) ≤ places (now area)) ⌝ }
+    requires { ⌜ (start .0 ≤ top) × (slotsAfter n (instsOf (start .0) n (now s)) ≤ slotPlaces) × (n ≤ slotPlaces) × (slotWords ≤ length (now s)) × (length (stepUp (start .0) quorum (leaderOf leader) (ballot .0) (instsOf (start .0) n (now s)) .items) ≤ places (now area)) ⌝ }
     ensures { λ r. ⌜ StepsUp (start .0) n quorum (leaderOf leader) (ballot .0) (now (s .entry)) (now (area .entry)) r (now (s .exit)) (now (area .exit)) ⌝ }
 {
     let held = open_one(s, start, n);

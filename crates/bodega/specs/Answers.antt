@@ -7,7 +7,7 @@ use lib.ListN.{length}
 use Rattle.words.specs.Choice.{if_then_else_}
 use Rattle.words.specs.Writes.{writes}
 use Rattle.words.specs.Part.{Untouched}
-use Rattle.ids.specs.Limits.{nodeWords}
+use Rattle.layout.specs.Layout.{nodeWords}
 use Rattle.items.specs.Item.{Item, encode, places}
 use Rattle.bodega.specs.Replica.{Replica, Call}
 use Rattle.bodega.specs.Step.{Step, Refused, Taken, step}

@@ -23,6 +23,7 @@ use Rattle.insts.proofs.Laws.{moved, dropped, first, inst-at, length-insts}
 use Rattle.node.specs.declared.Node.{Node}
 use Rattle.node.specs.View.{view, ready}
 use Rattle.words.proofs.Tests.{and-both, or-both}
+use Rattle.layout.specs.Layout.{slotPlaces, slotWords, slotsAt}
 use Rattle.node.proofs.Calls.{Ready, is-ready, made-ready, refused-by, taken-by, none-applies}
 use Rattle.node.proofs.Frames.{slots-back, slots-size, slots-beyond}
 use Rattle.call_bars.specs.Moves.{anyFar, lowered, inOrder, openBelow, holdsBelow, broken, barsRefusal, Executes}
@@ -168,16 +169,16 @@ pub execute-start : (start : ℕ) (s : List ℕ) → Executes start 0 s s
 unfolding executed
 execute-start start s = record { insts = λ k a b. refl; size = refl }
 
-pub execute-step : {s t u : List ℕ} (start i : ℕ) → i < 32 → Executes start i s t
-    → Puts t ((start + i) % 32) (shortWith Executed (shortAt t ((start + i) % 32))) (batchAt t ((start + i) % 32)) (readsAt t ((start + i) % 32)) u → Executes start (i + 1) s u
+pub execute-step : {s t u : List ℕ} (start i : ℕ) → i < slotPlaces → Executes start i s t
+    → Puts t ((start + i) % slotPlaces) (shortWith Executed (shortAt t ((start + i) % slotPlaces))) (batchAt t ((start + i) % slotPlaces)) (readsAt t ((start + i) % slotPlaces)) u → Executes start (i + 1) s u
 unfolding instIn
 execute-step {s = s} {t = t} start i h x p =
     record {
       insts = λ k a b.
           let was : instsOf start k t ≡ executed i (instsOf start k s) = x .insts k (omega arith) b in
-          let at : getElem? (executed i (instsOf start k s)) i ≡ some (instIn t ((start + i) % 32)) = ap (λ (l : List Instance). getElem? l i) (sym was) ∙ inst-at start k i t (omega arith) in
-          moved start k i p (omega arith) b ∙ ap (λ (l : List Instance). set l i (withStatus Executed (instIn t ((start + i) % 32)))) was
-          ∙ one-more i (instsOf start k s) (instIn t ((start + i) % 32)) at ∙ ap (λ (j : ℕ). executed j (instsOf start k s)) (sym (add-one i));
+          let at : getElem? (executed i (instsOf start k s)) i ≡ some (instIn t ((start + i) % slotPlaces)) = ap (λ (l : List Instance). getElem? l i) (sym was) ∙ inst-at start k i t (omega arith) in
+          moved start k i p (omega arith) b ∙ ap (λ (l : List Instance). set l i (withStatus Executed (instIn t ((start + i) % slotPlaces)))) was
+          ∙ one-more i (instsOf start k s) (instIn t ((start + i) % slotPlaces)) at ∙ ap (λ (j : ℕ). executed j (instsOf start k s)) (sym (add-one i));
       size = p .size ∙ x .size;
     }
 
@@ -207,16 +208,16 @@ next n start accept commit exec =
 
 module _ (n : Node) (m area : List ℕ) (start accept commit exec : Slot) (t : Bool) (e : t ≡ ready n m) (f : not t ≡ false) where
   abbrev words : List ℕ
-  words = take 7744 (drop 512 m)
+  words = take slotWords (drop slotsAt m)
 
   r : Ready n m
   r = is-ready n m t e f
 
-  pub words-long : length words ≡ 7744
+  pub words-long : length words ≡ slotWords
   unfolding part
-  words-long = length-part m 512 7744 (omega (arith, r))
+  words-long = length-part m slotsAt slotWords (omega (arith, r))
 
-  pub asked : (n .«start_slot» .0 ≤ 281474976710655) × (n .slots ≤ 32) × (7744 ≤ length words)
+  pub asked : (n .«start_slot» .0 ≤ 281474976710655) × (n .slots ≤ slotPlaces) × (slotWords ≤ length words)
   asked = (r .start-low, r .window, omega (arith, words-long))
 
   module _ (k : ℕ) (g : k ≡ barsRefusal (n .«start_slot» .0) (n .«commit_bar» .0) (n .«exec_bar» .0) (instsOf (n .«start_slot» .0) (n .slots) words) (start .0) (accept .0) (commit .0) (exec .0)) where
@@ -254,9 +255,9 @@ module _ (n : Node) (m area : List ℕ) (start accept commit exec : Slot) (t : B
         gone = start .0 - n .«start_slot» .0
 
         abbrev m′ : List ℕ
-        m′ = splice m 512 7744 s′
+        m′ = splice m slotsAt slotWords s′
 
-        long : length s′ ≡ 7744
+        long : length s′ ≡ slotWords
         long = x .size ∙ words-long
 
         insts-are : instsOf (start .0) (n .slots - gone) s′ ≡ drop gone (executed (exec .0 - n .«start_slot» .0) (instsOf (n .«start_slot» .0) (n .slots) words))

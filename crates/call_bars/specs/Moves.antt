@@ -5,6 +5,7 @@ use mathlib.Core.List.{List, []}
 use Prim.Native.Nat.{ℕ, _+_, _-_, _≤_}
 use lib.Dec.{ltb, leb}
 use lib.ListN.{length, take}
+use Rattle.layout.specs.Layout.{slotPlaces}
 use Rattle.roster_conf.specs.Ground.{_when_or_}
 use Rattle.bodega.specs.Replica.{Instance, isOpen}
 use Rattle.bodega.specs.Events.{executed}
@@ -39,5 +40,5 @@ barsRefusal start₀ commit₀ exec₀ insts start accept commit exec =
 
 -- the first n of k slots executed, whatever k is
 pub record Executes (start n : ℕ) (s t : List ℕ) : Type 0 where
-  pub insts : (k : ℕ) → n ≤ k → k ≤ 32 → instsOf start k t ≡ executed n (instsOf start k s)
+  pub insts : (k : ℕ) → n ≤ k → k ≤ slotPlaces → instsOf start k t ≡ executed n (instsOf start k s)
   pub size : length t ≡ length s

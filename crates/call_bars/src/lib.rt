@@ -7,7 +7,8 @@ use node::is_ready;
 ghost use mathlib.Core.Path.{_≡_};
 ghost use Prim.Native.Nat.{_≤_};
 ghost use lib.ListN.{length};
-ghost use Rattle.ids.specs.Limits.{window, top};
+ghost use Rattle.ids.specs.Limits.{top};
+ghost use Rattle.layout.specs.Layout.{slotPlaces, slotWords};
 ghost use Rattle.bodega.specs.Replica.{Bars};
 ghost use Rattle.bodega.specs.Grounds.{any, holds};
 ghost use Rattle.bodega.specs.Answers.{Answers};
@@ -57,12 +58,12 @@ fn ordered(start: Slot, exec: Slot, commit: Slot, end: Slot) -> bool
 
 // Whether one of n slots from start on holds reads.
 fn any_holds(s: &[u64], start: Slot, n: usize) -> bool
-    requires { ⌜ (start .0 ≤ top) × (n ≤ window) × (7744 ≤ length (now s)) ⌝ }
+    requires { ⌜ (start .0 ≤ top) × (n ≤ slotPlaces) × (slotWords ≤ length (now s)) ⌝ }
     ensures { λ r. ⌜ r ≡ any holds (instsOf (start .0) n (now (s .entry))) ⌝ }
 {
     let mut i = 0;
     while i < n {
-        let c = ((start.0 + i as u64) % 32) as usize;
+        let c = ((start.0 + i as u64) % layout::PLACES) as usize;
         if insts::holds_reads(s, c) {
             return true;
         }
@@ -82,7 +83,7 @@ fn breaks(
     commit: Slot,
     exec: Slot,
 ) -> bool
-    requires { ⌜ (start0 .0 ≤ top) × (n ≤ window) × (7744 ≤ length (now s)) ⌝ }
+    requires { ⌜ (start0 .0 ≤ top) × (n ≤ slotPlaces) × (slotWords ≤ length (now s)) ⌝ }
     ensures { λ r. ⌜ r ≡ broken (start0 .0) (commit0 .0) (exec0 .0) (instsOf (start0 .0) n (now (s .entry))) (start .0) (commit .0) (exec .0) ⌝ }
 {
     if falls(start0, commit0, exec0, start, commit, exec) {
@@ -110,7 +111,7 @@ fn bars_refusal(
     commit: Slot,
     exec: Slot,
 ) -> u64
-    requires { ⌜ (start0 .0 ≤ top) × (n ≤ window) × (7744 ≤ length (now s)) ⌝ }
+    requires { ⌜ (start0 .0 ≤ top) × (n ≤ slotPlaces) × (slotWords ≤ length (now s)) ⌝ }
     ensures { λ r. ⌜ r ≡ barsRefusal (start0 .0) (commit0 .0) (exec0 .0) (instsOf (start0 .0) n (now (s .entry))) (start .0) (accept .0) (commit .0) (exec .0) ⌝ }
 {
     if any_far(start, accept, commit, exec) {
@@ -124,12 +125,12 @@ fn bars_refusal(
 
 // The first n slots from start on become Executed.
 fn execute(s: &mut [u64], start: Slot, n: usize)
-    requires { ⌜ (start .0 ≤ top) × (n ≤ window) × (7744 ≤ length (now s)) ⌝ }
+    requires { ⌜ (start .0 ≤ top) × (n ≤ slotPlaces) × (slotWords ≤ length (now s)) ⌝ }
     ensures { λ _. ⌜ Executes (start .0) n (now (s .entry)) (now (s .exit)) ⌝ }
 {
     let mut i = 0;
     while i < n {
-        let c = ((start.0 + i as u64) % 32) as usize;
+        let c = ((start.0 + i as u64) % layout::PLACES) as usize;
         insts::set_status(s, c, Status::Executed);
         i += 1;
     }
@@ -155,7 +156,7 @@ pub fn bars(
     }
     let from = node.start_slot;
     let refusal = bars_refusal(
-        &mem[512..8256],
+        &mem[layout::SLOTS_AT..layout::WRITTEN_AT],
         from,
         node.commit_bar,
         node.exec_bar,
@@ -172,7 +173,11 @@ pub fn bars(
             node,
         };
     }
-    execute(&mut mem[512..8256], from, (exec.0 - from.0) as usize);
+    execute(
+        &mut mem[layout::SLOTS_AT..layout::WRITTEN_AT],
+        from,
+        (exec.0 - from.0) as usize,
+    );
     let mut next = node;
     next.start_slot = start;
     next.accept_bar = accept;

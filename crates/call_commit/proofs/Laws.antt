@@ -8,6 +8,7 @@ use native.Mathlib.Omega.{arith}
 use lib.ListN.{length, take, drop}
 use borrow.Author.Tests.{eq-eqb, ne-eqb, not-false}
 use Rattle.words.specs.Part.{part, splice, length-part}
+use Rattle.layout.specs.Layout.{slotPlaces, slotWords, slotsAt}
 use Rattle.items.specs.Item.{Item, places}
 use Rattle.bodega.specs.Replica as machine
 use Rattle.bodega.specs.Heartbeat.{heardCommitNotice, advanceCommitBar}
@@ -28,7 +29,7 @@ module _ (n : Node) (m area : List ℕ) (peer ballot bar : ℕ) (t : Bool) (e : 
   call = machine.CommitNotice peer ballot bar
 
   abbrev words : List ℕ
-  words = take 7744 (drop 512 m)
+  words = take slotWords (drop slotsAt m)
 
   abbrev items : List Item
   items = walked (n .«start_slot» .0) (n .slots) (n .«commit_bar» .0) ballot bar words .items
@@ -36,11 +37,11 @@ module _ (n : Node) (m area : List ℕ) (peer ballot bar : ℕ) (t : Bool) (e : 
   r : Ready n m
   r = is-ready n m t e f
 
-  words-long : length words ≡ 7744
+  words-long : length words ≡ slotWords
   unfolding part
-  words-long = length-part m 512 7744 (omega (arith, r .long))
+  words-long = length-part m slotsAt slotWords (omega (arith, r .long))
 
-  pub asked : (n .«start_slot» .0 ≤ n .«commit_bar» .0) × (n .«commit_bar» .0 ≤ n .«start_slot» .0 + n .slots) × (n .«start_slot» .0 ≤ 281474976710655) × (n .slots ≤ 32) × (7744 ≤ length words)
+  pub asked : (n .«start_slot» .0 ≤ n .«commit_bar» .0) × (n .«commit_bar» .0 ≤ n .«start_slot» .0 + n .slots) × (n .«start_slot» .0 ≤ 281474976710655) × (n .slots ≤ slotPlaces) × (slotWords ≤ length words)
   asked = let a = r .start-exec in let b = r .exec-commit in (omega arith, r .commit-end, r .start-low, r .window, omega (arith, words-long))
 
   module _ (k : ℕ) (g : k ≡ commitRefusal (n .population) peer bar) where
@@ -63,15 +64,15 @@ module _ (n : Node) (m area : List ℕ) (peer ballot bar : ℕ) (t : Bool) (e : 
         commit-20 h = few-places call n m area t e f k g z (rw walks (rw q at h))
 
         pub room : c ≤ places area
-            → (n .«start_slot» .0 ≤ n .«commit_bar» .0) × (n .«commit_bar» .0 ≤ n .«start_slot» .0 + n .slots) × (n .«start_slot» .0 ≤ 281474976710655) × (n .slots ≤ 32) × (7744 ≤ length words) × (0 + length items ≤ places area)
+            → (n .«start_slot» .0 ≤ n .«commit_bar» .0) × (n .«commit_bar» .0 ≤ n .«start_slot» .0 + n .slots) × (n .«start_slot» .0 ≤ 281474976710655) × (n .slots ≤ slotPlaces) × (slotWords ≤ length words) × (0 + length items ≤ places area)
         room h = let a = asked in (a .0, a .1, a .2, a .3, a .4, rw (zero-add (length items), ← q) h)
 
         pub commit-taken : c ≤ places area → (s′ area′ : List ℕ) (x : ℕ) → Advances 0 (n .«start_slot» .0) (n .slots) (n .«commit_bar» .0) ballot bar words area x s′ area′
-            → Answers ready view call n m area (record { number = 0; count = c; node = n }) (splice m 512 7744 s′) area′
+            → Answers ready view call n m area (record { number = 0; count = c; node = n }) (splice m slotsAt slotWords s′) area′
         unfolding grounds view part
         commit-taken h s′ area′ x a =
-            let long : length s′ ≡ 7744 = a .size ∙ words-long in
+            let long : length s′ ≡ slotWords = a .size ∙ words-long in
             rw q
-            (taken-with call n m area t e f k g z (machine.withInsts (instsOf (n .«start_slot» .0) (n .slots) s′) (view n m)) items n (splice m 512 7744 s′) area′
+            (taken-with call n m area t e f k g z (machine.withInsts (instsOf (n .«start_slot» .0) (n .slots) s′) (view n m)) items n (splice m slotsAt slotWords s′) area′
             (walks ∙ advance-is (view n m) refl refl refl a) (rw (← q) h) (slots-back n m (r .long) s′ long) (a .items)
             (slots-size n m (r .long) s′ long) (slots-beyond n m (r .long) s′ long) (slots-ready n m (r .long) s′ long ∙ sym e ∙ not-false t f))

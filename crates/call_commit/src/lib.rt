@@ -56,7 +56,7 @@ pub fn commit(
         };
     }
     let count = advance_commit_bar::count_commits(
-        &mem[512..8256],
+        &mem[layout::SLOTS_AT..layout::WRITTEN_AT],
         node.start_slot,
         node.slots,
         node.commit_bar,
@@ -71,7 +71,7 @@ pub fn commit(
         };
     }
     advance_commit_bar::advance(
-        &mut mem[512..8256],
+        &mut mem[layout::SLOTS_AT..layout::WRITTEN_AT],
         area,
         0,
         node.start_slot,

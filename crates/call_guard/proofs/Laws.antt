@@ -7,6 +7,7 @@ use native.Mathlib.Omega.{arith}
 use lib.ListN.{length, take}
 use borrow.Author.Tests.{leb-false, not-false}
 use Rattle.words.specs.Part.{part, splice, length-part}
+use Rattle.layout.specs.Layout.{pairWords}
 use Rattle.bodega.specs.Replica.{Replica, PeerAccept, Guard, withPeerAccept}
 use Rattle.bodega.specs.Conflease.{guardAcceptBar}
 use Rattle.bodega.specs.Grounds.{grounds}
@@ -34,15 +35,15 @@ module _ (n : Node) (m area : List ℕ) (peer num bar : ℕ) (t : Bool) (e : t �
     r : Ready n m
     r = is-ready n m t e f
 
-    module _ (p : List ℕ) (l : length p ≡ length (take 128 m)) where
-      long : length p ≡ 128
+    module _ (p : List ℕ) (l : length p ≡ length (take pairWords m)) where
+      long : length p ≡ pairWords
       unfolding part
-      long = l ∙ length-part m 0 128 (omega (arith, r .long))
+      long = l ∙ length-part m 0 pairWords (omega (arith, r .long))
 
       abbrev m′ : List ℕ
-      m′ = splice m 0 128 p
+      m′ = splice m 0 pairWords p
 
-      pub guard-taken : (d : Node) (max : ℕ) → peerAccept (n .population) p max ≡ guarded (n .quorum) (n .«bal_max_seen» .0) peer num bar (peerAccept (n .population) (take 128 m) (n .«peer_accept_max» .0))
+      pub guard-taken : (d : Node) (max : ℕ) → peerAccept (n .population) p max ≡ guarded (n .quorum) (n .«bal_max_seen» .0) peer num bar (peerAccept (n .population) (take pairWords m) (n .«peer_accept_max» .0))
           → view d m′ ≡ withPeerAccept (record { bar = view n m′ .peerAccept .bar; max = max }) (view n m′) → ready d m′ ≡ ready n m′
           → Answers ready view (Guard peer num bar) n m area (record { number = 0; count = 0; node = d }) m′ area
       unfolding effect grounds view part

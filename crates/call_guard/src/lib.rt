@@ -54,7 +54,7 @@ pub fn guard(
     let ballot = node.bal_max_seen;
     let old = node.peer_accept_max;
     let max = peer_accept_bar::guard_accept_bar(
-        &mut mem[0..128],
+        &mut mem[0..layout::EXECS_AT],
         node.population,
         node.quorum,
         ballot,

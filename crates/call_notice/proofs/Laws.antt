@@ -14,6 +14,8 @@ use Rattle.words.specs.Part.{part, splice, length-part}
 use Rattle.words.specs.Writes.{writes}
 use Rattle.ids.specs.Leader.{leaderOf}
 use Rattle.ids.specs.declared.Ballot.{Ballot}
+use Rattle.ids.specs.Limits.{window}
+use Rattle.layout.specs.Layout.{slotPlaces, slotWords, rosterWords, rowsAt, slotsAt, nodeWords}
 use Rattle.items.specs.Item.{Item, Lead, encode, places}
 use Rattle.items.specs.Area.{Put, putItem}
 use Rattle.items.proofs.Laws.{put-true, put-false, put-area, put-same}
@@ -63,18 +65,18 @@ module _ (population : ℕ) (current : Bool) (start peer slot : ℕ) where
       pub other-0 : not current ≡ true → Number 0
       other-0 f = simp (lt-leb population peer h, le-ltb 281474976710655 slot g, not-true current f)
 
-      pub past-15 : not current ≡ false → start + 32 ≤ slot → Number 15
-      past-15 f k = simp (lt-leb population peer h, le-ltb 281474976710655 slot g, not-false current f, le-leb (start + 32) slot k)
+      pub past-15 : not current ≡ false → start + window ≤ slot → Number 15
+      past-15 f k = simp (lt-leb population peer h, le-ltb 281474976710655 slot g, not-false current f, le-leb (start + window) slot k)
 
-      pub in-0 : not current ≡ false → slot < start + 32 → Number 0
-      in-0 f k = simp (lt-leb population peer h, le-ltb 281474976710655 slot g, not-false current f, lt-leb (start + 32) slot k)
+      pub in-0 : not current ≡ false → slot < start + window → Number 0
+      in-0 f k = simp (lt-leb population peer h, le-ltb 281474976710655 slot g, not-false current f, lt-leb (start + window) slot k)
 
 -- ---- the roster without a replica
 
-module _ (c : RespondersConf) (s : List ℕ) (p id : ℕ) (w : (id < p) × (p ≤ 64) × (c .count ≤ 64) × (320 ≤ length s)) where
+module _ (c : RespondersConf) (s : List ℕ) (p id : ℕ) (w : (id < p) × (p ≤ 64) × (c .count ≤ 64) × (rosterWords ≤ length s)) where
   due-is : edit-due p c s (IntoFiltered id) ≡ taken (intoFiltered id (rosterOf c s))
   unfolding edit-due editResult edit edit-grounds
-  due-is = simp (le-leb 320 (length s) (w .3), le-leb (c .count) 64 (w .2), le-leb 1 p (omega (arith, w .0)), le-leb p 64 (w .1), lt-leb p id (w .0))
+  due-is = simp (le-leb rosterWords (length s) (w .3), le-leb (c .count) 64 (w .2), le-leb 1 p (omega (arith, w .0)), le-leb p 64 (w .1), lt-leb p id (w .0))
 
   module _ (r : Edited) (after : List ℕ) (x : Edits (IntoFiltered id) p c s r after) where
     pub filter-taken : (d : RespondersConf) → length after ≡ length s → r ≡ Taken d → (rosterOf d after ≡ intoFiltered id (rosterOf c s)) × (d .count ≤ 64) × (length after ≡ length s)
@@ -154,20 +156,20 @@ grown n k =
       slots = k;
     }
 
-after-range : (held k : ℕ) → held ≤ 32 → k < 32 → (held ≤ after held k) × (after held k ≤ 32)
+after-range : (held k : ℕ) → held ≤ slotPlaces → k < slotPlaces → (held ≤ after held k) × (after held k ≤ slotPlaces)
 after-range held k h g =
     elim (decLt k held) [
       | yes l ↦ rw (lt-ltb k held l) (omega arith, h)
       | no l ↦ rw (le-ltb k held (omega arith)) (omega arith, omega arith)
     ]
 
-pub slots-long : (m : List ℕ) → 10305 ≤ length m → length (take 7744 (drop 512 m)) ≡ 7744
+pub slots-long : (m : List ℕ) → nodeWords ≤ length m → length (take slotWords (drop slotsAt m)) ≡ slotWords
 unfolding part
-slots-long m h = length-part m 512 7744 (omega arith)
+slots-long m h = length-part m slotsAt slotWords (omega arith)
 
-pub rows-long : (m : List ℕ) → 10305 ≤ length m → length (take 320 (drop 192 m)) ≡ 320
+pub rows-long : (m : List ℕ) → nodeWords ≤ length m → length (take rosterWords (drop rowsAt m)) ≡ rosterWords
 unfolding part
-rows-long m h = length-part m 192 320 (omega arith)
+rows-long m h = length-part m rowsAt rosterWords (omega arith)
 
 -- ---- the call
 
@@ -188,7 +190,7 @@ module _ (n : Node) (m area : List ℕ) (peer slot : ℕ) (b : Ballot) (t : Bool
 
   number-is : k ≡ lowest (grounds (view n m) call)
   unfolding grounds view rosterOf
-  number-is = g ∙ ap (λ (c : Bool). lowest (3 when leb (n .population) peer or 8 when ltb 281474976710655 slot or 15 when c && leb (start + 32) slot or [])) y
+  number-is = g ∙ ap (λ (c : Bool). lowest (3 when leb (n .population) peer or 8 when ltb 281474976710655 slot or 15 when c && leb (start + window) slot or [])) y
 
   pub notice-refused : (k ≡ 0 → ⊥) → Answers ready view call n m area (record { number = k; count = 0; node = n }) m area
   notice-refused h = refused-by call n m area t e f k number-is h
@@ -224,20 +226,20 @@ module _ (n : Node) (m area : List ℕ) (peer slot : ℕ) (b : Ballot) (t : Bool
             rw (w .refused no) (few-places call n m area t e f k number-is z (rw higher-is few))
 
         module _ (q : not u ≡ false) (c : RespondersConf) (rows : List ℕ)
-            (v : (rosterOf c rows ≡ intoFiltered (n .id .0) (rosterOf (n .«bodega_conf») (take 320 (drop 192 m)))) × (c .count ≤ 64) × (length rows ≡ length (take 320 (drop 192 m)))) where
+            (v : (rosterOf c rows ≡ intoFiltered (n .id .0) (rosterOf (n .«bodega_conf») (take rosterWords (drop rowsAt m)))) × (c .count ≤ 64) × (length rows ≡ length (take rosterWords (drop rowsAt m)))) where
           abbrev d : Node
           d = stepped n c b
 
-          long : length rows ≡ 320
+          long : length rows ≡ rosterWords
           long = v .2 ∙ rows-long m (r .long)
 
-          roster-back : view d (splice m 192 320 rows) ≡ demoted
+          roster-back : view d (splice m rowsAt rosterWords rows) ≡ demoted
           unfolding view part
           roster-back = rows-back d m (r .long) rows long ∙ ap (λ (o : Conf). machine.withConf o (view d m)) (v .0)
 
-          ready-d : ready d (splice m 192 320 rows) ≡ true
+          ready-d : ready d (splice m rowsAt rosterWords rows) ≡ true
           ready-d =
-              made-ready d (splice m 192 320 rows)
+              made-ready d (splice m rowsAt rosterWords rows)
               (record {
                 long = rw (rows-size n m (r .long) rows long) (r .long);
                 quorate = r .quorate;
@@ -252,11 +254,11 @@ module _ (n : Node) (m area : List ℕ) (peer slot : ℕ) (b : Ballot) (t : Bool
                 commit-end = r .commit-end;
               })
 
-          pub higher-taken : (count : ℕ) → count ≡ length (stepDown led) → Answers ready view call n m area (record { number = 0; count = count; node = d }) (splice m 192 320 rows) area′
+          pub higher-taken : (count : ℕ) → count ≡ length (stepDown led) → Answers ready view call n m area (record { number = 0; count = count; node = d }) (splice m rowsAt rosterWords rows) area′
           higher-taken count l =
               let yes : u ≡ true = not-false u q in
               rw l
-              (taken-with call n m area t e f k number-is z demoted (stepDown led) d (splice m 192 320 rows) area′ higher-is
+              (taken-with call n m area t e f k number-is z demoted (stepDown led) d (splice m rowsAt rosterWords rows) area′ higher-is
               (leb-true (length (stepDown led)) (places area) (sym (w .room) ∙ yes)) roster-back (w .taken yes) (rows-size n m (r .long) rows long) (rows-beyond n m (r .long) rows long) ready-d)
 
       -- none higher
@@ -277,7 +279,7 @@ module _ (n : Node) (m area : List ℕ) (peer slot : ℕ) (b : Ballot) (t : Bool
           i = slot - start
 
           abbrev due : Noticed
-          due = noticedAt (n .quorum) leader peer (b .0) i (instsOf start (n .slots) (take 7744 (drop 512 m)))
+          due = noticedAt (n .quorum) leader peer (b .0) i (instsOf start (n .slots) (take slotWords (drop slotsAt m)))
 
           noticed-here : effect (view n m) call ≡ machine.done (machine.withInsts (due .insts) (view n m)) (due .items)
           unfolding view rosterOf part
@@ -285,16 +287,16 @@ module _ (n : Node) (m area : List ℕ) (peer slot : ℕ) (b : Ballot) (t : Bool
               handled-by ∙ ap (λ (c : Bool). if c then noticed (machine.pad slot (view n m)) peer slot (b .0) else machine.done (view n m) []) (not-false cur q)
               ∙ noticed-is (view n m) peer slot (b .0) h
 
-          in-window : slot < start + 32
+          in-window : slot < start + window
           unfolding grounds view rosterOf
           in-window =
-              let no : cur && leb (start + 32) slot ≡ false = ap (λ (c : Bool). c && leb (start + 32) slot) y ∙ none-applies call n m k number-is z .1 .1 .0 in
-              leb-false (start + 32) slot (ap (λ (c : Bool). c && leb (start + 32) slot) (sym (not-false cur q)) ∙ no)
+              let no : cur && leb (start + window) slot ≡ false = ap (λ (c : Bool). c && leb (start + window) slot) y ∙ none-applies call n m k number-is z .1 .1 .0 in
+              leb-false (start + window) slot (ap (λ (c : Bool). c && leb (start + window) slot) (sym (not-false cur q)) ∙ no)
 
-          pub due-room : (start ≤ 281474976710655) × (n .slots ≤ 32) × (i < 32) × (7744 ≤ length (take 7744 (drop 512 m)))
+          pub due-room : (start ≤ 281474976710655) × (n .slots ≤ slotPlaces) × (i < slotPlaces) × (slotWords ≤ length (take slotWords (drop slotsAt m)))
           due-room = (r .start-low, r .window, omega (arith, in-window), omega (arith, slots-long m (r .long)))
 
-          module _ (many : ℕ) (l : (o : Option ℕ) → many ≡ length (noticedAt (n .quorum) o peer (b .0) i (instsOf start (n .slots) (take 7744 (drop 512 m))) .items)) where
+          module _ (many : ℕ) (l : (o : Option ℕ) → many ≡ length (noticedAt (n .quorum) o peer (b .0) i (instsOf start (n .slots) (take slotWords (drop slotsAt m))) .items)) where
             pub notice-20 : length area / 6 < many → Answers ready view call n m area (record { number = 20; count = 0; node = n }) m area
             notice-20 o = few-places call n m area t e f k number-is z (rw (noticed-here, ← l leader) o)
 
@@ -302,27 +304,27 @@ module _ (n : Node) (m area : List ℕ) (peer slot : ℕ) (b : Ballot) (t : Bool
               room : length (due .items) ≤ places area
               room = rw (← l leader) o
 
-              pub notice-room : (start ≤ 281474976710655) × (n .slots ≤ 32) × (i < 32) × (7744 ≤ length (take 7744 (drop 512 m))) × (length (due .items) ≤ places area)
+              pub notice-room : (start ≤ 281474976710655) × (n .slots ≤ slotPlaces) × (i < slotPlaces) × (slotWords ≤ length (take slotWords (drop slotsAt m))) × (length (due .items) ≤ places area)
               notice-room = (due-room .0, due-room .1, due-room .2, due-room .3, room)
 
-              module _ (s′ area′ : List ℕ) (count : ℕ) (x : NotesAt (n .quorum) leader peer (b .0) start (n .slots) i (take 7744 (drop 512 m)) area count s′ area′)
+              module _ (s′ area′ : List ℕ) (count : ℕ) (x : NotesAt (n .quorum) leader peer (b .0) start (n .slots) i (take slotWords (drop slotsAt m)) area count s′ area′)
                   (held : ℕ) (v : held ≡ after (n .slots) i) where
                 abbrev d′ : Node
                 d′ = grown n held
 
-                long′ : length s′ ≡ 7744
+                long′ : length s′ ≡ slotWords
                 long′ = x .size ∙ slots-long m (r .long)
 
-                slots-here : view d′ (splice m 512 7744 s′) ≡ machine.withInsts (due .insts) (view n m)
+                slots-here : view d′ (splice m slotsAt slotWords s′) ≡ machine.withInsts (due .insts) (view n m)
                 unfolding view
                 slots-here =
                     slots-back d′ m (r .long) s′ long′
                     ∙ ap (λ (is : List machine.Instance). machine.withInsts is (view d′ m)) (ap (λ (j : ℕ). instsOf start j s′) v ∙ x .insts)
 
-                ready-d′ : ready d′ (splice m 512 7744 s′) ≡ true
+                ready-d′ : ready d′ (splice m slotsAt slotWords s′) ≡ true
                 ready-d′ =
                     let w = after-range (n .slots) i (r .window) (omega (arith, in-window)) in
-                    made-ready d′ (splice m 512 7744 s′)
+                    made-ready d′ (splice m slotsAt slotWords s′)
                     (record {
                       long = rw (slots-size n m (r .long) s′ long′) (r .long);
                       quorate = r .quorate;
@@ -337,8 +339,8 @@ module _ (n : Node) (m area : List ℕ) (peer slot : ℕ) (b : Ballot) (t : Bool
                       commit-end = omega (arith, w .0, v, r .commit-end);
                     })
 
-                pub notice-taken : Answers ready view call n m area (record { number = 0; count = count; node = d′ }) (splice m 512 7744 s′) area′
+                pub notice-taken : Answers ready view call n m area (record { number = 0; count = count; node = d′ }) (splice m slotsAt slotWords s′) area′
                 notice-taken =
                     rw (x .count)
-                    (taken-with call n m area t e f k number-is z (machine.withInsts (due .insts) (view n m)) (due .items) d′ (splice m 512 7744 s′) area′ noticed-here
+                    (taken-with call n m area t e f k number-is z (machine.withInsts (due .insts) (view n m)) (due .items) d′ (splice m slotsAt slotWords s′) area′ noticed-here
                     room slots-here (x .items) (slots-size n m (r .long) s′ long′) (slots-beyond n m (r .long) s′ long′) ready-d′)

@@ -15,6 +15,7 @@ ghost use lib.Dec.{eqb};
 ghost use lib.ListN.{length};
 ghost use Rattle.ids.specs.Leader.{leaderOf};
 ghost use Rattle.ids.specs.Limits.{top};
+ghost use Rattle.layout.specs.Layout.{rosterWords};
 ghost use Rattle.roster_conf.specs.Conf.{intoFiltered};
 ghost use Rattle.roster_conf.specs.Edits.{view as rosterOf};
 ghost use Rattle.bodega.specs.Replica.{Notice};
@@ -54,7 +55,7 @@ fn notice_refusal(population: u8, current: bool, start: Slot, peer: Replica, slo
 
 // The roster without a replica.
 fn filtered(conf: RespondersConf, rows: &mut [u64], population: u8, id: Replica) -> RespondersConf
-    requires { ⌜ (id .0 < population) × (population ≤ 64) × (conf .count ≤ 64) × (320 ≤ length (now rows)) ⌝ }
+    requires { ⌜ (id .0 < population) × (population ≤ 64) × (conf .count ≤ 64) × (rosterWords ≤ length (now rows)) ⌝ }
     ensures { λ r. ⌜ (rosterOf r (now (rows .exit)) ≡ intoFiltered (id .0) (rosterOf conf (now (rows .entry)))) × (r .count ≤ 64) × (length (now (rows .exit)) ≡ length (now (rows .entry))) ⌝ }
 {
     let edited = conf.into_filtered(rows, population, id);
@@ -130,7 +131,12 @@ pub fn notice(
                 node,
             };
         }
-        let without = filtered(conf, &mut mem[192..512], node.population, id);
+        let without = filtered(
+            conf,
+            &mut mem[layout::ROWS_AT..layout::SLOTS_AT],
+            node.population,
+            id,
+        );
         let mut next = node;
         next.bodega_conf = without;
         next.bal_max_seen = ballot;
@@ -150,7 +156,15 @@ pub fn notice(
     let k = (slot.0 - start.0) as usize;
     let held = node.slots;
     let quorum = node.quorum;
-    let due = accept_notice_at::due(&mem[512..8256], start, held, k, quorum, peer, ballot);
+    let due = accept_notice_at::due(
+        &mem[layout::SLOTS_AT..layout::WRITTEN_AT],
+        start,
+        held,
+        k,
+        quorum,
+        peer,
+        ballot,
+    );
     if area.len() / 6 < due {
         return Answered {
             number: 20,
@@ -159,7 +173,7 @@ pub fn notice(
         };
     }
     let count = accept_notice_at::notice_at(
-        &mut mem[512..8256],
+        &mut mem[layout::SLOTS_AT..layout::WRITTEN_AT],
         start,
         held,
         k,

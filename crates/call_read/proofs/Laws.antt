@@ -13,7 +13,7 @@ use lib.Dec.{ltb, leb}
 use lib.ListN.{length}
 use Rattle.words.specs.Choice.{if_then_else_, ifNone_then_else_}
 use Rattle.words.specs.Part.{part, splice, Untouched, length-part}
-use Rattle.ids.specs.Limits.{nodeWords}
+use Rattle.layout.specs.Layout.{nodeWords}
 use Rattle.words.specs.Writes.{writes}
 use Rattle.ids.specs.declared.Slot.{Slot}
 use Rattle.key_words.specs.Key.{bytesOf, keyIn, atMost48}

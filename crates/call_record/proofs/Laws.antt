@@ -10,8 +10,9 @@ use lib.ListN.{length, set, take, drop, replicate, getElem?}
 use borrow.Author.Tests.{lt-ltb, le-ltb, le-leb, lt-leb, eq-eqb, ne-eqb, ltb-false, leb-false, not-true, not-false}
 use Rattle.words.specs.Choice.{if_then_else_, ifNone_then_else_}
 use Rattle.words.specs.Part.{part, splice, Untouched, length-part, part-before}
-use Rattle.ids.specs.Limits.{nodeWords}
 use Rattle.ids.specs.Leader.{leaderOf}
+use Rattle.ids.specs.Limits.{keys, window, batch}
+use Rattle.layout.specs.Layout.{cellRow, slotPlaces, batchWords, slotWords, writtenWords, slotsAt, writtenAt, nodeWords}
 use Rattle.roster_conf.specs.Edits.{view as rosterOf}
 use Rattle.inst_cell.specs.Cell.{Notices, Short, cellAt, hasBook, bookOf as noticesOf}
 use Rattle.inst_cell.specs.declared.NoticeBook.{NoticeBook}
@@ -43,30 +44,30 @@ abbrev first : Bool → Bool → Bool → ℕ → ℕ
 first a b c l = if a then 5 else if b then 8 else if c then 9 else l
 
 module _ (qs : List Request) (slot : ℕ) (t : Bool) (e : t ≡ anyLong qs) where
-  short-keys : first t (far slot) (ltb 8 (length qs)) 0 ≡ batchRefusal qs slot
-  short-keys = ap (λ (x : Bool). first x (far slot) (ltb 8 (length qs)) 0) e
+  short-keys : first t (far slot) (ltb batch (length qs)) 0 ≡ batchRefusal qs slot
+  short-keys = ap (λ (x : Bool). first x (far slot) (ltb batch (length qs)) 0) e
 
   pub gives-5 : t ≡ true → 5 ≡ batchRefusal qs slot
-  gives-5 f = sym (ap (λ (x : Bool). first x (far slot) (ltb 8 (length qs)) 0) f) ∙ short-keys
+  gives-5 f = sym (ap (λ (x : Bool). first x (far slot) (ltb batch (length qs)) 0) f) ∙ short-keys
 
   module _ (f : t ≡ false) where
-    keys-fit : first false (far slot) (ltb 8 (length qs)) 0 ≡ batchRefusal qs slot
-    keys-fit = sym (ap (λ (x : Bool). first x (far slot) (ltb 8 (length qs)) 0) f) ∙ short-keys
+    keys-fit : first false (far slot) (ltb batch (length qs)) 0 ≡ batchRefusal qs slot
+    keys-fit = sym (ap (λ (x : Bool). first x (far slot) (ltb batch (length qs)) 0) f) ∙ short-keys
 
     pub gives-8 : 281474976710655 < slot → 8 ≡ batchRefusal qs slot
-    gives-8 h = sym (ap (λ (x : Bool). first false x (ltb 8 (length qs)) 0) (lt-ltb 281474976710655 slot h)) ∙ keys-fit
+    gives-8 h = sym (ap (λ (x : Bool). first false x (ltb batch (length qs)) 0) (lt-ltb 281474976710655 slot h)) ∙ keys-fit
 
     module _ (h : slot ≤ 281474976710655) (n : ℕ) (g : n ≡ length qs) where
-      near : first false false (ltb 8 n) 0 ≡ batchRefusal qs slot
+      near : first false false (ltb batch n) 0 ≡ batchRefusal qs slot
       near =
-          ap (λ (x : ℕ). first false false (ltb 8 x) 0) g
-          ∙ sym (ap (λ (x : Bool). first false x (ltb 8 (length qs)) 0) (le-ltb 281474976710655 slot h)) ∙ keys-fit
+          ap (λ (x : ℕ). first false false (ltb batch x) 0) g
+          ∙ sym (ap (λ (x : Bool). first false x (ltb batch (length qs)) 0) (le-ltb 281474976710655 slot h)) ∙ keys-fit
 
-      pub gives-9 : 8 < n → 9 ≡ batchRefusal qs slot
-      gives-9 k = sym (ap (λ (x : Bool). first false false x 0) (lt-ltb 8 n k)) ∙ near
+      pub gives-9 : batch < n → 9 ≡ batchRefusal qs slot
+      gives-9 k = sym (ap (λ (x : Bool). first false false x 0) (lt-ltb batch n k)) ∙ near
 
-      pub batch-fits : n ≤ 8 → 0 ≡ batchRefusal qs slot
-      batch-fits k = sym (ap (λ (x : Bool). first false false x 0) (le-ltb 8 n k)) ∙ near
+      pub batch-fits : n ≤ batch → 0 ≡ batchRefusal qs slot
+      batch-fits k = sym (ap (λ (x : Bool). first false false x 0) (le-ltb batch n k)) ∙ near
 
 first-of : (a b c : Bool) (k l : ℕ) → k ≡ first a b c 0 → (k ≡ 0 → ⊥) → k ≡ first a b c l
 first-of true b c k l e h = e
@@ -93,34 +94,34 @@ module _ (start n slot ballot current : ℕ) (full : Bool) (s : List ℕ) where
   closed = ended start (instsOf start n s) slot
 
   pub other-ballot : (ballot ≡ current → ⊥) → 13 ≡ number
-  other-ballot h = sym (ap (λ (x : Bool). second (not x || eqb current 0) closed (leb (start + 32) slot) full) (ne-eqb ballot current h))
+  other-ballot h = sym (ap (λ (x : Bool). second (not x || eqb current 0) closed (leb (start + window) slot) full) (ne-eqb ballot current h))
 
   module _ (h : ballot ≡ current) where
-    same-ballot : second (eqb current 0) closed (leb (start + 32) slot) full ≡ number
-    same-ballot = sym (ap (λ (x : Bool). second (not x || eqb current 0) closed (leb (start + 32) slot) full) (eq-eqb ballot current h))
+    same-ballot : second (eqb current 0) closed (leb (start + window) slot) full ≡ number
+    same-ballot = sym (ap (λ (x : Bool). second (not x || eqb current 0) closed (leb (start + window) slot) full) (eq-eqb ballot current h))
 
     pub no-ballot : current ≡ 0 → 13 ≡ number
-    no-ballot g = sym (ap (λ (x : Bool). second x closed (leb (start + 32) slot) full) (eq-eqb current 0 g)) ∙ same-ballot
+    no-ballot g = sym (ap (λ (x : Bool). second x closed (leb (start + window) slot) full) (eq-eqb current 0 g)) ∙ same-ballot
 
     module _ (g : current ≡ 0 → ⊥) (t : Bool) (e : t ≡ ended start (instsOf start n s) slot) where
-      at-ballot : second false t (leb (start + 32) slot) full ≡ number
+      at-ballot : second false t (leb (start + window) slot) full ≡ number
       at-ballot =
-          ap (λ (x : Bool). second false x (leb (start + 32) slot) full) e
-          ∙ sym (ap (λ (x : Bool). second x closed (leb (start + 32) slot) full) (ne-eqb current 0 g)) ∙ same-ballot
+          ap (λ (x : Bool). second false x (leb (start + window) slot) full) e
+          ∙ sym (ap (λ (x : Bool). second x closed (leb (start + window) slot) full) (ne-eqb current 0 g)) ∙ same-ballot
 
       pub gives-14 : t ≡ true → 14 ≡ number
-      gives-14 f = sym (ap (λ (x : Bool). second false x (leb (start + 32) slot) full) f) ∙ at-ballot
+      gives-14 f = sym (ap (λ (x : Bool). second false x (leb (start + window) slot) full) f) ∙ at-ballot
 
       module _ (f : t ≡ false) where
-        open-slot : second false false (leb (start + 32) slot) full ≡ number
-        open-slot = sym (ap (λ (x : Bool). second false x (leb (start + 32) slot) full) f) ∙ at-ballot
+        open-slot : second false false (leb (start + window) slot) full ≡ number
+        open-slot = sym (ap (λ (x : Bool). second false x (leb (start + window) slot) full) f) ∙ at-ballot
 
-        pub gives-15 : start + 32 ≤ slot → 15 ≡ number
-        gives-15 k = sym (ap (λ (x : Bool). second false false x full) (le-leb (start + 32) slot k)) ∙ open-slot
+        pub gives-15 : start + window ≤ slot → 15 ≡ number
+        gives-15 k = sym (ap (λ (x : Bool). second false false x full) (le-leb (start + window) slot k)) ∙ open-slot
 
-        module _ (k : slot < start + 32) where
+        module _ (k : slot < start + window) where
           inside : second false false false full ≡ number
-          inside = sym (ap (λ (x : Bool). second false false x full) (lt-leb (start + 32) slot k)) ∙ open-slot
+          inside = sym (ap (λ (x : Bool). second false false x full) (lt-leb (start + window) slot k)) ∙ open-slot
 
           pub gives-18 : full ≡ true → 18 ≡ number
           gives-18 l = sym (ap (second false false false) l) ∙ inside
@@ -131,19 +132,19 @@ module _ (start n slot ballot current : ℕ) (full : Bool) (s : List ℕ) where
 -- what holds where none of them applies
 pub record Fits (start slot : ℕ) (full : Bool) : Type 0 where
   pub above : start ≤ slot
-  pub inside : slot < start + 32
+  pub inside : slot < start + window
   pub room : full ≡ false
 
-fits : (start slot : ℕ) (a b full : Bool) → 0 ≡ second a (ltb slot start || b) (leb (start + 32) slot) full → Fits start slot full
-fits start slot a b full e = go a (ltb slot start) b (leb (start + 32) slot) full refl refl refl e
+fits : (start slot : ℕ) (a b full : Bool) → 0 ≡ second a (ltb slot start || b) (leb (start + window) slot) full → Fits start slot full
+fits start slot a b full e = go a (ltb slot start) b (leb (start + window) slot) full refl refl refl e
   where
-    go : (x p y z w : Bool) → ltb slot start ≡ p → leb (start + 32) slot ≡ z → full ≡ w → 0 ≡ second x (p || y) z w → Fits start slot full
+    go : (x p y z w : Bool) → ltb slot start ≡ p → leb (start + window) slot ≡ z → full ≡ w → 0 ≡ second x (p || y) z w → Fits start slot full
     go true p y z w f g o h = absurd (omega (arith, h))
     go false true y z w f g o h = absurd (omega (arith, h))
     go false false true z w f g o h = absurd (omega (arith, h))
     go false false false true w f g o h = absurd (omega (arith, h))
     go false false false false true f g o h = absurd (omega (arith, h))
-    go false false false false false f g o h = record { above = ltb-false slot start f; inside = leb-false (start + 32) slot g; room = o }
+    go false false false false false f g o h = record { above = ltb-false slot start f; inside = leb-false (start + window) slot g; room = o }
 
 -- ---- 14
 
@@ -161,14 +162,14 @@ module _ (start n slot : ℕ) (s : List ℕ) where
     pub past-end : start + n ≤ slot → false ≡ ended start (instsOf start n s) slot
     past-end g = sym (ap end-of (inst-none start n (slot - start) s (omega arith))) ∙ from-start
 
-    pub held-slot : slot < start + n → (t : Bool) → t ≡ isOpen (instIn s (slot % 32) .status) → not t ≡ ended start (instsOf start n s) slot
+    pub held-slot : slot < start + n → (t : Bool) → t ≡ isOpen (instIn s (slot % slotPlaces) .status) → not t ≡ ended start (instsOf start n s) slot
     held-slot g t e =
         let q : slot ≡ start + (slot - start) = omega arith in
-        ap not e ∙ ap (λ (j : ℕ). not (isOpen (instIn s (j % 32) .status))) q ∙ sym (ap end-of (inst-at start n (slot - start) s (omega arith))) ∙ from-start
+        ap not e ∙ ap (λ (j : ℕ). not (isOpen (instIn s (j % slotPlaces) .status))) q ∙ sym (ap end-of (inst-at start n (slot - start) s (omega arith))) ∙ from-start
 
 -- ---- null slots
 
-pub held-already : (start n k : ℕ) (s : List ℕ) → n ≤ 32 → k < n → Pads start n k s s n
+pub held-already : (start n k : ℕ) (s : List ℕ) → n ≤ slotPlaces → k < n → Pads start n k s s n
 held-already start n k s h g =
     let z : k + 1 - n ≡ 0 = omega arith in
     record {
@@ -179,7 +180,7 @@ held-already start n k s h g =
       few = h;
     }
 
-pub padded-to : {t : List ℕ} (start n k : ℕ) (s : List ℕ) → k < 32 → n ≤ k → (instsOf start (k + 1) t ≡ instsOf start n s ++ replicate (k + 1 - n) nullInstance) × (length t ≡ length s)
+pub padded-to : {t : List ℕ} (start n k : ℕ) (s : List ℕ) → k < slotPlaces → n ≤ k → (instsOf start (k + 1) t ≡ instsOf start n s ++ replicate (k + 1 - n) nullInstance) × (length t ≡ length s)
     → Pads start n k s t (k + 1)
 padded-to start n k s h g e = record { insts = e .0; size = e .1; within = omega arith; more = omega arith; few = omega arith }
 
@@ -200,14 +201,14 @@ module _ (leader : Bool) (o : ReplicaBk) (f : leader ≡ false) where
   pub old-book : (b : NoticeBook) → o ≡ Some b → some (record { bal = b .bal .0; notices = b .notices }) ≡ keptBook leader (noticesOf o)
   old-book b e = sym (rw (f, e))
 
-module _ (s : List ℕ) (c : ℕ) (t : Bool) (e : t ≡ hasBook (cellAt s (c * 8))) where
+module _ (s : List ℕ) (c : ℕ) (t : Bool) (e : t ≡ hasBook (cellAt s (c * cellRow))) where
   pub book-there : t ≡ true → Puts s c (shortAt s c) (batchAt s c) (seenReads (shortAt s c .replicaBk) (readsAt s c)) s
   unfolding shortAt
   book-there f =
       record {
         short = refl;
         batch = refl;
-        held = sym (seen-some (cellAt s (c * 8) .replicaBk) (readsAt s c) (sym e ∙ f));
+        held = sym (seen-some (cellAt s (c * cellRow) .replicaBk) (readsAt s c) (sym e ∙ f));
         others = λ d g h. record { short = refl; batch = refl; reads = refl };
         size = refl;
       }
@@ -218,7 +219,7 @@ module _ (s : List ℕ) (c : ℕ) (t : Bool) (e : t ≡ hasBook (cellAt s (c * 8
       record {
         short = p .short;
         batch = p .batch;
-        held = p .held ∙ sym (seen-none (cellAt s (c * 8) .replicaBk) (readsAt s c) (sym e ∙ f));
+        held = p .held ∙ sym (seen-none (cellAt s (c * cellRow) .replicaBk) (readsAt s c) (sym e ∙ f));
         others = p .others;
         size = p .size;
       }
@@ -258,31 +259,31 @@ unfolding instIn
 accepting-is leader ballot qs s c = rw (book-is leader (shortAt s c .replicaBk) (readsAt s c))
 
 pub accepted : {s t u : List ℕ} {qs : List Request} (start n slot ballot r : ℕ) (leader : Bool) → start ≤ slot → Pads start n (slot - start) s t r
-    → Puts t (slot % 32) (acceptingShort leader ballot (shortAt t (slot % 32) .replicaBk)) qs (seenReads (shortAt t (slot % 32) .replicaBk) (readsAt t (slot % 32))) u
+    → Puts t (slot % slotPlaces) (acceptingShort leader ballot (shortAt t (slot % slotPlaces) .replicaBk)) qs (seenReads (shortAt t (slot % slotPlaces) .replicaBk) (readsAt t (slot % slotPlaces))) u
     → Records start n slot ballot leader qs s u r
 accepted {s = s} {t = t} {u = u} {qs = qs} start n slot ballot r leader h p q =
     let e : slot ≡ start + (slot - start) = omega arith in
     let z : slot - start + 1 - n ≡ slot + 1 - (start + n) = omega arith in
     let g : instsOf start r t ≡ instsOf start n s ++ replicate (slot + 1 - (start + n)) nullInstance
     = p .insts ∙ ap (λ (j : ℕ). instsOf start n s ++ replicate j nullInstance) z in
-    let at : getElem? (instsOf start r t) (slot - start) ≡ some (instIn t (slot % 32))
-    = inst-at start r (slot - start) t (p .within) ∙ ap (λ (j : ℕ). some (instIn t (j % 32))) (sym e) in
+    let at : getElem? (instsOf start r t) (slot - start) ≡ some (instIn t (slot % slotPlaces))
+    = inst-at start r (slot - start) t (p .within) ∙ ap (λ (j : ℕ). some (instIn t (j % slotPlaces))) (sym e) in
     record {
-      old = instIn t (slot % 32);
+      old = instIn t (slot % slotPlaces);
       was = ap (λ (l : List Instance). getElem? l (slot - start)) (sym g) ∙ at;
-      insts = put start (slot - start) (sym e) (p .within) (p .few) q ∙ ap (λ (l : List Instance). set l (slot - start) (acceptingBy leader ballot qs (instIn t (slot % 32)))) g;
+      insts = put start (slot - start) (sym e) (p .within) (p .few) q ∙ ap (λ (l : List Instance). set l (slot - start) (acceptingBy leader ballot qs (instIn t (slot % slotPlaces)))) g;
       size = q .size ∙ p .size;
       more = p .more;
       few = p .few;
     }
   where
-    put : (start k : ℕ) → start + k ≡ slot → k < r → r ≤ 32
-        → Puts t (slot % 32) (acceptingShort leader ballot (shortAt t (slot % 32) .replicaBk)) qs (seenReads (shortAt t (slot % 32) .replicaBk) (readsAt t (slot % 32))) u
-        → instsOf start r u ≡ set (instsOf start r t) k (acceptingBy leader ballot qs (instIn t (slot % 32)))
+    put : (start k : ℕ) → start + k ≡ slot → k < r → r ≤ slotPlaces
+        → Puts t (slot % slotPlaces) (acceptingShort leader ballot (shortAt t (slot % slotPlaces) .replicaBk)) qs (seenReads (shortAt t (slot % slotPlaces) .replicaBk) (readsAt t (slot % slotPlaces))) u
+        → instsOf start r u ≡ set (instsOf start r t) k (acceptingBy leader ballot qs (instIn t (slot % slotPlaces)))
     put start k e a b q =
-        let at : Puts t ((start + k) % 32) (acceptingShort leader ballot (shortAt t (slot % 32) .replicaBk)) qs (seenReads (shortAt t (slot % 32) .replicaBk) (readsAt t (slot % 32))) u
-        = rw (ap (λ (j : ℕ). j % 32) e) q in
-        moved start r k at a b ∙ ap (set (instsOf start r t) k) (accepting-is leader ballot qs t (slot % 32))
+        let at : Puts t ((start + k) % slotPlaces) (acceptingShort leader ballot (shortAt t (slot % slotPlaces) .replicaBk)) qs (seenReads (shortAt t (slot % slotPlaces) .replicaBk) (readsAt t (slot % slotPlaces))) u
+        = rw (ap (λ (j : ℕ). j % slotPlaces) e) q in
+        moved start r k at a b ∙ ap (set (instsOf start r t) k) (accepting-is leader ballot qs t (slot % slotPlaces))
 
 -- ---- the node after it
 
@@ -316,29 +317,29 @@ module _ (n : Node) (m : List ℕ) (slot ballot : ℕ) (ok : ready n m ≡ true)
   start = n .«start_slot» .0
 
   abbrev written : List ℕ
-  written = take 2049 (drop 8256 m)
+  written = take writtenWords (drop writtenAt m)
 
   abbrev words : List ℕ
-  words = take 7744 (drop 512 m)
+  words = take slotWords (drop slotsAt m)
 
   r : Ready n m
   r = is-ready n m true (sym ok) refl
 
-  pub long : 10305 ≤ length m
+  pub long : nodeWords ≤ length m
   long = omega (arith, r .long)
 
-  pub long-slots : (l : ℕ) → l ≡ length m → 8256 ≤ l
+  pub long-slots : (l : ℕ) → l ≡ length m → writtenAt ≤ l
   long-slots l e = omega (arith, r .long)
 
-  words-long : length words ≡ 7744
+  words-long : length words ≡ slotWords
   unfolding part
-  words-long = length-part m 512 7744 (omega (arith, r))
+  words-long = length-part m slotsAt slotWords (omega (arith, r))
 
-  written-long : length written ≡ 2049
+  written-long : length written ≡ writtenWords
   unfolding part
-  written-long = length-part m 8256 2049 (omega (arith, r))
+  written-long = length-part m writtenAt writtenWords (omega (arith, r))
 
-  pub asked : (start ≤ 281474976710655) × (n .slots ≤ 32) × (7744 ≤ length words)
+  pub asked : (start ≤ 281474976710655) × (n .slots ≤ slotPlaces) × (slotWords ≤ length words)
   asked = (r .start-low, r .window, omega (arith, words-long))
 
   abbrev leader : Bool
@@ -348,10 +349,10 @@ module _ (n : Node) (m : List ℕ) (slot ballot : ℕ) (ok : ready n m ≡ true)
   current lead = if lead then n .«bal_prepared» .0 else n .«bal_max_seen» .0
 
   abbrev overfull : List Request → Bool
-  overfull reqs = ltb 256 (length (refreshHighestSlot slot reqs (writtenOf written)))
+  overfull reqs = ltb keys (length (refreshHighestSlot slot reqs (writtenOf written)))
 
   pub late-is : (reqs : List Request) (lead : Bool) (cur : ℕ) (full : Bool) (j : ℕ) → lead ≡ leadsIt (leaderOf (n .«bodega_conf» .leader)) (n .id .0)
-      → cur ≡ (if lead then n .«bal_prepared» .0 else n .«bal_max_seen» .0) → ((at : ℕ) → full ≡ ltb 256 (length (refreshHighestSlot at reqs (writtenOf written))))
+      → cur ≡ (if lead then n .«bal_prepared» .0 else n .«bal_max_seen» .0) → ((at : ℕ) → full ≡ ltb keys (length (refreshHighestSlot at reqs (writtenOf written))))
       → j ≡ slotRefusal start (instsOf start (n .slots) words) slot ballot cur full → j ≡ lateRefusal n m slot ballot reqs
   unfolding lateRefusal part
   late-is reqs lead cur full j b y w v =
@@ -363,41 +364,41 @@ module _ (n : Node) (m : List ℕ) (slot ballot : ℕ) (ok : ready n m ≡ true)
     unfolding lateRefusal part
     in-window = fits start slot (not (eqb ballot (current leader)) || eqb (current leader) 0) _ (overfull reqs) (sym z)
 
-    room : length (refreshHighestSlot slot reqs (writtenOf written)) ≤ 256
-    room = ltb-false 256 (length (refreshHighestSlot slot reqs (writtenOf written))) (in-window .room)
+    room : length (refreshHighestSlot slot reqs (writtenOf written)) ≤ keys
+    room = ltb-false keys (length (refreshHighestSlot slot reqs (writtenOf written))) (in-window .room)
 
-    pub refreshable : (l : ℕ) → l ≡ 89 → ((2049 ≤ length written) × (89 ≤ l)) × (length (refreshHighestSlot slot reqs (writtenOf written)) ≤ 256)
+    pub refreshable : (l : ℕ) → l ≡ batchWords → ((writtenWords ≤ length written) × (batchWords ≤ l)) × (length (refreshHighestSlot slot reqs (writtenOf written)) ≤ keys)
     refreshable l e = ((omega (arith, written-long), omega (arith, e)), room)
 
     module _ (w′ : List ℕ) (lw : length w′ ≡ length written) where
       abbrev m₁ : List ℕ
-      m₁ = splice m 8256 2049 w′
+      m₁ = splice m writtenAt writtenWords w′
 
-      long-w : length w′ ≡ 2049
+      long-w : length w′ ≡ writtenWords
       long-w = lw ∙ written-long
 
       size₁ : length m₁ ≡ length m
       size₁ = written-size n m (r .long) w′ long-w
 
-      words-same : take 7744 (drop 512 m₁) ≡ words
+      words-same : take slotWords (drop slotsAt m₁) ≡ words
       unfolding part
-      words-same = part-before m 8256 2049 w′ (omega (arith, r .long)) long-w 512 7744 (omega arith)
+      words-same = part-before m writtenAt writtenWords w′ (omega (arith, r .long)) long-w slotsAt slotWords (omega arith)
 
-      pub acceptable : (l : ℕ) → l ≡ 89 → (start ≤ 281474976710655) × (n .slots ≤ 32) × (start ≤ slot) × (slot < start + 32) × (7744 ≤ length (take 7744 (drop 512 m₁))) × (l ≡ 89)
+      pub acceptable : (l : ℕ) → l ≡ batchWords → (start ≤ 281474976710655) × (n .slots ≤ slotPlaces) × (start ≤ slot) × (slot < start + window) × (slotWords ≤ length (take slotWords (drop slotsAt m₁))) × (l ≡ batchWords)
       acceptable l e = (r .start-low, r .window, in-window .above, in-window .inside, rw words-same (omega (arith, words-long)), e)
 
       module _ (q : Refreshes slot reqs written w′) (lead : Bool) (b : lead ≡ leadsIt (leaderOf (n .«bodega_conf» .leader)) (n .id .0)) (s′ : List ℕ) (held : ℕ)
-          (p₁ : Records start (n .slots) slot ballot lead reqs (take 7744 (drop 512 m₁)) s′ held) where
+          (p₁ : Records start (n .slots) slot ballot lead reqs (take slotWords (drop slotsAt m₁)) s′ held) where
         abbrev d : Node
         d = next n held
 
         abbrev m₂ : List ℕ
-        m₂ = splice m₁ 512 7744 s′
+        m₂ = splice m₁ slotsAt slotWords s′
 
         p : Records start (n .slots) slot ballot lead reqs words s′ held
         p = rw words-same at p₁
 
-        long-s : length s′ ≡ 7744
+        long-s : length s′ ≡ slotWords
         long-s = p .size ∙ words-long
 
         size₂ : length m₂ ≡ length m
@@ -458,7 +459,7 @@ module _ (n : Node) (m area : List ℕ) (slot ballot : ℕ) (rows text : List �
   abbrev qs : List Request
   qs = given rows text
 
-  whole : lowest (grounds (view n m) (Record slot ballot qs)) ≡ first (anyLong qs) (far slot) (ltb 8 (length qs)) (lateRefusal n m slot ballot qs)
+  whole : lowest (grounds (view n m) (Record slot ballot qs)) ≡ first (anyLong qs) (far slot) (ltb batch (length qs)) (lateRefusal n m slot ballot qs)
   unfolding grounds view instAt rosterOf part lateRefusal
   whole = refl
 
@@ -467,7 +468,7 @@ module _ (n : Node) (m area : List ℕ) (slot ballot : ℕ) (rows text : List �
     early-refused a h g = rw g (go (ready n m) refl e)
       where
         go : (t : Bool) → ready n m ≡ t → k ≡ (if t then batchRefusal qs slot else 2) → Answers ready view (Record slot ballot qs) n m area (record { number = k; count = 0; node = n }) m area
-        go true f x = refused-by (Record slot ballot qs) n m area true (sym f) refl k (first-of (anyLong qs) (far slot) (ltb 8 (length qs)) k (lateRefusal n m slot ballot qs) x h ∙ sym whole) h
+        go true f x = refused-by (Record slot ballot qs) n m area true (sym f) refl k (first-of (anyLong qs) (far slot) (ltb batch (length qs)) k (lateRefusal n m slot ballot qs) x h ∙ sym whole) h
         go false f x = rw x (gives-2 (Record slot ballot qs) n m area false (sym f) refl)
 
     module _ (z : k ≡ 0) where
@@ -481,21 +482,21 @@ module _ (n : Node) (m area : List ℕ) (slot ballot : ℕ) (rows text : List �
       pub is-made : ready n m ≡ true
       is-made = made .0
 
-      none-yet : (anyLong qs ≡ false) × (far slot ≡ false) × (ltb 8 (length qs) ≡ false)
-      none-yet = none-of (anyLong qs) (far slot) (ltb 8 (length qs)) (made .1)
+      none-yet : (anyLong qs ≡ false) × (far slot ≡ false) × (ltb batch (length qs) ≡ false)
+      none-yet = none-of (anyLong qs) (far slot) (ltb batch (length qs)) (made .1)
 
       pub short-keys-all : anyLong qs ≡ false
       short-keys-all = none-yet .0
 
-      pub few-requests : length qs ≤ 8
-      few-requests = ltb-false 8 (length qs) (none-yet .2)
+      pub few-requests : length qs ≤ batch
+      few-requests = ltb-false batch (length qs) (none-yet .2)
 
       module _ (reqs : List Request) (x : reqs ≡ qs) (j : ℕ) (v : j ≡ lateRefusal n m slot ballot reqs) where
         number-is : j ≡ lowest (grounds (view n m) (Record slot ballot qs))
         number-is =
             v ∙ ap (lateRefusal n m slot ballot) x
-            ∙ sym (whole ∙ ap (λ (p : Bool). first p (far slot) (ltb 8 (length qs)) (lateRefusal n m slot ballot qs)) (none-yet .0)
-            ∙ ap (λ (p : Bool). first false p (ltb 8 (length qs)) (lateRefusal n m slot ballot qs)) (none-yet .1) ∙ ap (λ (p : Bool). first false false p (lateRefusal n m slot ballot qs)) (none-yet .2))
+            ∙ sym (whole ∙ ap (λ (p : Bool). first p (far slot) (ltb batch (length qs)) (lateRefusal n m slot ballot qs)) (none-yet .0)
+            ∙ ap (λ (p : Bool). first false p (ltb batch (length qs)) (lateRefusal n m slot ballot qs)) (none-yet .1) ∙ ap (λ (p : Bool). first false false p (lateRefusal n m slot ballot qs)) (none-yet .2))
 
         pub late-refused : (a : Answered) → (j ≡ 0 → ⊥) → a ≡ record { number = j; count = 0; node = n } → Answers ready view (Record slot ballot qs) n m area (givenOf a) m area
         late-refused a h g = rw g (refused-by (Record slot ballot qs) n m area true (sym is-made) refl j number-is h)

@@ -8,8 +8,9 @@ use lib.Dec.{ltb, leb, eqb}
 use lib.ListN.{length, set, replicate, getElem?}
 use Rattle.words.specs.Choice.{if_then_else_, ifNone_then_else_}
 use Rattle.words.specs.Part.{part, Untouched}
-use Rattle.ids.specs.Limits.{window, batch, nodeWords}
+use Rattle.ids.specs.Limits.{window, batch, keys}
 use Rattle.ids.specs.Leader.{leaderOf}
+use Rattle.layout.specs.Layout.{slotPlaces, slotWords, writtenWords, slotsAt, writtenAt, nodeWords}
 use Rattle.roster_conf.specs.Ground.{Ground, _when_or_}
 use Rattle.bodega.specs.Replica.{Request, ReadReq, Instance, Accepting, newBook, nullInstance, isOpen}
 use Rattle.bodega.specs.Localread.{refreshHighestSlot}
@@ -54,8 +55,8 @@ lateRefusal n mem slot ballot reqs =
     let start = n .«start_slot» .0 in
     let leader = leadsIt (leaderOf (n .«bodega_conf» .leader)) (n .id .0) in
     let current = if leader then n .«bal_prepared» .0 else n .«bal_max_seen» .0 in
-    let full = ltb 256 (length (refreshHighestSlot slot reqs (writtenOf (part mem 8256 2049)))) in
-    slotRefusal start (instsOf start (n .slots) (part mem 512 7744)) slot ballot current full
+    let full = ltb keys (length (refreshHighestSlot slot reqs (writtenOf (part mem writtenAt writtenWords)))) in
+    slotRefusal start (instsOf start (n .slots) (part mem slotsAt slotWords)) slot ballot current full
 
 -- ---- a place: `accepting` on its three parts
 
@@ -80,7 +81,7 @@ pub record Pads (start n k : ℕ) (s t : List ℕ) (r : ℕ) : Type 0 where
   pub size : length t ≡ length s
   pub within : k < r
   pub more : n ≤ r
-  pub few : r ≤ 32
+  pub few : r ≤ slotPlaces
 
 -- an instance at the slot, Accepting
 abbrev pub acceptingBy : Bool → ℕ → List Request → Instance → Instance
@@ -100,7 +101,7 @@ pub record Records (start n slot ballot : ℕ) (leader : Bool) (reqs : List Requ
   pub insts : instsOf start r t ≡ set (instsOf start n s ++ replicate (slot + 1 - (start + n)) nullInstance) (slot - start) (acceptingBy leader ballot reqs old)
   pub size : length t ≡ length s
   pub more : n ≤ r
-  pub few : r ≤ 32
+  pub few : r ≤ slotPlaces
 
 -- the node and its buffer with the batch recorded
 pub record Recorded (slot ballot : ℕ) (reqs : List Request) (n : Node) (mem : List ℕ) (n′ : Node) (mem′ : List ℕ) : Type 0 where

@@ -14,7 +14,8 @@ ghost use mathlib.Core.Bool.{true};
 ghost use Prim.Native.Nat.{_+_, _≤_, _<_};
 ghost use lib.ListN.{length};
 ghost use Rattle.words.specs.Choice.{if_then_else_};
-ghost use Rattle.ids.specs.Limits.{window, top};
+ghost use Rattle.ids.specs.Limits.{top};
+ghost use Rattle.layout.specs.Layout.{slotPlaces, batchWords, slotWords};
 ghost use Rattle.bodega.specs.Replica.{Record};
 ghost use Rattle.bodega.specs.Answers.{Answers};
 ghost use Rattle.inst_cell.specs.Cell.{bookOf, acksOf};
@@ -52,7 +53,7 @@ fn current(leader: bool, prepared: Ballot, seen: Ballot) -> Ballot
 
 // 14: below the start, or held and no longer open.
 fn is_ended(s: &[u64], start: Slot, n: usize, slot: Slot) -> bool
-    requires { ⌜ (start .0 ≤ top) × (n ≤ window) × (7744 ≤ length (now s)) ⌝ }
+    requires { ⌜ (start .0 ≤ top) × (n ≤ slotPlaces) × (slotWords ≤ length (now s)) ⌝ }
     ensures { λ r. ⌜ r ≡ ended (start .0) (instsOf (start .0) n (now (s .entry))) (slot .0) ⌝ }
 {
     if slot.0 < start.0 {
@@ -61,7 +62,7 @@ fn is_ended(s: &[u64], start: Slot, n: usize, slot: Slot) -> bool
     if start.0 + n as u64 <= slot.0 {
         return false;
     }
-    let c = (slot.0 % 32) as usize;
+    let c = (slot.0 % layout::PLACES) as usize;
     !insts::is_open(s, c)
 }
 
@@ -75,7 +76,7 @@ fn slot_refusal(
     current: Ballot,
     full: bool,
 ) -> u64
-    requires { ⌜ (start .0 ≤ top) × (n ≤ window) × (7744 ≤ length (now s)) ⌝ }
+    requires { ⌜ (start .0 ≤ top) × (n ≤ slotPlaces) × (slotWords ≤ length (now s)) ⌝ }
     ensures { λ r. ⌜ r ≡ slotRefusal (start .0) (instsOf (start .0) n (now (s .entry))) (slot .0) (ballot .0) (current .0) full ⌝ }
 {
     if ballot.0 != current.0 {
@@ -98,7 +99,7 @@ fn slot_refusal(
 
 // Null slots up to and with the k-th from start on, where it is not held; how many slots there are then.
 fn padded(s: &mut [u64], start: Slot, n: usize, k: usize) -> usize
-    requires { ⌜ (start .0 ≤ top) × (n ≤ window) × (k < 32) × (7744 ≤ length (now s)) ⌝ }
+    requires { ⌜ (start .0 ≤ top) × (n ≤ slotPlaces) × (k < slotPlaces) × (slotWords ≤ length (now s)) ⌝ }
     ensures { λ r. ⌜ Pads (start .0) n k (now (s .entry)) (now (s .exit)) r ⌝ }
 {
     if k < n {
@@ -111,7 +112,7 @@ fn padded(s: &mut [u64], start: Slot, n: usize, k: usize) -> usize
 
 // No reads wait where there is no notice book.
 fn clear_unseen(s: &mut [u64], c: usize)
-    requires { ⌜ (c < 32) × (7744 ≤ length (now s)) ⌝ }
+    requires { ⌜ (c < slotPlaces) × (slotWords ≤ length (now s)) ⌝ }
     ensures { λ _. ⌜ Puts (now (s .entry)) c (shortAt (now (s .entry)) c) (batchAt (now (s .entry)) c) (seenReads (shortAt (now (s .entry)) c .replicaBk) (readsAt (now (s .entry)) c)) (now (s .exit)) ⌝ }
 {
     if inst_cell::has_book(s, c) {
@@ -143,9 +144,9 @@ fn kept_book(leader: bool, book: ReplicaBk) -> ReplicaBk
     }
 }
 
-// The slot at place c Accepting, with the batch in 89 words.
+// The slot at place c Accepting, with the batch in words.
 fn accept_at(s: &mut [u64], c: usize, ballot: Ballot, leader: bool, words: &[u64])
-    requires { ⌜ (c < 32) × (7744 ≤ length (now s)) × (length (now words) ≡ 89) ⌝ }
+    requires { ⌜ (c < slotPlaces) × (slotWords ≤ length (now s)) × (length (now words) ≡ batchWords) ⌝ }
     ensures { λ _. ⌜ Puts (now (s .entry)) c (acceptingShort leader (ballot .0) (shortAt (now (s .entry)) c .replicaBk)) (requestsOf (now (words .entry))) (seenReads (shortAt (now (s .entry)) c .replicaBk) (readsAt (now (s .entry)) c)) (now (s .exit)) ⌝ }
 {
     clear_unseen(s, c);
@@ -174,12 +175,12 @@ fn accept(
     leader: bool,
     words: &[u64],
 ) -> usize
-    requires { ⌜ (start .0 ≤ top) × (n ≤ window) × (start .0 ≤ slot .0) × (slot .0 < start .0 + window) × (7744 ≤ length (now s)) × (length (now words) ≡ 89) ⌝ }
+    requires { ⌜ (start .0 ≤ top) × (n ≤ slotPlaces) × (start .0 ≤ slot .0) × (slot .0 < start .0 + slotPlaces) × (slotWords ≤ length (now s)) × (length (now words) ≡ batchWords) ⌝ }
     ensures { λ r. ⌜ Records (start .0) n (slot .0) (ballot .0) leader (requestsOf (now (words .entry))) (now (s .entry)) (now (s .exit)) r ⌝ }
 {
     let k = (slot.0 - start.0) as usize;
     let held = padded(s, start, n, k);
-    let place = (slot.0 % 32) as usize;
+    let place = (slot.0 % layout::PLACES) as usize;
     accept_at(s, place, ballot, leader, words);
     held
 }
@@ -194,18 +195,18 @@ fn early_refusal(node: Node, mem: &[u64], slot: Slot, rows: &[u64], text: &[u8])
     batch_refusal(rows, text, slot)
 }
 
-// What the slot, the ballot and the keys of a batch in 89 words meet at a node.
+// What the slot, the ballot and the keys of a batch in words meet at a node.
 fn late_refusal(node: Node, mem: &[u64], slot: Slot, ballot: Ballot, words: &[u64]) -> u64
-    requires { ⌜ (ready node (now mem) ≡ true) × (length (now words) ≡ 89) ⌝ }
+    requires { ⌜ (ready node (now mem) ≡ true) × (length (now words) ≡ batchWords) ⌝ }
     ensures { λ r. ⌜ r ≡ lateRefusal node (now (mem .entry)) (slot .0) (ballot .0) (requestsOf (now (words .entry))) ⌝ }
 {
     let conf = node.bodega_conf;
     let chosen = conf.leader;
     let leader = leads(chosen, node.id);
     let bal = current(leader, node.bal_prepared, node.bal_max_seen);
-    let full = highest_slot_refresh::overflows(&mem[8256..10305], words);
+    let full = highest_slot_refresh::overflows(&mem[layout::WRITTEN_AT..layout::NODE_WORDS], words);
     slot_refusal(
-        &mem[512..8256],
+        &mem[layout::SLOTS_AT..layout::WRITTEN_AT],
         node.start_slot,
         node.slots,
         slot,
@@ -217,15 +218,19 @@ fn late_refusal(node: Node, mem: &[u64], slot: Slot, ballot: Ballot, words: &[u6
 
 // The node after a batch that nothing refuses is recorded.
 fn recorded(node: Node, mem: &mut [u64], slot: Slot, ballot: Ballot, words: &[u64]) -> Node
-    requires { ⌜ (ready node (now mem) ≡ true) × (lateRefusal node (now mem) (slot .0) (ballot .0) (requestsOf (now words)) ≡ 0) × (length (now words) ≡ 89) ⌝ }
+    requires { ⌜ (ready node (now mem) ≡ true) × (lateRefusal node (now mem) (slot .0) (ballot .0) (requestsOf (now words)) ≡ 0) × (length (now words) ≡ batchWords) ⌝ }
     ensures { λ r. ⌜ Recorded (slot .0) (ballot .0) (requestsOf (now (words .entry))) node (now (mem .entry)) r (now (mem .exit)) ⌝ }
 {
     let conf = node.bodega_conf;
     let chosen = conf.leader;
     let leader = leads(chosen, node.id);
-    highest_slot_refresh::refresh(&mut mem[8256..10305], words, slot);
+    highest_slot_refresh::refresh(
+        &mut mem[layout::WRITTEN_AT..layout::NODE_WORDS],
+        words,
+        slot,
+    );
     let held = accept(
-        &mut mem[512..8256],
+        &mut mem[layout::SLOTS_AT..layout::WRITTEN_AT],
         node.start_slot,
         node.slots,
         slot,
@@ -263,7 +268,7 @@ pub fn record(
     if early != 0 {
         return refused(node, early);
     }
-    let mut words = [0u64; 89];
+    let mut words = [0u64; layout::BATCH_WORDS];
     req_batch::load(rows, text, &mut words);
     let late = late_refusal(node, mem, slot, ballot, &words);
     if late != 0 {

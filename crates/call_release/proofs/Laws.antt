@@ -13,6 +13,7 @@ use Rattle.words.specs.Choice.{if_then_else_, ifNone_then_else_}
 use Rattle.words.specs.Part.{part, splice, length-part}
 use Rattle.words.proofs.Tests.{or-both}
 use Rattle.ids.specs.Leader.{leaderOf}
+use Rattle.layout.specs.Layout.{slotPlaces, heldPlaces, slotWords, slotsAt, nodeWords}
 use Rattle.items.specs.Item.{Item, places}
 use Rattle.roster_conf.specs.Edits.{view as rosterOf}
 use Rattle.roster_conf.specs.Ground.{Ground, _when_or_}
@@ -48,9 +49,9 @@ module _ (start slots slot : ℕ) where
       pub held-0 : slot - start < slots → 0 ≡ releaseRefusal start slots slot
       held-0 k = simp (le-ltb 281474976710655 slot h, le-ltb slot start g, lt-leb (start + slots) slot (omega arith))
 
-pub slots-long : (m : List ℕ) → 10305 ≤ length m → length (take 7744 (drop 512 m)) ≡ 7744
+pub slots-long : (m : List ℕ) → nodeWords ≤ length m → length (take slotWords (drop slotsAt m)) ≡ slotWords
 unfolding part
-slots-long m h = length-part m 512 7744 (omega arith)
+slots-long m h = length-part m slotsAt slotWords (omega arith)
 
 -- ---- the call
 
@@ -87,10 +88,10 @@ module _ (n : Node) (m area : List ℕ) (slot : ℕ) (t : Bool) (e : t ≡ ready
         (ltb-false slot start (q .0), leb-false (start + n .slots) slot (q .1))
 
     abbrev s : List ℕ
-    s = part m 512 7744
+    s = part m slotsAt slotWords
 
     abbrev inst : machine.Instance
-    inst = instIn s (slot % 32)
+    inst = instIn s (slot % slotPlaces)
 
     abbrev items : List Item
     items = answersOf (n .quorum) (leaderOf (n .«bodega_conf» .leader)) inst
@@ -99,7 +100,7 @@ module _ (n : Node) (m area : List ℕ) (slot : ℕ) (t : Bool) (e : t ≡ ready
     unfolding effect view rosterOf
     effect-is = release-is (view n m) slot inst (held-at n m slot (in-window .0) (in-window .1))
 
-    module _ (h : ℕ) (p : (h ≡ length (holdingOf (instIn (take 7744 (drop 512 m)) (slot % 32)))) × (h ≤ 16)) where
+    module _ (h : ℕ) (p : (h ≡ length (holdingOf (instIn (take slotWords (drop slotsAt m)) (slot % slotPlaces)))) × (h ≤ heldPlaces)) where
       many : length items ≡ h
       unfolding part
       many = length-answers (n .quorum) (leaderOf (n .«bodega_conf» .leader)) inst ∙ sym (p .0)
@@ -108,16 +109,16 @@ module _ (n : Node) (m area : List ℕ) (slot : ℕ) (t : Bool) (e : t ≡ ready
       release-20 q = few-places (machine.Release slot) n m area t e f k number-is z (rw (effect-is, many) q)
 
       module _ (q : h ≤ length area / 6) where
-        pub room : (slot % 32 < 32) × (7744 ≤ length (take 7744 (drop 512 m))) × (0 + length (holdingOf (instIn (take 7744 (drop 512 m)) (slot % 32))) ≤ places area)
+        pub room : (slot % slotPlaces < slotPlaces) × (slotWords ≤ length (take slotWords (drop slotsAt m))) × (0 + length (holdingOf (instIn (take slotWords (drop slotsAt m)) (slot % slotPlaces))) ≤ places area)
         room = (omega arith, omega (arith, slots-long m (r .long)), omega (arith, p .0))
 
-        pub release-taken : (s′ area′ : List ℕ) (count : ℕ) → Releases (n .quorum) (leaderOf (n .«bodega_conf» .leader)) (slot % 32) 0 (take 7744 (drop 512 m)) area count s′ area′
-            → Answers ready view (machine.Release slot) n m area (record { number = 0; count = count; node = n }) (splice m 512 7744 s′) area′
+        pub release-taken : (s′ area′ : List ℕ) (count : ℕ) → Releases (n .quorum) (leaderOf (n .«bodega_conf» .leader)) (slot % slotPlaces) 0 (take slotWords (drop slotsAt m)) area count s′ area′
+            → Answers ready view (machine.Release slot) n m area (record { number = 0; count = count; node = n }) (splice m slotsAt slotWords s′) area′
         unfolding part
         release-taken s′ area′ count x =
-            let l : length s′ ≡ 7744 = x .emptied .size ∙ slots-long m (r .long) in
+            let l : length s′ ≡ slotWords = x .emptied .size ∙ slots-long m (r .long) in
             rw (x .count)
-            (taken-with (machine.Release slot) n m area t e f k number-is z (machine.setInst slot (emptied inst) (view n m)) items n (splice m 512 7744 s′) area′
+            (taken-with (machine.Release slot) n m area t e f k number-is z (machine.setInst slot (emptied inst) (view n m)) items n (splice m slotsAt slotWords s′) area′
             effect-is (rw many q)
-            (slots-back n m (r .long) s′ l ∙ set-at n m slot (in-window .0) (in-window .1) (r .window) (x .emptied) ∙ ap (λ (i : machine.Instance). machine.setInst slot i (view n m)) (emptied-is s (slot % 32)))
+            (slots-back n m (r .long) s′ l ∙ set-at n m slot (in-window .0) (in-window .1) (r .window) (x .emptied) ∙ ap (λ (i : machine.Instance). machine.setInst slot i (view n m)) (emptied-is s (slot % slotPlaces)))
             (x .items) (slots-size n m (r .long) s′ l) (slots-beyond n m (r .long) s′ l) (slots-ready n m (r .long) s′ l ∙ sym e ∙ not-false t f))

@@ -43,8 +43,8 @@ pub fn release(node: Node, mem: &mut [u64], area: &mut [u64], slot: Slot) -> Ans
             node,
         };
     }
-    let c = (slot.0 % 32) as usize;
-    let held = release_held_reads::holding(&mem[512..8256], c);
+    let c = (slot.0 % layout::PLACES) as usize;
+    let held = release_held_reads::holding(&mem[layout::SLOTS_AT..layout::WRITTEN_AT], c);
     if area.len() / 6 < held {
         return Answered {
             number: 20,
@@ -54,7 +54,14 @@ pub fn release(node: Node, mem: &mut [u64], area: &mut [u64], slot: Slot) -> Ans
     }
     let conf = node.bodega_conf;
     let leader = conf.leader;
-    let count = release_held_reads::release(&mut mem[512..8256], c, node.quorum, leader, area, 0);
+    let count = release_held_reads::release(
+        &mut mem[layout::SLOTS_AT..layout::WRITTEN_AT],
+        c,
+        node.quorum,
+        leader,
+        area,
+        0,
+    );
     Answered {
         number: 0,
         count,

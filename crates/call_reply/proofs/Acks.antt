@@ -9,6 +9,7 @@ use lib.ListN.{take, drop}
 use borrow.Author.Tests.{lt-ltb, le-ltb, not-true, not-false}
 use Rattle.words.specs.Part.{part}
 use Rattle.words.specs.Writes.{writes}
+use Rattle.layout.specs.Layout.{batchWords}
 use Rattle.bitmap.specs.Bitmap.{get, setTo}
 use Rattle.items.specs.Item.{Commit, encode, places}
 use Rattle.items.specs.Area.{Put, putItem}
@@ -20,7 +21,7 @@ use Rattle.inst_cell.specs.declared.Cell.{Cell}
 use Rattle.inst_cell.specs.declared.LeaderBk.{LeaderBk}
 use Rattle.inst_cell.specs.declared.LeaderBk.the-variants as leader
 use Rattle.inst_cell.specs.Cell.{Short, statusOf, acksOf, cellOf, withStatus}
-use Rattle.insts.specs.Slots.{shortAt, batchAt, readsAt, Puts}
+use Rattle.insts.specs.Slots.{batchStart, shortAt, batchAt, readsAt, Puts}
 use Rattle.insts.proofs.Laws.{short-after}
 use Rattle.call_reply.specs.declared.Ack.{Ack}
 use Rattle.call_reply.specs.declared.Ack.the-variants.{Ignored, Marks, Commits}
@@ -63,10 +64,11 @@ module _ (s : List ℕ) (c peer ballot quorum : ℕ) (conf : Conf) (r : LeaderBk
   unfolding ackOf
   ignored f = sym (rw (sym e ∙ ap acksOf f))
 
-  module _ (acks : ℕ) (f : r ≡ leader.Some acks) (k : ℕ) (w : k ≡ 89) (t : Bool) (g : t ≡ commitCondition acks (requestsOf (take k (drop (256 + c * 89) s))) quorum conf) where
+  module _ (acks : ℕ) (f : r ≡ leader.Some acks) (from k : ℕ) (h : from ≡ batchStart c) (w : k ≡ batchWords) (t : Bool)
+      (g : t ≡ commitCondition acks (requestsOf (take k (drop from s))) quorum conf) where
     condition : t ≡ commitCondition acks (batchAt s c) quorum conf
     unfolding batchAt part
-    condition = rw w at g
+    condition = rw (h, w) at g
 
     pub commits : t ≡ true → Commits acks ≡ ackOf (shortAt s c) (batchAt s c) peer ballot quorum conf
     unfolding ackOf

@@ -27,6 +27,7 @@ use Rattle.insts.specs.Slots.{shortAt, batchAt, readsAt, instOf, instIn, instsO
 use Rattle.node.specs.declared.Node.{Node}
 use Rattle.node.specs.View.{view, ready, lowest, leadsIt}
 use Rattle.words.proofs.Tests.{and-both}
+use Rattle.layout.specs.Layout.{slotPlaces, slotWords, rosterWords, rowsAt, slotsAt, nodeWords}
 use Rattle.node.proofs.Calls.{Ready, is-ready, refused-by, none-applies, few-places, taken-with, taken-by}
 use Rattle.node.proofs.Frames.{slots-back, slots-size, slots-beyond, slots-ready}
 use Rattle.node.proofs.Slots.{not-past, held-at, set-at}
@@ -157,13 +158,13 @@ module _ (slot peer : ℕ) (more : List Item) (gets : ℕ → Bool) (same : Bool
       go false true = refl
       go false false = refl
 
-resends-are : (r : machine.Replica) (s : List ℕ) (peer k : ℕ) → ((j : ℕ) → j < k → machine.instAt r (r .bar .commit + j) ≡ some (instIn s ((r .bar .commit + j) % 32)))
+resends-are : (r : machine.Replica) (s : List ℕ) (peer k : ℕ) → ((j : ℕ) → j < k → machine.instAt r (r .bar .commit + j) ≡ some (instIn s ((r .bar .commit + j) % slotPlaces)))
     → resendMissedAccepts r peer k ≡ resendsOf s (r .bar .commit) peer (r .bal .prepared) k
 unfolding resendMissedAccepts resendsOf missedOf instIn
 resends-are r s peer zero h = refl
 resends-are r s peer (suc k) h =
     let slot : ℕ = r .bar .commit + k in
-    let x : Short = shortAt s (slot % 32) in
+    let x : Short = shortAt s (slot % slotPlaces) in
     rw (h k (omega arith))
     (by-kind slot peer (resendMissedAccepts r peer k) (λ acks. get acks peer) (eqb (x .bal) (r .bal .prepared)) (not (machine.isAccepting (x .status))) (x .leaderBk)
     ∙ ap (andMore (missedOf x peer (r .bal .prepared)) slot peer) (resends-are r s peer k (λ j l. h j (omega arith))))
@@ -261,7 +262,7 @@ acts-size (Commits m) s t c x = x .size
 
 module _ (n : Node) (m area : List ℕ) (peer slot ballot : ℕ) (t : Bool) (e : t ≡ ready n m) (f : not t ≡ false) where
   abbrev words : List ℕ
-  words = take 7744 (drop 512 m)
+  words = take slotWords (drop slotsAt m)
 
   abbrev call : machine.Call
   call = machine.Reply peer slot ballot
@@ -269,7 +270,7 @@ module _ (n : Node) (m area : List ℕ) (peer slot ballot : ℕ) (t : Bool) (e :
   r : Ready n m
   r = is-ready n m t e f
 
-  pub asked : (n .«start_slot» .0 ≤ 281474976710655) × (n .slots ≤ 32)
+  pub asked : (n .«start_slot» .0 ≤ 281474976710655) × (n .slots ≤ slotPlaces)
   asked = (r .start-low, r .window)
 
   module _ (k : ℕ) (g : k ≡ replyRefusal (n .population) (n .«start_slot» .0) (n .slots) (n .«bal_prepared» .0) peer slot ballot) where
@@ -302,64 +303,64 @@ module _ (n : Node) (m area : List ℕ) (peer slot ballot : ℕ) (t : Bool) (e :
             (past-end (n .«start_slot» .0) (n .slots) (n .«bal_prepared» .0) slot ballot low same ∙ ground-16 n m peer slot ballot ∙ none-applies call n m k g′ z .1 .1 .0)
 
         resent-by : (b : Bool) → (if b then [] else resendMissedAccepts (view n m) peer (slot - n .«commit_bar» .0))
-            ≡ resendsOf (part m 512 7744) (n .«commit_bar» .0) peer (n .«bal_prepared» .0) (if b then 0 else slot - n .«commit_bar» .0)
+            ≡ resendsOf (part m slotsAt slotWords) (n .«commit_bar» .0) peer (n .«bal_prepared» .0) (if b then 0 else slot - n .«commit_bar» .0)
         unfolding view
-        resent-by true = sym (no-resend (part m 512 7744) (n .«commit_bar» .0) peer (n .«bal_prepared» .0))
+        resent-by true = sym (no-resend (part m slotsAt slotWords) (n .«commit_bar» .0) peer (n .«bal_prepared» .0))
         resent-by false =
-            resends-are (view n m) (part m 512 7744) peer (slot - n .«commit_bar» .0)
+            resends-are (view n m) (part m slotsAt slotWords) peer (slot - n .«commit_bar» .0)
             (λ j l. held-at n m (n .«commit_bar» .0 + j) (omega (arith, r)) (omega (arith, high)))
 
         abbrev here : machine.Instance
-        here = instIn (part m 512 7744) (slot % 32)
+        here = instIn (part m slotsAt slotWords) (slot % slotPlaces)
 
-        after-is : (a : Ack) (s′ : List ℕ) → Acts a (part m 512 7744) (slot % 32) s′ → machine.withInsts (instsOf (n .«start_slot» .0) (n .slots) s′) (view n m) ≡ after a slot here (view n m)
+        after-is : (a : Ack) (s′ : List ℕ) → Acts a (part m slotsAt slotWords) (slot % slotPlaces) s′ → machine.withInsts (instsOf (n .«start_slot» .0) (n .slots) s′) (view n m) ≡ after a slot here (view n m)
         unfolding view instIn
         after-is Ignored s′ x = ap (λ (s : List ℕ). machine.withInsts (instsOf (n .«start_slot» .0) (n .slots) s) (view n m)) x
         after-is (Marks b) s′ x = set-at n m slot low high (r .window) x
         after-is (Commits b) s′ x = set-at n m slot low high (r .window) x
 
-        pub buffer : 10305 ≤ length m
+        pub buffer : nodeWords ≤ length m
         buffer = r .long
 
-        pub ack-asked : (slot % 32 < 32) × (10305 ≤ length m) × (n .«bodega_conf» .count ≤ 64)
+        pub ack-asked : (slot % slotPlaces < slotPlaces) × (nodeWords ≤ length m) × (n .«bodega_conf» .count ≤ 64)
         ack-asked = (omega arith, r .long, r .ranges)
 
-        words-long : length words ≡ 7744
+        words-long : length words ≡ slotWords
         unfolding part
-        words-long = length-part m 512 7744 (omega (arith, r .long))
+        words-long = length-part m slotsAt slotWords (omega (arith, r .long))
 
-        pub reply-asked : (7744 ≤ length words) × (n .«commit_bar» .0 ≤ 281474976710687) × (slot ≤ n .«commit_bar» .0 + 32)
+        pub reply-asked : (slotWords ≤ length words) × (n .«commit_bar» .0 ≤ 281474976710687) × (slot ≤ n .«commit_bar» .0 + slotPlaces)
         reply-asked = (omega (arith, words-long), omega (arith, r), omega (arith, r, high))
 
-        module _ (a : Ack) (y : a ≡ ackOf (shortAt (part m 512 7744) (slot % 32)) (batchAt (part m 512 7744) (slot % 32)) peer ballot (n .quorum) (rosterOf (n .«bodega_conf») (part m 192 320))) where
+        module _ (a : Ack) (y : a ≡ ackOf (shortAt (part m slotsAt slotWords) (slot % slotPlaces)) (batchAt (part m slotsAt slotWords) (slot % slotPlaces)) peer ballot (n .quorum) (rosterOf (n .«bodega_conf») (part m rowsAt rosterWords))) where
           abbrev items : List Item
-          items = itemsOf (part m 512 7744) (n .id .0) peer (n .«commit_bar» .0) (n .«bal_prepared» .0) slot a
+          items = itemsOf (part m slotsAt slotWords) (n .id .0) peer (n .«commit_bar» .0) (n .«bal_prepared» .0) slot a
 
           effect-is : effect (view n m) call ≡ machine.done (after a slot here (view n m)) items
           unfolding effect view instIn
           effect-is =
               handled-at n m peer slot ballot
               ∙ ap (λ (b : Bool). if b then takeAck (view n m) peer slot ballot (resent n m peer slot ballot) else machine.done (view n m) []) (sym w ∙ not-false u v)
-              ∙ take-ack (view n m) peer slot ballot (resent n m peer slot ballot) (shortAt (part m 512 7744) (slot % 32)) (batchAt (part m 512 7744) (slot % 32)) (readsAt (part m 512 7744) (slot % 32)) (held-at n m slot low high)
+              ∙ take-ack (view n m) peer slot ballot (resent n m peer slot ballot) (shortAt (part m slotsAt slotWords) (slot % slotPlaces)) (batchAt (part m slotsAt slotWords) (slot % slotPlaces)) (readsAt (part m slotsAt slotWords) (slot % slotPlaces)) (held-at n m slot low high)
               ∙ ap (result slot (resent n m peer slot ballot) here (view n m)) (sym y)
               ∙ ap (λ (l : List Item). result slot l here (view n m) a) (resent-by (eqb peer (n .id .0)))
 
           module _ (q : Taken) (s′ area′ : List ℕ)
-              (p : Replies (itemsOf words (n .id .0) peer (n .«commit_bar» .0) (n .«bal_prepared» .0) slot a) a (slot % 32) words area q s′ area′) where
-            pub reply-full : q ≡ Full → Answers ready view call n m area (record { number = 20; count = 0; node = n }) (splice m 512 7744 s′) area′
+              (p : Replies (itemsOf words (n .id .0) peer (n .«commit_bar» .0) (n .«bal_prepared» .0) slot a) a (slot % slotPlaces) words area q s′ area′) where
+            pub reply-full : q ≡ Full → Answers ready view call n m area (record { number = 20; count = 0; node = n }) (splice m slotsAt slotWords s′) area′
             unfolding part
             reply-full h =
-                let x : Replies items a (slot % 32) words area Full s′ area′ = subst (λ (y : Taken). Replies items a (slot % 32) words area y s′ area′) h p in
+                let x : Replies items a (slot % slotPlaces) words area Full s′ area′ = subst (λ (y : Taken). Replies items a (slot % slotPlaces) words area y s′ area′) h p in
                 let few : places area < length (effect (view n m) call .items) = rw effect-is (x .0) in
-                let same : m ≡ splice m 512 7744 s′ = sym (splice-same m 512 7744) ∙ ap (splice m 512 7744) (sym (x .1)) in
+                let same : m ≡ splice m slotsAt slotWords s′ = sym (splice-same m slotsAt slotWords) ∙ ap (splice m slotsAt slotWords) (sym (x .1)) in
                 subst (λ (y : List ℕ). Answers ready view call n m area (record { number = 20; count = 0; node = n }) y area′) same
                 (subst (λ (y : List ℕ). Answers ready view call n m area (record { number = 20; count = 0; node = n }) m y) (sym (x .2)) (few-places call n m area t e f k g′ z few))
 
-            pub reply-taken : (j : ℕ) → q ≡ Items j → Answers ready view call n m area (record { number = 0; count = j; node = n }) (splice m 512 7744 s′) area′
+            pub reply-taken : (j : ℕ) → q ≡ Items j → Answers ready view call n m area (record { number = 0; count = j; node = n }) (splice m slotsAt slotWords s′) area′
             unfolding part
             reply-taken j h =
-                let x : Replies items a (slot % 32) words area (Items j) s′ area′ = subst (λ (y : Taken). Replies items a (slot % 32) words area y s′ area′) h p in
-                let long : length s′ ≡ 7744 = acts-size a words s′ (slot % 32) (x .3) ∙ words-long in
-                subst (λ (c : ℕ). Answers ready view call n m area (record { number = 0; count = c; node = n }) (splice m 512 7744 s′) area′) (sym (x .0))
-                (taken-with call n m area t e f k g′ z (after a slot here (view n m)) items n (splice m 512 7744 s′) area′ effect-is (x .1)
+                let x : Replies items a (slot % slotPlaces) words area (Items j) s′ area′ = subst (λ (y : Taken). Replies items a (slot % slotPlaces) words area y s′ area′) h p in
+                let long : length s′ ≡ slotWords = acts-size a words s′ (slot % slotPlaces) (x .3) ∙ words-long in
+                subst (λ (c : ℕ). Answers ready view call n m area (record { number = 0; count = c; node = n }) (splice m slotsAt slotWords s′) area′) (sym (x .0))
+                (taken-with call n m area t e f k g′ z (after a slot here (view n m)) items n (splice m slotsAt slotWords s′) area′ effect-is (x .1)
                 (slots-back n m (r .long) s′ long ∙ after-is a s′ (x .3)) (x .2) (slots-size n m (r .long) s′ long) (slots-beyond n m (r .long) s′ long) (slots-ready n m (r .long) s′ long ∙ sym e ∙ not-false t f))

@@ -7,6 +7,7 @@ use native.Mathlib.Omega.{arith}
 use lib.ListN.{length, length-append}
 use borrow.Author.Tests.{eq-eqb, ne-eqb, not-true, not-false}
 use Rattle.words.specs.Writes.{writes, writes-append}
+use Rattle.layout.specs.Layout.{slotPlaces}
 use Rattle.bitmap.specs.Bitmap.{get}
 use Rattle.items.specs.Item.{Item, Resend, itemWords, encode, places, length-encode, encode-append}
 use Rattle.items.specs.Area.{Put, putItem}
@@ -102,7 +103,7 @@ module _ (s : List ℕ) (commit peer prepared : ℕ) where
     put-end area whole e = (count-end, none-written area (count * 6) ∙ ap (λ (l : List Item). writes area (count * 6) (encode l)) (sym ended) ∙ e)
 
   -- the last of k slots, and those that are left
-  module _ (k : ℕ) (h : 0 < k) (q : Missed) (e : q ≡ missedOf (shortAt s ((commit + (k - 1)) % 32)) peer prepared) where
+  module _ (k : ℕ) (h : 0 < k) (q : Missed) (e : q ≡ missedOf (shortAt s ((commit + (k - 1)) % slotPlaces)) peer prepared) where
     last-first : rest k ≡ sends q (commit + (k - 1)) peer ++ rest (leftBy q (k - 1))
     unfolding resendsOf
     last-first =

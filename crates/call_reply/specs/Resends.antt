@@ -4,6 +4,7 @@ use mathlib.Core.List.{List, [], _∷_}
 use Prim.Native.Nat.{ℕ, zero, suc, _+_, _%_}
 use lib.Dec.{eqb}
 use Rattle.words.specs.Choice.{if_then_else_, ifNone_then_else_}
+use Rattle.layout.specs.Layout.{slotPlaces}
 use Rattle.bitmap.specs.Bitmap.{get}
 use Rattle.items.specs.Item.{Item, Resend}
 use Rattle.bodega.specs.Replica.{isAccepting}
@@ -45,4 +46,4 @@ andMore Send slot peer more = Resend slot peer ∷ more
 unfoldable pub resendsOf : List ℕ → ℕ → ℕ → ℕ → ℕ → List Item
 resendsOf s commit peer prepared zero = []
 resendsOf s commit peer prepared (suc n) =
-    andMore (missedOf (shortAt s ((commit + n) % 32)) peer prepared) (commit + n) peer (resendsOf s commit peer prepared n)
+    andMore (missedOf (shortAt s ((commit + n) % slotPlaces)) peer prepared) (commit + n) peer (resendsOf s commit peer prepared n)

@@ -17,7 +17,8 @@ ghost use lib.ListN.{length};
 ghost use Rattle.words.specs.Part.{part};
 ghost use Rattle.words.specs.Writes.{writes};
 ghost use Rattle.ids.specs.Leader.{leaderOf};
-ghost use Rattle.ids.specs.Limits.{window, top};
+ghost use Rattle.ids.specs.Limits.{top};
+ghost use Rattle.layout.specs.Layout.{slotPlaces, slotWords, rosterWords, rowsAt, slotsAt, nodeWords};
 ghost use Rattle.items.specs.Item.{encode, places};
 ghost use Rattle.bodega.specs.Replica.{Reply, isAccepting};
 ghost use Rattle.bodega.specs.Answers.{Answers};
@@ -51,7 +52,7 @@ fn is_accepting(status: Status) -> bool
 }
 
 fn missed_at(s: &[u64], c: usize, peer: Replica, prepared: Ballot) -> Missed
-    requires { ⌜ (c < 32) × (7744 ≤ length (now s)) ⌝ }
+    requires { ⌜ (c < slotPlaces) × (slotWords ≤ length (now s)) ⌝ }
     ensures { λ r. ⌜ r ≡ missedOf (shortAt (now (s .entry)) c) (peer .0) (prepared .0) ⌝ }
 {
     let cell = insts::load(s, c);
@@ -96,15 +97,15 @@ fn left(kind: Missed, i: usize) -> usize
 
 // How many Accepts are sent again, of n slots from the commit bar on.
 fn count_resends(s: &[u64], commit: Slot, n: usize, peer: Replica, prepared: Ballot) -> usize
-    requires { ⌜ (commit .0 ≤ top + window) × (n ≤ window) × (7744 ≤ length (now s)) ⌝ }
-    ensures { λ r. ⌜ (r ≡ length (resendsOf (now (s .entry)) (commit .0) (peer .0) (prepared .0) n)) × (r ≤ 32) ⌝ }
+    requires { ⌜ (commit .0 ≤ top + slotPlaces) × (n ≤ slotPlaces) × (slotWords ≤ length (now s)) ⌝ }
+    ensures { λ r. ⌜ (r ≡ length (resendsOf (now (s .entry)) (commit .0) (peer .0) (prepared .0) n)) × (r ≤ slotPlaces) ⌝ }
 {
     let mut count = 0;
     let mut k = n;
     while 0 < k {
         let i = k - 1;
         let slot = commit.0 + i as u64;
-        let c = (slot % 32) as usize;
+        let c = (slot % layout::PLACES) as usize;
         let kind = missed_at(s, c, peer, prepared);
         count += sent(kind);
         k = left(kind, i);
@@ -133,7 +134,7 @@ fn put_resends(
     prepared: Ballot,
     area: &mut [u64],
 ) -> usize
-    requires { ⌜ (commit .0 ≤ top + window) × (n ≤ window) × (7744 ≤ length (now s)) × (length (resendsOf (now s) (commit .0) (peer .0) (prepared .0) n) ≤ places (now area)) ⌝ }
+    requires { ⌜ (commit .0 ≤ top + slotPlaces) × (n ≤ slotPlaces) × (slotWords ≤ length (now s)) × (length (resendsOf (now s) (commit .0) (peer .0) (prepared .0) n) ≤ places (now area)) ⌝ }
     ensures { λ r. ⌜ (r ≡ length (resendsOf (now (s .entry)) (commit .0) (peer .0) (prepared .0) n)) × (now (area .exit) ≡ writes (now (area .entry)) 0 (encode (resendsOf (now (s .entry)) (commit .0) (peer .0) (prepared .0) n))) ⌝ }
 {
     let mut place = 0;
@@ -141,7 +142,7 @@ fn put_resends(
     while 0 < k {
         let j = k - 1;
         let slot = commit.0 + j as u64;
-        let c = (slot % 32) as usize;
+        let c = (slot % layout::PLACES) as usize;
         let kind = missed_at(s, c, peer, prepared);
         place = put_missed(area, place, kind, Slot(slot), peer);
         k = left(kind, j);
@@ -160,7 +161,7 @@ enum Ack {
 
 // None where the slot does not wait for it.
 fn acks_with(s: &[u64], c: usize, peer: Replica, ballot: Ballot) -> LeaderBk
-    requires { ⌜ (c < 32) × (7744 ≤ length (now s)) ⌝ }
+    requires { ⌜ (c < slotPlaces) × (slotWords ≤ length (now s)) ⌝ }
     ensures { λ r. ⌜ acksOf r ≡ acksWith (shortAt (now (s .entry)) c) (peer .0) (ballot .0) ⌝ }
 {
     let cell = insts::load(s, c);
@@ -191,14 +192,14 @@ fn ack_at(
     quorum: u8,
     conf: RespondersConf,
 ) -> Ack
-    requires { ⌜ (c < 32) × (7744 ≤ length (now s)) × (320 ≤ length (now rows)) × (conf .count ≤ 64) ⌝ }
+    requires { ⌜ (c < slotPlaces) × (slotWords ≤ length (now s)) × (rosterWords ≤ length (now rows)) × (conf .count ≤ 64) ⌝ }
     ensures { λ r. ⌜ r ≡ ackOf (shortAt (now (s .entry)) c) (batchAt (now (s .entry)) c) (peer .0) (ballot .0) quorum (rosterOf conf (now (rows .entry))) ⌝ }
 {
     let LeaderBk::Some(acks) = acks_with(s, c, peer, ballot) else {
         return Ack::Ignored;
     };
-    let a = 256 + c * 89;
-    let e = a + 89;
+    let a = insts::batch_at(c);
+    let e = a + layout::BATCH_WORDS;
     if commit_condition::commit_condition(acks, &s[a..e], quorum, conf, rows) {
         return Ack::Commits(acks);
     }
@@ -214,12 +215,12 @@ fn ack_in(
     quorum: u8,
     conf: RespondersConf,
 ) -> Ack
-    requires { ⌜ (c < 32) × (10305 ≤ length (now mem)) × (conf .count ≤ 64) ⌝ }
-    ensures { λ r. ⌜ r ≡ ackOf (shortAt (part (now (mem .entry)) 512 7744) c) (batchAt (part (now (mem .entry)) 512 7744) c) (peer .0) (ballot .0) quorum (rosterOf conf (part (now (mem .entry)) 192 320)) ⌝ }
+    requires { ⌜ (c < slotPlaces) × (nodeWords ≤ length (now mem)) × (conf .count ≤ 64) ⌝ }
+    ensures { λ r. ⌜ r ≡ ackOf (shortAt (part (now (mem .entry)) slotsAt slotWords) c) (batchAt (part (now (mem .entry)) slotsAt slotWords) c) (peer .0) (ballot .0) quorum (rosterOf conf (part (now (mem .entry)) rowsAt rosterWords)) ⌝ }
 {
     ack_at(
-        &mem[512..8256],
-        &mem[192..512],
+        &mem[layout::SLOTS_AT..layout::WRITTEN_AT],
+        &mem[layout::ROWS_AT..layout::SLOTS_AT],
         c,
         peer,
         ballot,
@@ -251,7 +252,7 @@ fn put_commit(area: &mut [u64], place: usize, ack: Ack, slot: Slot)
 }
 
 fn set_acks(s: &mut [u64], c: usize, acks: u64)
-    requires { ⌜ (c < 32) × (7744 ≤ length (now s)) ⌝ }
+    requires { ⌜ (c < slotPlaces) × (slotWords ≤ length (now s)) ⌝ }
     ensures { λ _. ⌜ Puts (now (s .entry)) c (withAcks acks (shortAt (now (s .entry)) c)) (batchAt (now (s .entry)) c) (readsAt (now (s .entry)) c) (now (s .exit)) ⌝ }
 {
     let cell = insts::load(s, c);
@@ -272,7 +273,7 @@ fn set_acks(s: &mut [u64], c: usize, acks: u64)
 }
 
 fn act(s: &mut [u64], c: usize, ack: Ack)
-    requires { ⌜ (c < 32) × (7744 ≤ length (now s)) ⌝ }
+    requires { ⌜ (c < slotPlaces) × (slotWords ≤ length (now s)) ⌝ }
     ensures { λ _. ⌜ Acts ack (now (s .entry)) c (now (s .exit)) ⌝ }
 {
     match ack {
@@ -295,7 +296,7 @@ fn act(s: &mut [u64], c: usize, ack: Ack)
 
 // 16.
 fn unheld(start: Slot, slots: usize, prepared: Ballot, slot: Slot, ballot: Ballot) -> bool
-    requires { ⌜ (start .0 ≤ top) × (slots ≤ window) ⌝ }
+    requires { ⌜ (start .0 ≤ top) × (slots ≤ slotPlaces) ⌝ }
     ensures { λ r. ⌜ r ≡ unheld (start .0) slots (prepared .0) (slot .0) (ballot .0) ⌝ }
 {
     if slot.0 < start.0 {
@@ -317,7 +318,7 @@ fn reply_refusal(
     slot: Slot,
     ballot: Ballot,
 ) -> u64
-    requires { ⌜ (start .0 ≤ top) × (slots ≤ window) ⌝ }
+    requires { ⌜ (start .0 ≤ top) × (slots ≤ slotPlaces) ⌝ }
     ensures { λ r. ⌜ r ≡ replyRefusal population (start .0) slots (prepared .0) (peer .0) (slot .0) (ballot .0) ⌝ }
 {
     if population <= peer.0 {
@@ -354,8 +355,8 @@ fn awaits(
 
 // How many slots from the commit bar on are looked at for Accepts to send again.
 fn span_of(id: Replica, peer: Replica, commit: Slot, slot: Slot) -> usize
-    requires { ⌜ slot .0 ≤ commit .0 + window ⌝ }
-    ensures { λ r. ⌜ (r ≡ span (id .0) (peer .0) (commit .0) (slot .0)) × (r ≤ window) ⌝ }
+    requires { ⌜ slot .0 ≤ commit .0 + slotPlaces ⌝ }
+    ensures { λ r. ⌜ (r ≡ span (id .0) (peer .0) (commit .0) (slot .0)) × (r ≤ slotPlaces) ⌝ }
 {
     if peer.0 == id.0 {
         return 0;
@@ -382,8 +383,8 @@ fn take_reply(
     slot: Slot,
     ack: Ack,
 ) -> Taken
-    requires { ⌜ (7744 ≤ length (now s)) × (commit .0 ≤ top + window) × (slot .0 ≤ commit .0 + window) ⌝ }
-    ensures { λ r. ⌜ Replies (itemsOf (now (s .entry)) (id .0) (peer .0) (commit .0) (prepared .0) (slot .0) ack) ack (slot .0 % 32) (now (s .entry)) (now (area .entry)) r (now (s .exit)) (now (area .exit)) ⌝ }
+    requires { ⌜ (slotWords ≤ length (now s)) × (commit .0 ≤ top + slotPlaces) × (slot .0 ≤ commit .0 + slotPlaces) ⌝ }
+    ensures { λ r. ⌜ Replies (itemsOf (now (s .entry)) (id .0) (peer .0) (commit .0) (prepared .0) (slot .0) ack) ack (slot .0 % slotPlaces) (now (s .entry)) (now (area .entry)) r (now (s .exit)) (now (area .exit)) ⌝ }
 {
     let n = span_of(id, peer, commit, slot);
     let count = count_resends(s, commit, n, peer, prepared) + commits(ack);
@@ -392,7 +393,7 @@ fn take_reply(
     }
     let place = put_resends(s, commit, n, peer, prepared, area);
     put_commit(area, place, ack, slot);
-    let c = (slot.0 % 32) as usize;
+    let c = (slot.0 % layout::PLACES) as usize;
     act(s, c, ack);
     Taken::Items(count)
 }
@@ -441,10 +442,10 @@ pub fn reply(
             node,
         };
     }
-    let c = (slot.0 % 32) as usize;
+    let c = (slot.0 % layout::PLACES) as usize;
     let ack = ack_in(mem, c, peer, ballot, node.quorum, conf);
     let taken = take_reply(
-        &mut mem[512..8256],
+        &mut mem[layout::SLOTS_AT..layout::WRITTEN_AT],
         area,
         node.id,
         prepared,

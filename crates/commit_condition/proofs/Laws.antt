@@ -13,6 +13,7 @@ use lib.Dec.{leb}
 use lib.ListN.{length, getD, take}
 use Rattle.words.specs.Choice.{if_then_else_, ifNone_then_else_}
 use Rattle.words.specs.Tab.{tab}
+use Rattle.layout.specs.Layout.{requestRow, rosterWords}
 use Rattle.key_words.specs.Key.{keyAt, bytesOf, atMost48, bytesIn, sizeIn}
 use Rattle.key_words.specs.declared.Key.{Key}
 use Rattle.key_words.specs.declared.Unpacked.{Unpacked}
@@ -49,12 +50,12 @@ module _ (c : RespondersConf) (rows : List ℕ) (key : Key) (t : List ℕ) (u : 
   unfolding getRespondersByKey
   no-bytes f = rw (foreign-unread key (sym (ap (λ (x : Unpacked). bytesIn x t) f) ∙ told))
 
-  pub looked-up : (n : ℕ) → u ≡ Bytes n → 320 ≤ length rows → c .count ≤ 64 → (r : Responders) → r ≡ lookup c rows (take n t)
+  pub looked-up : (n : ℕ) → u ≡ Bytes n → rosterWords ≤ length rows → c .count ≤ 64 → (r : Responders) → r ≡ lookup c rows (take n t)
       → r ≡ rosterOf (getRespondersByKey (view c rows) (bytesOf key))
   unfolding lookup
   looked-up n f long few r e =
       let b : take n t ≡ bytesOf key = shown (bytesOf key) (take n t) (sym (ap (λ (x : Unpacked). bytesIn x t) f) ∙ told) in
-      e ∙ rw (b, le-leb 320 (length rows) long, le-leb (c .count) 64 few)
+      e ∙ rw (b, le-leb rosterWords (length rows) long, le-leb (c .count) 64 few)
 
 -- ---- a written key
 
@@ -78,14 +79,14 @@ module _ (c : Conf) (acks : ℕ) (key : List ℕ) (r : Responders) (e : r ≡ ro
 -- ---- a request
 
 module _ (c : Conf) (acks : ℕ) (s : List ℕ) (i : ℕ) where
-  pub get-asks : (getD s (1 + i * 11 + 1 + 1) 0 ≡ 1 → ⊥) → true ≡ acked c acks (requestAt s i)
+  pub get-asks : (getD s (1 + i * requestRow + 1 + 1) 0 ≡ 1 → ⊥) → true ≡ acked c acks (requestAt s i)
   unfolding requestFrom
-  get-asks h = rw (ne-eqb (getD s (1 + i * 11 + 1 + 1) 0) 1 h)
+  get-asks h = rw (ne-eqb (getD s (1 + i * requestRow + 1 + 1) 0) 1 h)
 
-  pub put-asks : getD s (1 + i * 11 + 1 + 1) 0 ≡ 1 → (k : Key) (a : Bool) → k ≡ keyAt s (1 + i * 11 + 1 + 1 + 1 + 1) → a ≡ writeAcked c acks (bytesOf k)
+  pub put-asks : getD s (1 + i * requestRow + 1 + 1) 0 ≡ 1 → (k : Key) (a : Bool) → k ≡ keyAt s (1 + i * requestRow + 1 + 1 + 1 + 1) → a ≡ writeAcked c acks (bytesOf k)
       → a ≡ acked c acks (requestAt s i)
   unfolding requestFrom
-  put-asks h k a e w = rw (eq-eqb (getD s (1 + i * 11 + 1 + 1) 0) 1 h, ← e) w
+  put-asks h k a e w = rw (eq-eqb (getD s (1 + i * requestRow + 1 + 1) 0) 1 h, ← e) w
 
 -- ---- the batch
 

@@ -6,6 +6,7 @@ use roster_conf::RespondersConf;
 ghost use mathlib.Core.Path.{_≡_};
 ghost use Prim.Native.Nat.{_<_, _≤_};
 ghost use lib.ListN.{length};
+ghost use Rattle.layout.specs.Layout.{requestPlaces, batchWords, rosterWords};
 ghost use Rattle.key_words.specs.Key.{bytesOf};
 ghost use Rattle.inst_reqs.specs.Batch.{requestAt, requestsOf};
 ghost use Rattle.bodega.specs.Localread.{acked, commitCondition};
@@ -15,7 +16,7 @@ ghost use Rattle.commit_condition.specs.Acked.{writeAcked};
 
 // The roster of a key in seven words. Words that are no bytes' do not read, and have none.
 fn responders_by_key(key: Key, conf: RespondersConf, rows: &[u64]) -> Responders
-    requires { ⌜ (320 ≤ length (now rows)) × (conf .count ≤ 64) ⌝ }
+    requires { ⌜ (rosterWords ≤ length (now rows)) × (conf .count ≤ 64) ⌝ }
     ensures { λ r. ⌜ r ≡ rosterOf (getRespondersByKey (view conf (now (rows .entry))) (bytesOf key)) ⌝ }
 {
     let mut text = [0u8; 48];
@@ -27,7 +28,7 @@ fn responders_by_key(key: Key, conf: RespondersConf, rows: &[u64]) -> Responders
 
 // Every responder of a written key has acked; a key that does not read asks nothing.
 fn write_acked(acks: u64, key: Key, conf: RespondersConf, rows: &[u64]) -> bool
-    requires { ⌜ (320 ≤ length (now rows)) × (conf .count ≤ 64) ⌝ }
+    requires { ⌜ (rosterWords ≤ length (now rows)) × (conf .count ≤ 64) ⌝ }
     ensures { λ r. ⌜ r ≡ writeAcked (view conf (now (rows .entry))) acks (bytesOf key) ⌝ }
 {
     let Responders::Mask(mask) = responders_by_key(key, conf, rows) else {
@@ -38,10 +39,10 @@ fn write_acked(acks: u64, key: Key, conf: RespondersConf, rows: &[u64]) -> bool
 
 // The same of the i-th request; a Get asks nothing.
 fn acked(acks: u64, batch: &[u64], i: usize, conf: RespondersConf, rows: &[u64]) -> bool
-    requires { ⌜ (i < 8) × (89 ≤ length (now batch)) × (320 ≤ length (now rows)) × (conf .count ≤ 64) ⌝ }
+    requires { ⌜ (i < requestPlaces) × (batchWords ≤ length (now batch)) × (rosterWords ≤ length (now rows)) × (conf .count ≤ 64) ⌝ }
     ensures { λ r. ⌜ r ≡ acked (view conf (now (rows .entry))) acks (requestAt (now (batch .entry)) i) ⌝ }
 {
-    let p = 1 + i * 11;
+    let p = 1 + i * layout::REQUEST_ROW;
     let p1 = p + 1;
     let p2 = p1 + 1;
     let p3 = p2 + 1;
@@ -60,7 +61,7 @@ pub fn commit_condition(
     conf: RespondersConf,
     rows: &[u64],
 ) -> bool
-    requires { ⌜ (89 ≤ length (now batch)) × (320 ≤ length (now rows)) × (conf .count ≤ 64) ⌝ }
+    requires { ⌜ (batchWords ≤ length (now batch)) × (rosterWords ≤ length (now rows)) × (conf .count ≤ 64) ⌝ }
     ensures { λ r. ⌜ r ≡ commitCondition acks (requestsOf (now (batch .entry))) quorum (view conf (now (rows .entry))) ⌝ }
 {
     if bitmap::count(acks) < words::wide(quorum) {

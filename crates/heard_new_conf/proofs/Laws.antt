@@ -12,7 +12,6 @@ use borrow.Author.Tests.{leb-true, not-true, not-false}
 use Rattle.words.specs.Choice.{if_then_else_}
 use Rattle.words.specs.Tab.{tab, run, tab-ext}
 use Rattle.words.specs.Part.{part, splice, Untouched, part-before, length-part}
-use Rattle.ids.specs.Limits.{nodeWords}
 use Rattle.words.specs.Writes.{writes, length-writes, writes-same}
 use Rattle.ids.specs.Leader.{leaderOf}
 use Rattle.ids.specs.declared.Ballot.{Ballot}
@@ -33,6 +32,8 @@ use Rattle.become_a_leader.proofs.Machine.{step-up-is}
 use Rattle.node.specs.declared.Node.{Node}
 use Rattle.node.specs.View.{view, ready, leadsIt}
 use Rattle.words.proofs.Tests.{and-both}
+use Rattle.ids.specs.Limits.{replicas}
+use Rattle.layout.specs.Layout.{replicaPlaces, rosterRow, slotPlaces, slotWords, rosterWords, pairWords, execsAt, rowsAt, slotsAt, nodeWords}
 use Rattle.node.proofs.Calls.{Ready, is-ready, made-ready}
 use Rattle.node.proofs.Frames.{rows-back, rows-size, rows-beyond, pairs-back, pairs-size, pairs-beyond, execs-back, execs-size, execs-beyond, slots-back, slots-size, slots-beyond}
 use Rattle.heard_new_conf.specs.Does.{Does, whole}
@@ -44,12 +45,12 @@ use Rattle.heard_new_conf.proofs.Machine.{heard-following, heard-leadin
 pub readied : (n : Node) (m : List ℕ) → ready n m ≡ true → Ready n m
 readied n m e = is-ready n m true (sym e) refl
 
-pub few-ranges : (count : ℕ) (rows : List ℕ) → whole count rows ≡ true → (count ≤ 64) × (320 ≤ length rows)
-few-ranges count rows e = let w = and-both (leb 320 (length rows)) (leb count 64) e in (leb-true count 64 (w .1), leb-true 320 (length rows) (w .0))
+pub few-ranges : (count : ℕ) (rows : List ℕ) → whole count rows ≡ true → (count ≤ 64) × (rosterWords ≤ length rows)
+few-ranges count rows e = let w = and-both (leb rosterWords (length rows)) (leb count 64) e in (leb-true count 64 (w .1), leb-true rosterWords (length rows) (w .0))
 
-pub rows-long : (m : List ℕ) → 10305 ≤ length m → length (take 320 (drop 192 m)) ≡ 320
+pub rows-long : (m : List ℕ) → nodeWords ≤ length m → length (take rosterWords (drop rowsAt m)) ≡ rosterWords
 unfolding part
-rows-long m h = length-part m 192 320 (omega arith)
+rows-long m h = length-part m rowsAt rosterWords (omega arith)
 
 -- ---- an adoption
 
@@ -73,37 +74,37 @@ adopting n c b max =
     }
 
 module _ (n : Node) (m : List ℕ) (e : ready n m ≡ true) (b : Ballot) (c : RespondersConf) (rows : List ℕ) (w : whole (c .count) rows ≡ true)
-    (x : List ℕ) (y : (rosterOf c x ≡ rosterOf c rows) × (x ≡ writes (take 320 (drop 192 m)) 0 (take (c .count * 5) rows))) where
+    (x : List ℕ) (y : (rosterOf c x ≡ rosterOf c rows) × (x ≡ writes (take rosterWords (drop rowsAt m)) 0 (take (c .count * rosterRow) rows))) where
   r : Ready n m
   r = readied n m e
 
   abbrev m₁ : List ℕ
-  m₁ = splice m 192 320 x
+  m₁ = splice m rowsAt rosterWords x
 
-  copied : length x ≡ 320
-  copied = ap length (y .1) ∙ length-writes (take 320 (drop 192 m)) 0 (take (c .count * 5) rows) ∙ rows-long m (r .long)
+  copied : length x ≡ rosterWords
+  copied = ap length (y .1) ∙ length-writes (take rosterWords (drop rowsAt m)) 0 (take (c .count * rosterRow) rows) ∙ rows-long m (r .long)
 
-  pub roster-there : 10305 ≤ length m₁
+  pub roster-there : nodeWords ≤ length m₁
   roster-there = rw (rows-size n m (r .long) x copied) (r .long)
 
-  pub pairs-there : length (take 128 m₁) ≡ 128
+  pub pairs-there : length (take pairWords m₁) ≡ pairWords
   unfolding part
-  pairs-there = length-part m₁ 0 128 (omega (arith, roster-there))
+  pairs-there = length-part m₁ 0 pairWords (omega (arith, roster-there))
 
-  same-pairs : take 128 m₁ ≡ part m 0 128
+  same-pairs : take pairWords m₁ ≡ part m 0 pairWords
   unfolding part
-  same-pairs = part-before m 192 320 x (omega (arith, r .long)) copied 0 128 (omega arith)
+  same-pairs = part-before m rowsAt rosterWords x (omega (arith, r .long)) copied 0 pairWords (omega arith)
 
   module _ (p : List ℕ) (max : Slot)
-      (g : (pairsOf (n .population) p ≡ set (pairsOf (n .population) (take 128 m₁)) (n .id .0) (machine.pair (b .0) (n .«accept_bar» .0)))
-      × (max .0 ≡ acceptMax (n .quorum) (b .0) (pairsOf (n .population) p)) × (length p ≡ length (take 128 m₁))) where
+      (g : (pairsOf (n .population) p ≡ set (pairsOf (n .population) (take pairWords m₁)) (n .id .0) (machine.pair (b .0) (n .«accept_bar» .0)))
+      × (max .0 ≡ acceptMax (n .quorum) (b .0) (pairsOf (n .population) p)) × (length p ≡ length (take pairWords m₁))) where
     abbrev d : Node
     d = adopting n c b max
 
     abbrev m₂ : List ℕ
-    m₂ = splice m₁ 0 128 p
+    m₂ = splice m₁ 0 pairWords p
 
-    long : length p ≡ 128
+    long : length p ≡ pairWords
     long = g .2 ∙ pairs-there
 
     pub adopts-size : length m₂ ≡ length m
@@ -146,24 +147,24 @@ all-0 : (i n : ℕ) → tab {A = ℕ} (λ j. 0) i n ≡ replicate n 0
 all-0 i zero = refl
 all-0 i (suc n) = ap (λ (l : List ℕ). 0 ∷ l) (all-0 (i + 1) n)
 
-pub forgets : (s t : List ℕ) → 64 ≤ length s → t ≡ writes s 0 (take 64 (replicate 64 0)) → Forgets s t
+pub forgets : (s t : List ℕ) → replicaPlaces ≤ length s → t ≡ writes s 0 (take replicaPlaces (replicate replicaPlaces 0)) → Forgets s t
 forgets s t h e =
     record {
       execs =
           λ n l.
           tab-ext (λ i. getD t i 0) (λ i. 0) 0 n
           (λ j a b.
-          ap (λ (q : List ℕ). getD q j 0) e ∙ sym (ap (λ (k : ℕ). getD (writes s 0 (take 64 (replicate 64 0))) k 0) (zero-add j))
-          ∙ writes-same s 0 (take 64 (replicate 64 0)) j h (omega arith) ∙ getD-replicate {A = ℕ} 64 j 0 0 (omega arith))
+          ap (λ (q : List ℕ). getD q j 0) e ∙ sym (ap (λ (k : ℕ). getD (writes s 0 (take replicaPlaces (replicate replicaPlaces 0))) k 0) (zero-add j))
+          ∙ writes-same s 0 (take replicaPlaces (replicate replicaPlaces 0)) j h (omega arith) ∙ getD-replicate {A = ℕ} replicas j 0 0 (omega arith))
           ∙ all-0 0 n;
-      size = ap length e ∙ length-writes s 0 (take 64 (replicate 64 0));
+      size = ap length e ∙ length-writes s 0 (take replicaPlaces (replicate replicaPlaces 0));
     }
 
 -- ---- a step-up
 
-pub slots-long : (m : List ℕ) → 10305 ≤ length m → length (take 7744 (drop 512 m)) ≡ 7744
+pub slots-long : (m : List ℕ) → nodeWords ≤ length m → length (take slotWords (drop slotsAt m)) ≡ slotWords
 unfolding part
-slots-long m h = length-part m 512 7744 (omega arith)
+slots-long m h = length-part m slotsAt slotWords (omega arith)
 
 after-range : (n : ℕ) (l : List machine.Instance) → n ≤ slotsAfter n l
 after-range n l = go (anyOpen l)
@@ -202,7 +203,7 @@ module _ (n : Node) (m area : List ℕ) (e : ready n m ≡ true) where
   leader = leaderOf (n .«bodega_conf» .leader)
 
   abbrev insts : List machine.Instance
-  insts = instsOf start (n .slots) (take 7744 (drop 512 m))
+  insts = instsOf start (n .slots) (take slotWords (drop slotsAt m))
 
   abbrev up : Walk
   up = stepUp start (n .quorum) leader (n .«bal_max_seen» .0) insts
@@ -216,38 +217,38 @@ module _ (n : Node) (m area : List ℕ) (e : ready n m ≡ true) where
   unfolding view part rosterOf
   steps-up = step-up-is (view n m)
 
-  pub slots-there : (start ≤ 281474976710655) × (n .slots ≤ 32) × (7744 ≤ length (take 7744 (drop 512 m)))
+  pub slots-there : (start ≤ 281474976710655) × (n .slots ≤ slotPlaces) × (slotWords ≤ length (take slotWords (drop slotsAt m)))
   slots-there = (ok .start-low, ok .window, omega (arith, slots-long m (ok .long)))
 
-  module _ (few : slotsAfter (n .slots) (view n m .insts) ≤ 32) where
-    few-after : slotsAfter (n .slots) insts ≤ 32
+  module _ (few : slotsAfter (n .slots) (view n m .insts) ≤ slotPlaces) where
+    few-after : slotsAfter (n .slots) insts ≤ slotPlaces
     unfolding view part
     few-after = few
 
     pub step-up-room : length (becomeALeader (view n m) .items) ≤ places area
-        → (start ≤ 281474976710655) × (slotsAfter (n .slots) insts ≤ 32) × (n .slots ≤ 32) × (7744 ≤ length (take 7744 (drop 512 m))) × (length (up .items) ≤ places area)
+        → (start ≤ 281474976710655) × (slotsAfter (n .slots) insts ≤ slotPlaces) × (n .slots ≤ slotPlaces) × (slotWords ≤ length (take slotWords (drop slotsAt m))) × (length (up .items) ≤ places area)
     step-up-room h = (slots-there .0, few-after, slots-there .1, slots-there .2, rw steps-up at h)
 
     module _ (k : ℕ) (v : k ≡ slotsAfter (n .slots) insts) (s area′ : List ℕ) (count : ℕ)
-        (x : StepsUp start (n .slots) (n .quorum) leader (n .«bal_max_seen» .0) (take 7744 (drop 512 m)) area count s area′) where
+        (x : StepsUp start (n .slots) (n .quorum) leader (n .«bal_max_seen» .0) (take slotWords (drop slotsAt m)) area count s area′) where
       abbrev with-slots : List ℕ
-      with-slots = splice m 512 7744 s
+      with-slots = splice m slotsAt slotWords s
 
-      size-slots : length s ≡ 7744
+      size-slots : length s ≡ slotWords
       size-slots = x .size ∙ slots-long m (ok .long)
 
-      pub step-up-there : 10305 ≤ length with-slots
+      pub step-up-there : nodeWords ≤ length with-slots
       step-up-there = rw (slots-size n m (ok .long) s size-slots) (ok .long)
 
-      pub execs-there : length (take 64 (drop 128 with-slots)) ≡ 64
+      pub execs-there : length (take replicaPlaces (drop execsAt with-slots)) ≡ replicaPlaces
       unfolding part
-      execs-there = length-part with-slots 128 64 (omega (arith, step-up-there))
+      execs-there = length-part with-slots execsAt replicaPlaces (omega (arith, step-up-there))
 
-      module _ (f : List ℕ) (w : Forgets (take 64 (drop 128 with-slots)) f) where
+      module _ (f : List ℕ) (w : Forgets (take replicaPlaces (drop execsAt with-slots)) f) where
         abbrev mem′ : List ℕ
-        mem′ = splice with-slots 128 64 f
+        mem′ = splice with-slots execsAt replicaPlaces f
 
-        size-execs : length f ≡ 64
+        size-execs : length f ≡ replicaPlaces
         size-execs = w .size ∙ execs-there
 
         pub step-up-size : length mem′ ≡ length m
@@ -313,17 +314,17 @@ module _ (n : Node) (m area : List ℕ) (b : Ballot) (c : RespondersConf) (rows 
       same-slots : d .slots ≡ n .slots
       unfolding view
       same-slots =
-          sym (length-insts (d .«start_slot» .0) (d .slots) (part m′ 512 7744)) ∙ ap length same-insts
-          ∙ length-insts (n .«start_slot» .0) (n .slots) (part m 512 7744)
+          sym (length-insts (d .«start_slot» .0) (d .slots) (part m′ slotsAt slotWords)) ∙ ap length same-insts
+          ∙ length-insts (n .«start_slot» .0) (n .slots) (part m slotsAt slotWords)
 
-      few-after-it : slotsAfter (n .slots) (view n m .insts) ≤ 32 → slotsAfter (d .slots) (view d m′ .insts) ≤ 32
+      few-after-it : slotsAfter (n .slots) (view n m .insts) ≤ slotPlaces → slotsAfter (d .slots) (view d m′ .insts) ≤ slotPlaces
       few-after-it h =
           let l = ap (λ (k : ℕ). slotsAfter k (view d m′ .insts)) same-slots in
           let i = ap (λ (l : List machine.Instance). slotsAfter (n .slots) l) same-insts in
           omega (arith, l, i, h)
 
-      pub leads-room : (leads (rosterOf c rows) (n .id .0) ≡ true → slotsAfter (n .slots) (view n m .insts) ≤ 32) × (length (heardNewConf (view n m) (b .0) (rosterOf c rows) .items) ≤ places area)
-          → (ready d m′ ≡ true) × (slotsAfter (d .slots) (view d m′ .insts) ≤ 32) × (length (becomeALeader (view d m′) .items) ≤ places area)
+      pub leads-room : (leads (rosterOf c rows) (n .id .0) ≡ true → slotsAfter (n .slots) (view n m .insts) ≤ slotPlaces) × (length (heardNewConf (view n m) (b .0) (rosterOf c rows) .items) ≤ places area)
+          → (ready d m′ ≡ true) × (slotsAfter (d .slots) (view d m′ .insts) ≤ slotPlaces) × (length (becomeALeader (view d m′) .items) ≤ places area)
       unfolding view
       leads-room h = (a .2, few-after-it (h .0 (leads-by true (not-false t f))), rw (← is-leading) (h .1))
 
@@ -335,17 +336,17 @@ module _ (n : Node) (m area : List ℕ) (b : Ballot) (c : RespondersConf) (rows 
 -- how many items
 module _ (n : Node) (m : List ℕ) (c : RespondersConf) (t : Bool) (e : t ≡ leadsIt (leaderOf (c .leader)) (n .id .0)) where
   counted : (u : Bool) → t ≡ u → (b : ℕ) (rows : List ℕ) → length (heardNewConf (view n m) b (rosterOf c rows) .items)
-      ≡ (if u then length (stepUp (n .«start_slot» .0) (n .quorum) (leaderOf (c .leader)) b (instsOf (n .«start_slot» .0) (n .slots) (take 7744 (drop 512 m))) .items) else 0)
+      ≡ (if u then length (stepUp (n .«start_slot» .0) (n .quorum) (leaderOf (c .leader)) b (instsOf (n .«start_slot» .0) (n .slots) (take slotWords (drop slotsAt m))) .items) else 0)
   unfolding view part rosterOf
   counted u f b rows =
       heard-count (view n m) b (rosterOf c rows)
-      ∙ ap (λ (y : Bool). if y then length (stepUp (n .«start_slot» .0) (n .quorum) (leaderOf (c .leader)) b (instsOf (n .«start_slot» .0) (n .slots) (take 7744 (drop 512 m))) .items) else 0)
+      ∙ ap (λ (y : Bool). if y then length (stepUp (n .«start_slot» .0) (n .quorum) (leaderOf (c .leader)) b (instsOf (n .«start_slot» .0) (n .slots) (take slotWords (drop slotsAt m))) .items) else 0)
       (sym e ∙ f)
 
   pub counts-none : not t ≡ true → (b : ℕ) (rows : List ℕ) → 0 ≡ length (heardNewConf (view n m) b (rosterOf c rows) .items)
   counts-none f b rows = sym (counted false (not-true t f) b rows)
 
   pub counts-all : not t ≡ false → (r : ℕ)
-      → ((quorum : ℕ) (leader : Option ℕ) (ballot : ℕ) → r ≡ length (stepUp (n .«start_slot» .0) quorum leader ballot (instsOf (n .«start_slot» .0) (n .slots) (take 7744 (drop 512 m))) .items))
+      → ((quorum : ℕ) (leader : Option ℕ) (ballot : ℕ) → r ≡ length (stepUp (n .«start_slot» .0) quorum leader ballot (instsOf (n .«start_slot» .0) (n .slots) (take slotWords (drop slotsAt m))) .items))
       → (b : ℕ) (rows : List ℕ) → r ≡ length (heardNewConf (view n m) b (rosterOf c rows) .items)
   counts-all f r g b rows = g (n .quorum) (leaderOf (c .leader)) b ∙ sym (counted true (not-false t f) b rows)

@@ -6,7 +6,7 @@ use Prim.Native.Nat.{ℕ, _*_}
 use lib.ListN.{length}
 use Rattle.words.specs.Writes.{writes}
 use Rattle.words.specs.Part.{Untouched}
-use Rattle.ids.specs.Limits.{nodeWords}
+use Rattle.layout.specs.Layout.{nodeWords}
 use Rattle.items.specs.Item.{encode}
 use Rattle.bodega.specs.Replica.{Done}
 use Rattle.bodega.specs.Answers.{Given}

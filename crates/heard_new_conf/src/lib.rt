@@ -11,7 +11,8 @@ ghost use mathlib.Core.List.{List};
 ghost use Prim.Native.Nat.{ℕ, _≤_, _<_};
 ghost use lib.ListN.{length, set};
 ghost use Rattle.words.specs.Part.{Untouched};
-ghost use Rattle.ids.specs.Limits.{nodeWords};
+ghost use Rattle.ids.specs.Limits.{replicas};
+ghost use Rattle.layout.specs.Layout.{replicaPlaces, slotPlaces, pairWords, nodeWords};
 ghost use Rattle.items.specs.Item.{places};
 ghost use Rattle.roster_conf.specs.Conf.{leads};
 ghost use Rattle.roster_conf.specs.Edits.{view as rosterOf};
@@ -32,7 +33,7 @@ fn guard_itself(
     ballot: Ballot,
     accept: Slot,
 ) -> Slot
-    requires { ⌜ (0 < quorum) × (quorum ≤ population) × (population ≤ 64) × (id .0 < population) × (128 ≤ length (now pairs)) ⌝ }
+    requires { ⌜ (0 < quorum) × (quorum ≤ population) × (population ≤ replicas) × (id .0 < population) × (pairWords ≤ length (now pairs)) ⌝ }
     ensures { λ r. ⌜ (pairsOf population (now (pairs .exit)) ≡ set (pairsOf population (now (pairs .entry))) (id .0) (pair (ballot .0) (accept .0))) × (r .0 ≡ acceptMax quorum (ballot .0) (pairsOf population (now (pairs .exit)))) × (length (now (pairs .exit)) ≡ length (now (pairs .entry))) ⌝ }
 {
     peer_accept_bar::insert(pairs, population, id, ballot, accept);
@@ -44,10 +45,10 @@ fn adopt(node: Node, mem: &mut [u64], ballot: Ballot, conf: RespondersConf, rows
     requires { ⌜ (ready node (now mem) ≡ true) × (whole (conf .count) (now rows) ≡ true) ⌝ }
     ensures { λ r. ⌜ (view r (now (mem .exit)) ≡ adopted (view node (now (mem .entry))) (ballot .0) (rosterOf conf (now (rows .entry)))) × (length (now (mem .exit)) ≡ length (now (mem .entry))) × (ready r (now (mem .exit)) ≡ true) × Untouched nodeWords (now (mem .entry)) (now (mem .exit)) ⌝ }
 {
-    roster_compare::copy(conf, rows, &mut mem[192..512]);
+    roster_compare::copy(conf, rows, &mut mem[layout::ROWS_AT..layout::SLOTS_AT]);
     let accept = node.accept_bar;
     let max = guard_itself(
-        &mut mem[0..128],
+        &mut mem[0..layout::EXECS_AT],
         node.population,
         node.quorum,
         node.id,
@@ -63,7 +64,7 @@ fn adopt(node: Node, mem: &mut [u64], ballot: Ballot, conf: RespondersConf, rows
 
 // What is known of the peers' exec bars is forgotten.
 fn forget(execs: &mut [u64])
-    requires { ⌜ 64 ≤ length (now execs) ⌝ }
+    requires { ⌜ replicaPlaces ≤ length (now execs) ⌝ }
     ensures { λ _. ⌜ Forgets (now (execs .entry)) (now (execs .exit)) ⌝ }
 {
     let none = [0u64; 64];
@@ -72,7 +73,7 @@ fn forget(execs: &mut [u64])
 
 // The slots and the items of a step-up, at the ballot that is seen, which is not prepared yet.
 fn become_a_leader(node: Node, mem: &mut [u64], area: &mut [u64]) -> Answered
-    requires { ⌜ (ready node (now mem) ≡ true) × (slotsAfter (node .slots) (view node (now mem) .insts) ≤ 32) × (length (becomeALeader (view node (now mem)) .items) ≤ places (now area)) ⌝ }
+    requires { ⌜ (ready node (now mem) ≡ true) × (slotsAfter (node .slots) (view node (now mem) .insts) ≤ slotPlaces) × (length (becomeALeader (view node (now mem)) .items) ≤ places (now area)) ⌝ }
     ensures { λ r. ⌜ Does (becomeALeader (view node (now (mem .entry)))) 0 (now (mem .entry)) (now (area .entry)) (givenOf r) (now (mem .exit)) (now (area .exit)) ⌝ }
 {
     let conf = node.bodega_conf;
@@ -80,9 +81,13 @@ fn become_a_leader(node: Node, mem: &mut [u64], area: &mut [u64]) -> Answered
     let ballot = node.bal_max_seen;
     let start = node.start_slot;
     let held = node.slots;
-    let slots = become_a_leader::slots_after(&mem[512..8256], start, held);
+    let slots = become_a_leader::slots_after(
+        &mem[layout::SLOTS_AT..layout::WRITTEN_AT],
+        start,
+        held,
+    );
     let count = become_a_leader::become_a_leader(
-        &mut mem[512..8256],
+        &mut mem[layout::SLOTS_AT..layout::WRITTEN_AT],
         area,
         start,
         held,
@@ -90,7 +95,7 @@ fn become_a_leader(node: Node, mem: &mut [u64], area: &mut [u64]) -> Answered
         leader,
         ballot,
     );
-    forget(&mut mem[128..192]);
+    forget(&mut mem[layout::EXECS_AT..layout::ROWS_AT]);
     let unprepared = Ballot(0);
     let mut next = node;
     next.bal_prep_sent = ballot;
@@ -114,7 +119,7 @@ pub fn count_new_conf(node: Node, mem: &[u64], conf: RespondersConf) -> usize
     }
     let start = node.start_slot;
     let held = node.slots;
-    become_a_leader::count_items(&mem[512..8256], start, held)
+    become_a_leader::count_items(&mem[layout::SLOTS_AT..layout::WRITTEN_AT], start, held)
 }
 
 // An adoption, with a step-up where the roster names the replica leader.
@@ -126,7 +131,7 @@ pub fn heard_new_conf(
     conf: RespondersConf,
     rows: &[u64],
 ) -> Answered
-    requires { ⌜ (ready node (now mem) ≡ true) × (whole (conf .count) (now rows) ≡ true) × (leads (rosterOf conf (now rows)) (node .id .0) ≡ true → slotsAfter (node .slots) (view node (now mem) .insts) ≤ 32) × (length (heardNewConf (view node (now mem)) (ballot .0) (rosterOf conf (now rows)) .items) ≤ places (now area)) ⌝ }
+    requires { ⌜ (ready node (now mem) ≡ true) × (whole (conf .count) (now rows) ≡ true) × (leads (rosterOf conf (now rows)) (node .id .0) ≡ true → slotsAfter (node .slots) (view node (now mem) .insts) ≤ slotPlaces) × (length (heardNewConf (view node (now mem)) (ballot .0) (rosterOf conf (now rows)) .items) ≤ places (now area)) ⌝ }
     ensures { λ r. ⌜ Does (heardNewConf (view node (now (mem .entry))) (ballot .0) (rosterOf conf (now (rows .entry)))) 0 (now (mem .entry)) (now (area .entry)) (givenOf r) (now (mem .exit)) (now (area .exit)) ⌝ }
 {
     let next = adopt(node, mem, ballot, conf, rows);

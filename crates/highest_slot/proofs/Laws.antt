@@ -14,6 +14,7 @@ use Rattle.words.specs.Choice.{if_then_else_}
 use Rattle.words.specs.Tab.{tab, getD-tab}
 use Rattle.words.specs.Counted.{countOf, length-counted, counted-push, counted-set}
 use Rattle.words.specs.Writes.{writes, Agrees, writes-other}
+use Rattle.layout.specs.Layout.{writtenPlaces, writtenRow, writtenWords}
 use Rattle.keys.specs.Same.{sameBytes}
 use Rattle.key_words.specs.Key.{keyAt, wordsOf, bytesOf}
 use Rattle.key_words.specs.declared.Key.{Key}
@@ -24,22 +25,22 @@ use Rattle.highest_slot.specs.Written.{highestAt, writtenOf, placeOf, No
 use Rattle.highest_slot.specs.declared.Found.{Found}
 use Rattle.highest_slot.specs.declared.Found.the-variants.{Entry, Nowhere}
 
-pub near : (s′ s : List ℕ) (p : ℕ) → Agrees s′ s p (p + 8) → highestAt s′ p ≡ highestAt s p
+pub near : (s′ s : List ℕ) (p : ℕ) → Agrees s′ s p (p + writtenRow) → highestAt s′ p ≡ highestAt s p
 unfolding highestAt
 near s′ s p h =
     let a = h p (omega arith) (omega arith) in
     let k = keyAt-agrees s′ s (p + 1) (λ j x y. h j (omega arith) (omega arith)) in
     rw (a, k)
 
-pub how-many : (s : List ℕ) → length (writtenOf s) ≡ countOf 256 s
+pub how-many : (s : List ℕ) → length (writtenOf s) ≡ countOf writtenPlaces s
 unfolding writtenOf
-how-many s = length-counted highestAt 8 256 s
+how-many s = length-counted highestAt writtenRow writtenPlaces s
 
 -- ---- the search
 
 -- what a search from i on finds
 unfoldable pub placeFrom : List ℕ → ℕ → ℕ → List ℕ → Found
-placeFrom s i n key = placeOf i key (tab (λ j. highestAt s (1 + j * 8)) i (n - i))
+placeFrom s i n key = placeOf i key (tab (λ j. highestAt s (1 + j * writtenRow)) i (n - i))
 
 module _ (s : List ℕ) (n : ℕ) (key : Key) where
   pub place-start : n ≡ length (writtenOf s) → placeFrom s 0 n (bytesOf key) ≡ placeOf 0 (bytesOf key) (writtenOf s)
@@ -47,12 +48,12 @@ module _ (s : List ℕ) (n : ℕ) (key : Key) where
   place-start h = rw (sub-zero n, h ∙ how-many s)
 
   -- in the words of the code: k is the key that was read, t what the comparison said
-  module _ (i : ℕ) (b : i < n) (k : Key) (t : Bool) (e : k ≡ keyAt s (1 + i * 8 + 1)) (q : t ≡ sameBytes (bytesOf k) (bytesOf key)) where
+  module _ (i : ℕ) (b : i < n) (k : Key) (t : Bool) (e : k ≡ keyAt s (1 + i * writtenRow + 1)) (q : t ≡ sameBytes (bytesOf k) (bytesOf key)) where
     cut : placeFrom s i n (bytesOf key) ≡ (if t then Entry i else placeFrom s (i + 1) n (bytesOf key))
     unfolding placeFrom placeOf highestAt
     cut =
         let m : n - i ≡ suc (n - (i + 1)) = omega arith in
-        let f : sameBytes (bytesOf (keyAt s (1 + i * 8 + 1))) (bytesOf key) ≡ t = rw (← e) (sym q) in
+        let f : sameBytes (bytesOf (keyAt s (1 + i * writtenRow + 1))) (bytesOf key) ≡ t = rw (← e) (sym q) in
         rw (m, f)
 
     pub place-here : t ≡ true → placeFrom s i n (bytesOf key) ≡ Entry i
@@ -121,45 +122,45 @@ module _ (s : List ℕ) (key : Key) (i : ℕ) (at : Found) (told : at ≡ placeO
       let q : i ≡ w .0 = omega (arith, w .1) in
       rw q (w .2)
 
-  entry-below : i < countOf 256 s
+  entry-below : i < countOf writtenPlaces s
   entry-below = rw how-many at (hit-at .below)
 
-  pub entry-in : i < 256
+  pub entry-in : i < writtenPlaces
   entry-in = let h = entry-below in omega arith
 
-  entry-is : getD (writtenOf s) i nobody ≡ highestAt s (1 + i * 8)
+  entry-is : getD (writtenOf s) i nobody ≡ highestAt s (1 + i * writtenRow)
   unfolding writtenOf
-  entry-is = getD-tab (λ j. highestAt s (1 + j * 8)) 0 (countOf 256 s) i nobody entry-below ∙ rw zero-add
+  entry-is = getD-tab (λ j. highestAt s (1 + j * writtenRow)) 0 (countOf writtenPlaces s) i nobody entry-below ∙ rw zero-add
 
-  pub slot-found : (v : ℕ) → v ≡ getD s (1 + i * 8) 0 → some v ≡ highestOf (bytesOf key) (writtenOf s)
+  pub slot-found : (v : ℕ) → v ≡ getD s (1 + i * writtenRow) 0 → some v ≡ highestOf (bytesOf key) (writtenOf s)
   unfolding highestAt
   slot-found v e =
       let g : getD (writtenOf s) i nobody .slot ≡ v = ap (λ (h : machine.Highest). h .slot) entry-is ∙ sym e in
       rw (hit-at .slot-is, g)
 
   -- the slot is raised where it stands
-  module _ (fits : 2049 ≤ length s) (slot v : ℕ) (e : v ≡ max slot (getD s (1 + i * 8) 0)) where
-    raised-here : writtenOf (set s (1 + i * 8) v) ≡ raise slot (bytesOf key) (writtenOf s)
+  module _ (fits : writtenWords ≤ length s) (slot v : ℕ) (e : v ≡ max slot (getD s (1 + i * writtenRow) 0)) where
+    raised-here : writtenOf (set s (1 + i * writtenRow) v) ≡ raise slot (bytesOf key) (writtenOf s)
     unfolding writtenOf highestAt
     raised-here =
-        let t : List ℕ = set s (1 + i * 8) v in
+        let t : List ℕ = set s (1 + i * writtenRow) v in
         let lt = entry-below in
-        let a : getD t (1 + i * 8) 0 ≡ v = getD-set-same s (1 + i * 8) v 0 (omega arith) in
-        let k : keyAt t (1 + i * 8 + 1) ≡ keyAt s (1 + i * 8 + 1) = keyAt-agrees t s (1 + i * 8 + 1) (λ j x y. getD-set-other s (1 + i * 8) j v 0 (omega arith)) in
-        let here : highestAt t (1 + i * 8) ≡ record { key = bytesOf (keyAt s (1 + i * 8 + 1)); slot = v } = rw (a, k) in
-        let g : getD t 0 0 ≡ getD s 0 0 = getD-set-other s (1 + i * 8) 0 v 0 (omega arith) in
-        counted-set highestAt 8 256 near s t i (record { key = bytesOf (keyAt s (1 + i * 8 + 1)); slot = v }) lt g here
-        (λ j x y. getD-set-other s (1 + i * 8) j v 0 (⊎-elim (λ (z : j < 1 + i * 8). omega arith) (λ (z : 1 + i * 8 + 8 ≤ j). omega arith) y))
+        let a : getD t (1 + i * writtenRow) 0 ≡ v = getD-set-same s (1 + i * writtenRow) v 0 (omega arith) in
+        let k : keyAt t (1 + i * writtenRow + 1) ≡ keyAt s (1 + i * writtenRow + 1) = keyAt-agrees t s (1 + i * writtenRow + 1) (λ j x y. getD-set-other s (1 + i * writtenRow) j v 0 (omega arith)) in
+        let here : highestAt t (1 + i * writtenRow) ≡ record { key = bytesOf (keyAt s (1 + i * writtenRow + 1)); slot = v } = rw (a, k) in
+        let g : getD t 0 0 ≡ getD s 0 0 = getD-set-other s (1 + i * writtenRow) 0 v 0 (omega arith) in
+        counted-set highestAt writtenRow writtenPlaces near s t i (record { key = bytesOf (keyAt s (1 + i * writtenRow + 1)); slot = v }) lt g here
+        (λ j x y. getD-set-other s (1 + i * writtenRow) j v 0 (⊎-elim (λ (z : j < 1 + i * writtenRow). omega arith) (λ (z : 1 + i * writtenRow + writtenRow ≤ j). omega arith) y))
         ∙ sym (hit-at .raised slot ∙ rw (entry-is, e))
 
-    pub note-known : Notes s (bytesOf key) slot true (set s (1 + i * 8) v)
+    pub note-known : Notes s (bytesOf key) slot true (set s (1 + i * writtenRow) v)
     note-known =
         let lt = entry-below in
-        let l : length (raise slot (bytesOf key) (writtenOf s)) ≡ countOf 256 s = ap length (sym raised-here) ∙ how-many (set s (1 + i * 8) v) ∙ ap (λ (z : ℕ). min z 256) (getD-set-other s (1 + i * 8) 0 v 0 (omega arith)) in
+        let l : length (raise slot (bytesOf key) (writtenOf s)) ≡ countOf writtenPlaces s = ap length (sym raised-here) ∙ how-many (set s (1 + i * writtenRow) v) ∙ ap (λ (z : ℕ). min z writtenPlaces) (getD-set-other s (1 + i * writtenRow) 0 v 0 (omega arith)) in
         record {
-          outcome = rw (raised-here, l, le-leb (countOf 256 s) 256 (omega arith));
+          outcome = rw (raised-here, l, le-leb (countOf writtenPlaces s) writtenPlaces (omega arith));
           refused = λ h. absurd (true≢false h);
-          beyond = λ j h. getD-set-other s (1 + i * 8) j v 0 (omega arith);
+          beyond = λ j h. getD-set-other s (1 + i * writtenRow) j v 0 (omega arith);
         }
 
 module _ (s : List ℕ) (key : Key) (at : Found) (told : at ≡ placeOf 0 (bytesOf key) (writtenOf s)) (found : at ≡ Nowhere) where
@@ -169,42 +170,42 @@ module _ (s : List ℕ) (key : Key) (at : Found) (told : at ≡ placeOf 0 (bytes
   abbrev New : ℕ → List machine.Highest
   New slot = writtenOf s ++ (record { key = bytesOf key; slot = slot } ∷ [])
 
-  module _ (slot n : ℕ) (many : n ≡ length (writtenOf s)) (most : n ≤ 256) where
+  module _ (slot n : ℕ) (many : n ≡ length (writtenOf s)) (most : n ≤ writtenPlaces) where
     appended : raise slot (bytesOf key) (writtenOf s) ≡ New slot
     appended = miss (writtenOf s) 0 (bytesOf key) (sym told ∙ found) slot
 
     long : length (New slot) ≡ n + 1
     long = length-append (writtenOf s) (record { key = bytesOf key; slot = slot } ∷ []) ∙ ap (λ (z : ℕ). z + 1) (sym many)
 
-    pub note-full : n ≡ 256 → Notes s (bytesOf key) slot false s
+    pub note-full : n ≡ writtenPlaces → Notes s (bytesOf key) slot false s
     note-full full =
         let l : length (New slot) ≡ 257 = long ∙ rw full in
         record { outcome = rw (appended, l); refused = λ e. refl; beyond = λ j h. refl }
 
-    module _ (room : n ≡ 256 → ⊥) (fits : 2049 ≤ length s) (s₁ s₂ : List ℕ) (e₁ : s₁ ≡ writes s (1 + n * 8) (slot ∷ wordsOf key)) (e₂ : s₂ ≡ set s₁ 0 (n + 1)) where
-      stored : highestAt s₁ (1 + n * 8) ≡ record { key = bytesOf key; slot = slot }
+    module _ (room : n ≡ writtenPlaces → ⊥) (fits : writtenWords ≤ length s) (s₁ s₂ : List ℕ) (e₁ : s₁ ≡ writes s (1 + n * writtenRow) (slot ∷ wordsOf key)) (e₂ : s₂ ≡ set s₁ 0 (n + 1)) where
+      stored : highestAt s₁ (1 + n * writtenRow) ≡ record { key = bytesOf key; slot = slot }
       unfolding highestAt
       stored =
-          let l = length-set s (1 + n * 8) slot in
-          let a : getD s₁ (1 + n * 8) 0 ≡ slot = rw e₁ (writes-other (set s (1 + n * 8) slot) (1 + n * 8 + 1) (wordsOf key) (1 + n * 8) (inl (omega arith)) ∙ getD-set-same s (1 + n * 8) slot 0 (omega arith)) in
-          let k : keyAt s₁ (1 + n * 8 + 1) ≡ key = rw e₁ (keyAt-writes (set s (1 + n * 8) slot) (1 + n * 8 + 1) key (omega (arith, l))) in
+          let l = length-set s (1 + n * writtenRow) slot in
+          let a : getD s₁ (1 + n * writtenRow) 0 ≡ slot = rw e₁ (writes-other (set s (1 + n * writtenRow) slot) (1 + n * writtenRow + 1) (wordsOf key) (1 + n * writtenRow) (inl (omega arith)) ∙ getD-set-same s (1 + n * writtenRow) slot 0 (omega arith)) in
+          let k : keyAt s₁ (1 + n * writtenRow + 1) ≡ key = rw e₁ (keyAt-writes (set s (1 + n * writtenRow) slot) (1 + n * writtenRow + 1) key (omega (arith, l))) in
           rw (a, k)
 
       pushed : writtenOf s₂ ≡ New slot
       unfolding writtenOf
-      pushed = counted-push highestAt 8 256 near s s₁ s₂ n (record { key = bytesOf key; slot = slot }) (slot ∷ wordsOf key) (omega arith) (many ∙ how-many s) (omega arith) refl e₁ stored e₂
+      pushed = counted-push highestAt writtenRow writtenPlaces near s s₁ s₂ n (record { key = bytesOf key; slot = slot }) (slot ∷ wordsOf key) (omega arith) (many ∙ how-many s) (omega arith) refl e₁ stored e₂
 
       pub note-new : Notes s (bytesOf key) slot true s₂
       note-new =
           record {
-            outcome = rw (pushed, appended, long, le-leb (n + 1) 256 (omega arith));
+            outcome = rw (pushed, appended, long, le-leb (n + 1) writtenPlaces (omega arith));
             refused = λ e. absurd (true≢false e);
-            beyond = λ j h. rw (e₂, getD-set-other s₁ 0 j (n + 1) 0 (omega arith), e₁) (writes-other s (1 + n * 8) (slot ∷ wordsOf key) j (inr (omega arith)));
+            beyond = λ j h. rw (e₂, getD-set-other s₁ 0 j (n + 1) 0 (omega arith), e₁) (writes-other s (1 + n * writtenRow) (slot ∷ wordsOf key) j (inr (omega arith)));
           }
 
 -- a write that leaves at most 256 keys is noted
-pub noted-on : (s t key : List ℕ) (slot : ℕ) (r : Bool) → Notes s key slot r t → length (raise slot key (writtenOf s)) ≤ 256 → writtenOf t ≡ raise slot key (writtenOf s)
-noted-on s t key slot r p h = go r (rw (le-leb (length (raise slot key (writtenOf s))) 256 h) at (p .outcome))
+pub noted-on : (s t key : List ℕ) (slot : ℕ) (r : Bool) → Notes s key slot r t → length (raise slot key (writtenOf s)) ≤ writtenPlaces → writtenOf t ≡ raise slot key (writtenOf s)
+noted-on s t key slot r p h = go r (rw (le-leb (length (raise slot key (writtenOf s))) writtenPlaces h) at (p .outcome))
   where
     go : (r : Bool) → (if r then some (writtenOf t) else none) ≡ some (raise slot key (writtenOf s)) → writtenOf t ≡ raise slot key (writtenOf s)
     go true e = cc

@@ -10,7 +10,7 @@ use Rattle.words.specs.Choice.{if_then_else_}
 use Rattle.words.specs.Counted.{counted}
 use Rattle.keys.specs.Same.{sameBytes}
 use Rattle.key_words.specs.Key.{keyAt, bytesOf}
-use Rattle.ids.specs.Limits.{keys}
+use Rattle.layout.specs.Layout.{writtenPlaces, writtenRow, writtenWords}
 use Rattle.bodega.specs.Localread.{raise}
 use Rattle.bodega.specs.Replica as machine
 use Rattle.highest_slot.specs.declared.LastWrite.{LastWrite}
@@ -24,7 +24,7 @@ highestAt s p = record { key = bytesOf (keyAt s (p + 1)); slot = getD s p 0 }
 
 -- the entries, on any words
 unfoldable pub writtenOf : List ℕ → List machine.Highest
-writtenOf s = counted highestAt 8 keys s
+writtenOf s = counted highestAt writtenRow writtenPlaces s
 
 abbrev pub slotIn : LastWrite → Option ℕ
 slotIn (At slot) = some (slot .0)
@@ -36,10 +36,10 @@ placeOf i key [] = Nowhere
 placeOf i key (h ∷ hs) = if sameBytes (h .key) key then Entry i else placeOf (i + 1) key hs
 
 abbrev pub capped : List machine.Highest → Option (List machine.Highest)
-capped l = if leb (length l) keys then some l else none
+capped l = if leb (length l) writtenPlaces then some l else none
 
 -- what a write of a key at a slot comes to on the words s: the answer, and the words t
 pub record Notes (s : List ℕ) (key : List ℕ) (slot : ℕ) (r : Bool) (t : List ℕ) : Type 0 where
   pub outcome : (if r then some (writtenOf t) else none) ≡ capped (raise slot key (writtenOf s))
   pub refused : r ≡ false → t ≡ s
-  pub beyond : (j : ℕ) → 2049 ≤ j → getD t j 0 ≡ getD s j 0
+  pub beyond : (j : ℕ) → writtenWords ≤ j → getD t j 0 ≡ getD s j 0

@@ -17,6 +17,8 @@ use Rattle.bodega.specs.Replica as machine
 use Rattle.bodega.specs.Localread.{isPut, raise, refreshHighestSlot, highestOf, putOf, lastPut}
 use Rattle.key_words.specs.Key.{bytesOf}
 use Rattle.ids.specs.declared.Slot.{Slot}
+use Rattle.ids.specs.Limits.{keys}
+use Rattle.layout.specs.Layout.{writtenWords}
 use Rattle.inst_reqs.specs.Batch.{requestOf, requestAt, requestsOf, valueIn}
 use Rattle.inst_reqs.specs.declared.Command.the-variants.{Get, Put}
 use Rattle.inst_reqs.specs.declared.Request.{Request}
@@ -171,7 +173,7 @@ module _ (q : machine.Request) (r : Request) (is : requestOf r ≡ q) where
   note-get slot s e = record { written = rw (← is, e); beyond = λ j h. refl }
 
   pub note-put : (slot : ℕ) (s t : List ℕ) (v : ℕ) (ok : Bool) → r .command ≡ Put v → Notes s (bytesOf (r .key)) slot ok t
-      → length (refreshHighestSlot slot (q ∷ []) (writtenOf s)) ≤ 256 → Refreshes slot (q ∷ []) s t
+      → length (refreshHighestSlot slot (q ∷ []) (writtenOf s)) ≤ keys → Refreshes slot (q ∷ []) s t
   unfolding refreshHighestSlot
   note-put slot s t v ok e n h =
       let f : noted slot q (writtenOf s) ≡ raise slot (bytesOf (r .key)) (writtenOf s) = rw (← is, e) in
@@ -197,12 +199,12 @@ module _ (b w : List ℕ) where
   unfolding after
   whole m slot h = rw (requests-are b m h)
 
-  pub after-end : (n m i : ℕ) → ((slot : ℕ) → n ≡ length (after slot b w i)) → m ≡ length (requestsOf b) → i ≤ m → m ≤ i → n ≤ 256
-      → (slot : ℕ) → false ≡ ltb 256 (length (refreshHighestSlot slot (requestsOf b) (writtenOf w)))
+  pub after-end : (n m i : ℕ) → ((slot : ℕ) → n ≡ length (after slot b w i)) → m ≡ length (requestsOf b) → i ≤ m → m ≤ i → n ≤ keys
+      → (slot : ℕ) → false ≡ ltb keys (length (refreshHighestSlot slot (requestsOf b) (writtenOf w)))
   after-end n m i e h x y k slot =
       let q : i ≡ m = omega arith in
       let f = rw (q, whole m slot h) at (e slot) in
-      sym (le-ltb 256 (length (refreshHighestSlot slot (requestsOf b) (writtenOf w))) (omega arith))
+      sym (le-ltb keys (length (refreshHighestSlot slot (requestsOf b) (writtenOf w))) (omega arith))
 
   drops : (m i : ℕ) → i ≤ m → drop i (tab (requestAt b) 0 m) ≡ tab (requestAt b) i (m - i)
   drops m i h = drop-tab (requestAt b) 0 m i h ∙ ap (λ (j : ℕ). tab (requestAt b) j (m - i)) (zero-add i)
@@ -216,24 +218,24 @@ module _ (b w : List ℕ) where
       sym (rw (← (take-tab (requestAt b) 0 m i h), ← (drops m i h)) (take-append-drop i (tab (requestAt b) 0 m))) in
       rw (s, refresh-append) (l .0)
 
-  pub after-past : (n m r i : ℕ) → ((slot : ℕ) → n ≡ length (after slot b w i)) → r ≡ newKeys (requestAt b i) (tab (requestAt b) 0 i) (writtenOf w) → m ≡ length (requestsOf b) → i < m → 256 < n + r
-      → (slot : ℕ) → true ≡ ltb 256 (length (refreshHighestSlot slot (requestsOf b) (writtenOf w)))
+  pub after-past : (n m r i : ℕ) → ((slot : ℕ) → n ≡ length (after slot b w i)) → r ≡ newKeys (requestAt b i) (tab (requestAt b) 0 i) (writtenOf w) → m ≡ length (requestsOf b) → i < m → keys < n + r
+      → (slot : ℕ) → true ≡ ltb keys (length (refreshHighestSlot slot (requestsOf b) (writtenOf w)))
   after-past n m r i e h k x y slot =
       let f = after-next n r i e h slot in
       let g = rw (whole m slot k) at (after-grows m (i + 1) slot (omega arith)) in
-      sym (lt-ltb 256 (length (refreshHighestSlot slot (requestsOf b) (writtenOf w))) (omega arith))
+      sym (lt-ltb keys (length (refreshHighestSlot slot (requestsOf b) (writtenOf w))) (omega arith))
 
-  pub fits : (m n : ℕ) → m ≡ length (requestsOf b) → n ≡ length (writtenOf w) → n + m ≤ 256 → (slot : ℕ) → false ≡ ltb 256 (length (refreshHighestSlot slot (requestsOf b) (writtenOf w)))
+  pub fits : (m n : ℕ) → m ≡ length (requestsOf b) → n ≡ length (writtenOf w) → n + m ≤ keys → (slot : ℕ) → false ≡ ltb keys (length (refreshHighestSlot slot (requestsOf b) (writtenOf w)))
   fits m n x y h slot =
       let l = long-after slot (requestsOf b) (writtenOf w) in
-      sym (le-ltb 256 (length (refreshHighestSlot slot (requestsOf b) (writtenOf w))) (omega arith))
+      sym (le-ltb keys (length (refreshHighestSlot slot (requestsOf b) (writtenOf w))) (omega arith))
 
 -- ---- the written keys, request by request: from i on is left
 
 pub record Left (slot : ℕ) (b s : List ℕ) (n i : ℕ) (t : List ℕ) : Type 0 where
   pub sized : length t ≡ length s
   pub left : refreshHighestSlot slot (tab (requestAt b) i (n - i)) (writtenOf t) ≡ refreshHighestSlot slot (requestsOf b) (writtenOf s)
-  pub beyond : (j : ℕ) → 2049 ≤ j → getD t j 0 ≡ getD s j 0
+  pub beyond : (j : ℕ) → writtenWords ≤ j → getD t j 0 ≡ getD s j 0
 
 module _ (slot : ℕ) (b s : List ℕ) (n : ℕ) where
   pub left-start : n ≡ length (requestsOf b) → Left slot b s n 0 s
@@ -246,7 +248,7 @@ module _ (slot : ℕ) (b s : List ℕ) (n : ℕ) where
         let m : n - i ≡ suc (n - (i + 1)) = omega arith in
         rw m at (l .left)
 
-    pub room : i < n → length (refreshHighestSlot slot (requestsOf b) (writtenOf s)) ≤ 256 → length (refreshHighestSlot slot (requestAt b i ∷ []) (writtenOf t)) ≤ 256
+    pub room : i < n → length (refreshHighestSlot slot (requestsOf b) (writtenOf s)) ≤ keys → length (refreshHighestSlot slot (requestAt b i ∷ []) (writtenOf t)) ≤ keys
     room h k =
         let a = long-after slot (tab (requestAt b) (i + 1) (n - (i + 1))) (refreshHighestSlot slot (requestAt b i ∷ []) (writtenOf t)) in
         let c = ap length (cut h) in

@@ -5,6 +5,7 @@ use Prim.Native.Nat.{ℕ, _≤_}
 use lib.ListN.{getD}
 use Rattle.words.specs.Choice.{if_then_else_, ifNone_then_else_}
 use Rattle.words.specs.Tab.{tab}
+use Rattle.layout.specs.Layout.{writtenWords}
 use Rattle.bodega.specs.Replica as machine
 use Rattle.bodega.specs.Localread.{refreshHighestSlot, isPut, highestOf, lastPut}
 use Rattle.inst_reqs.specs.Batch.{requestAt}
@@ -24,4 +25,4 @@ newKeys q qs hs = if isPut (q .command) then newKey (q .key) qs hs else 0
 -- the words t are those of s after the requests at a slot
 pub record Refreshes (slot : ℕ) (qs : List machine.Request) (s t : List ℕ) : Type 0 where
   pub written : writtenOf t ≡ refreshHighestSlot slot qs (writtenOf s)
-  pub beyond : (j : ℕ) → 2049 ≤ j → getD t j 0 ≡ getD s j 0
+  pub beyond : (j : ℕ) → writtenWords ≤ j → getD t j 0 ≡ getD s j 0

@@ -11,6 +11,7 @@ ghost use lib.Dec.{ltb};
 ghost use lib.ListN.{length};
 ghost use Rattle.words.specs.Tab.{tab};
 ghost use Rattle.ids.specs.Limits.{keys};
+ghost use Rattle.layout.specs.Layout.{requestPlaces, batchWords, writtenWords};
 ghost use Rattle.key_words.specs.Key.{bytesOf};
 ghost use Rattle.bodega.specs.Localread.{refreshHighestSlot};
 ghost use Rattle.inst_reqs.specs.Batch.{requestAt, requestsOf};
@@ -19,7 +20,7 @@ ghost use Rattle.highest_slot_refresh.specs.Refresh.{after, newKey, newK
 
 // How many keys a Put of a key as the i-th request adds.
 fn new_key(written: &[u64], batch: &[u64], i: usize, key: Key) -> usize
-    requires { ⌜ (2049 ≤ length (now written)) × ((i < 8) × (89 ≤ length (now batch))) ⌝ }
+    requires { ⌜ (writtenWords ≤ length (now written)) × ((i < requestPlaces) × (batchWords ≤ length (now batch))) ⌝ }
     ensures { λ r. ⌜ (r ≡ newKey (bytesOf key) (tab (requestAt (now (batch .entry))) 0 i) (writtenOf (now (written .entry)))) × (r ≤ 1) ⌝ }
 {
     let at = highest_slot::highest(written, key);
@@ -37,7 +38,7 @@ fn new_key(written: &[u64], batch: &[u64], i: usize, key: Key) -> usize
 
 // How many keys the i-th request adds.
 fn new_keys(written: &[u64], batch: &[u64], i: usize) -> usize
-    requires { ⌜ (2049 ≤ length (now written)) × ((i < 8) × (89 ≤ length (now batch))) ⌝ }
+    requires { ⌜ (writtenWords ≤ length (now written)) × ((i < requestPlaces) × (batchWords ≤ length (now batch))) ⌝ }
     ensures { λ r. ⌜ (r ≡ newKeys (requestAt (now (batch .entry)) i) (tab (requestAt (now (batch .entry))) 0 i) (writtenOf (now (written .entry)))) × (r ≤ 1) ⌝ }
 {
     let q = inst_reqs::get(batch, i);
@@ -51,7 +52,7 @@ fn new_keys(written: &[u64], batch: &[u64], i: usize) -> usize
 
 // Whether the keys come to be more than 256, request by request: no further than the first that brings them there.
 fn exceeds(written: &[u64], batch: &[u64]) -> bool
-    requires { ⌜ (2049 ≤ length (now written)) × (89 ≤ length (now batch)) ⌝ }
+    requires { ⌜ (writtenWords ≤ length (now written)) × (batchWords ≤ length (now batch)) ⌝ }
     ensures { λ r. ⌜ ((slot : ℕ) → r ≡ ltb keys (length (refreshHighestSlot slot (requestsOf (now (batch .entry))) (writtenOf (now (written .entry)))))) ⌝ }
 {
     let m = inst_reqs::count(batch);
@@ -69,7 +70,7 @@ fn exceeds(written: &[u64], batch: &[u64]) -> bool
 
 // Whether the batch would bring the written keys above 256, at whatever slot.
 pub fn overflows(written: &[u64], batch: &[u64]) -> bool
-    requires { ⌜ (2049 ≤ length (now written)) × (89 ≤ length (now batch)) ⌝ }
+    requires { ⌜ (writtenWords ≤ length (now written)) × (batchWords ≤ length (now batch)) ⌝ }
     ensures { λ r. ⌜ ((slot : ℕ) → r ≡ ltb keys (length (refreshHighestSlot slot (requestsOf (now (batch .entry))) (writtenOf (now (written .entry)))))) ⌝ }
 {
     let m = inst_reqs::count(batch);
@@ -82,8 +83,8 @@ pub fn overflows(written: &[u64], batch: &[u64]) -> bool
 
 // The i-th request's part.
 fn note_at(written: &mut [u64], batch: &[u64], i: usize, slot: Slot)
-    requires { ⌜ (2049 ≤ length (now written)) × ((i < 8) × (89 ≤ length (now batch))) ⌝ }
-    requires { ⌜ length (refreshHighestSlot (slot .0) (requestAt (now batch) i ∷ []) (writtenOf (now written))) ≤ 256 ⌝ }
+    requires { ⌜ (writtenWords ≤ length (now written)) × ((i < requestPlaces) × (batchWords ≤ length (now batch))) ⌝ }
+    requires { ⌜ length (refreshHighestSlot (slot .0) (requestAt (now batch) i ∷ []) (writtenOf (now written))) ≤ keys ⌝ }
     ensures { λ _. ⌜ Refreshes (slot .0) (requestAt (now (batch .entry)) i ∷ []) (now (written .entry)) (now (written .exit)) ⌝ }
 {
     let q = inst_reqs::get(batch, i);
@@ -99,8 +100,8 @@ fn note_at(written: &mut [u64], batch: &[u64], i: usize, slot: Slot)
 
 // Each Put's key is written at a slot, or at the higher one that it has.
 pub fn refresh(written: &mut [u64], batch: &[u64], slot: Slot)
-    requires { ⌜ (2049 ≤ length (now written)) × (89 ≤ length (now batch)) ⌝ }
-    requires { ⌜ length (refreshHighestSlot (slot .0) (requestsOf (now batch)) (writtenOf (now written))) ≤ 256 ⌝ }
+    requires { ⌜ (writtenWords ≤ length (now written)) × (batchWords ≤ length (now batch)) ⌝ }
+    requires { ⌜ length (refreshHighestSlot (slot .0) (requestsOf (now batch)) (writtenOf (now written))) ≤ keys ⌝ }
     ensures { λ _. ⌜ Refreshes (slot .0) (requestsOf (now (batch .entry))) (now (written .entry)) (now (written .exit)) ⌝ }
 {
     let n = inst_reqs::count(batch);

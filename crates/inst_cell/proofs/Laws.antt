@@ -13,6 +13,7 @@ use lib.Seq.{getD-set-same, getD-set-other}
 use borrow.Author.Tests.{le-ltb, eq-eqb, ne-eqb}
 use Rattle.words.specs.Choice.{if_then_else_, ifNone_then_else_}
 use Rattle.words.specs.Writes.{writes, Agrees, writes-same, writes-other}
+use Rattle.layout.specs.Layout.{cellRow}
 use Rattle.bodega.specs.Replica as machine
 use Rattle.inst_cell.specs.Cell.{Notices, Short, statusNamed, acksNamed, bookNamed, present, acksIn, balIn, noticesIn, cellAt, cellWords, withStatus, hasBook}
 
@@ -89,33 +90,33 @@ cell-near t s p h =
     )
 
 -- a cell that is stored is read back
-module _ (s : List ℕ) (c : ℕ) (x : Short) (h : c * 8 + 8 ≤ length s) where
-  stored : (q k : ℕ) → q ≡ c * 8 + k → k < 7 → getD (writes s (c * 8) (cellWords x)) q 0 ≡ getD (cellWords x) k 0
-  stored q k e b = rw e (writes-same s (c * 8) (cellWords x) k (omega arith) b)
+module _ (s : List ℕ) (c : ℕ) (x : Short) (h : c * cellRow + cellRow ≤ length s) where
+  stored : (q k : ℕ) → q ≡ c * cellRow + k → k < 7 → getD (writes s (c * cellRow) (cellWords x)) q 0 ≡ getD (cellWords x) k 0
+  stored q k e b = rw e (writes-same s (c * cellRow) (cellWords x) k (omega arith) b)
 
-  pub cell-same : cellAt (writes s (c * 8) (cellWords x)) (c * 8) ≡ x
+  pub cell-same : cellAt (writes s (c * cellRow) (cellWords x)) (c * cellRow) ≡ x
   unfolding cellAt
   cell-same =
       simp (
-        stored (c * 8) 0 (omega arith) (omega arith),
-        stored (c * 8 + 1) 1 (omega arith) (omega arith),
-        stored (c * 8 + 1 + 1) 2 (omega arith) (omega arith),
-        stored (c * 8 + 1 + 1 + 1) 3 (omega arith) (omega arith),
-        stored (c * 8 + 1 + 1 + 1 + 1) 4 (omega arith) (omega arith),
-        stored (c * 8 + 1 + 1 + 1 + 1 + 1) 5 (omega arith) (omega arith),
-        stored (c * 8 + 1 + 1 + 1 + 1 + 1 + 1) 6 (omega arith) (omega arith),
+        stored (c * cellRow) 0 (omega arith) (omega arith),
+        stored (c * cellRow + 1) 1 (omega arith) (omega arith),
+        stored (c * cellRow + 1 + 1) 2 (omega arith) (omega arith),
+        stored (c * cellRow + 1 + 1 + 1) 3 (omega arith) (omega arith),
+        stored (c * cellRow + 1 + 1 + 1 + 1) 4 (omega arith) (omega arith),
+        stored (c * cellRow + 1 + 1 + 1 + 1 + 1) 5 (omega arith) (omega arith),
+        stored (c * cellRow + 1 + 1 + 1 + 1 + 1 + 1) 6 (omega arith) (omega arith),
       )
       (λ i. record { bal = x .bal; status = named-status (x .status) i; leaderBk = named-acks (x .leaderBk) i; replicaBk = named-book (x .replicaBk) i })
 
   -- and another cell stays as it was
-  apart : (d q : ℕ) → d ≢ c → d * 8 ≤ q → q < d * 8 + 7 → getD (writes s (c * 8) (cellWords x)) q 0 ≡ getD s q 0
+  apart : (d q : ℕ) → d ≢ c → d * cellRow ≤ q → q < d * cellRow + 7 → getD (writes s (c * cellRow) (cellWords x)) q 0 ≡ getD s q 0
   apart d q n f g = elim (decLt d c) [
-    | yes l ↦ writes-other s (c * 8) (cellWords x) q (inl (omega arith))
-    | no l ↦ writes-other s (c * 8) (cellWords x) q (inr (let m : c < d = omega arith in omega arith))
+    | yes l ↦ writes-other s (c * cellRow) (cellWords x) q (inl (omega arith))
+    | no l ↦ writes-other s (c * cellRow) (cellWords x) q (inr (let m : c < d = omega arith in omega arith))
   ]
 
-  pub cell-other : (d : ℕ) → d ≢ c → cellAt (writes s (c * 8) (cellWords x)) (d * 8) ≡ cellAt s (d * 8)
-  cell-other d n = cell-near (writes s (c * 8) (cellWords x)) s (d * 8) (λ q f g. apart d q n f g)
+  pub cell-other : (d : ℕ) → d ≢ c → cellAt (writes s (c * cellRow) (cellWords x)) (d * cellRow) ≡ cellAt s (d * cellRow)
+  cell-other d n = cell-near (writes s (c * cellRow) (cellWords x)) s (d * cellRow) (λ q f g. apart d q n f g)
 
 -- the words that the code stores
 pub words-are : (s : List ℕ) (p bal w a₀ a₁ b₀ b₁ b₂ : ℕ) (st : machine.Status) (a : Option ℕ) (b : Option Notices) → w ≡ machine.order st → (a₀ ≡ present a) × (a₁ ≡ acksIn a)
@@ -150,23 +151,23 @@ book-is s p =
     rw e (named-there (eqb (getD s (p + 1 + 1 + 1 + 1) 0) 0) (record { bal = getD s (p + 1 + 1 + 1 + 1 + 1) 0; notices = getD s (p + 1 + 1 + 1 + 1 + 1 + 1) 0 }))
 
 -- a status that is stored is read back, and all else stays as it was
-module _ (s : List ℕ) (c : ℕ) (st : machine.Status) (h : c * 8 + 8 ≤ length s) where
-  word-stays : (q : ℕ) → q ≢ c * 8 + 1 → getD (set s (c * 8 + 1) (machine.order st)) q 0 ≡ getD s q 0
-  word-stays q n = getD-set-other s (c * 8 + 1) q (machine.order st) 0 n
+module _ (s : List ℕ) (c : ℕ) (st : machine.Status) (h : c * cellRow + cellRow ≤ length s) where
+  word-stays : (q : ℕ) → q ≢ c * cellRow + 1 → getD (set s (c * cellRow + 1) (machine.order st)) q 0 ≡ getD s q 0
+  word-stays q n = getD-set-other s (c * cellRow + 1) q (machine.order st) 0 n
 
-  pub status-same : cellAt (set s (c * 8 + 1) (machine.order st)) (c * 8) ≡ withStatus st (cellAt s (c * 8))
+  pub status-same : cellAt (set s (c * cellRow + 1) (machine.order st)) (c * cellRow) ≡ withStatus st (cellAt s (c * cellRow))
   unfolding cellAt
   status-same =
       simp (
-        word-stays (c * 8) (omega arith),
-        getD-set-same s (c * 8 + 1) (machine.order st) 0 (omega arith),
-        word-stays (c * 8 + 1 + 1) (omega arith),
-        word-stays (c * 8 + 1 + 1 + 1) (omega arith),
-        word-stays (c * 8 + 1 + 1 + 1 + 1) (omega arith),
-        word-stays (c * 8 + 1 + 1 + 1 + 1 + 1) (omega arith),
-        word-stays (c * 8 + 1 + 1 + 1 + 1 + 1 + 1) (omega arith),
+        word-stays (c * cellRow) (omega arith),
+        getD-set-same s (c * cellRow + 1) (machine.order st) 0 (omega arith),
+        word-stays (c * cellRow + 1 + 1) (omega arith),
+        word-stays (c * cellRow + 1 + 1 + 1) (omega arith),
+        word-stays (c * cellRow + 1 + 1 + 1 + 1) (omega arith),
+        word-stays (c * cellRow + 1 + 1 + 1 + 1 + 1) (omega arith),
+        word-stays (c * cellRow + 1 + 1 + 1 + 1 + 1 + 1) (omega arith),
         named-status st,
       )
 
-  pub status-other : (d : ℕ) → d ≢ c → cellAt (set s (c * 8 + 1) (machine.order st)) (d * 8) ≡ cellAt s (d * 8)
-  status-other d n = cell-near (set s (c * 8 + 1) (machine.order st)) s (d * 8) (λ q f g. word-stays q (λ e. n (omega arith)))
+  pub status-other : (d : ℕ) → d ≢ c → cellAt (set s (c * cellRow + 1) (machine.order st)) (d * cellRow) ≡ cellAt s (d * cellRow)
+  status-other d n = cell-near (set s (c * cellRow + 1) (machine.order st)) s (d * cellRow) (λ q f g. word-stays q (λ e. n (omega arith)))

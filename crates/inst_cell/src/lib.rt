@@ -4,6 +4,7 @@ ghost use mathlib.Core.Path.{_≡_};
 ghost use Prim.Native.Nat.{ℕ, _+_, _*_, _≤_};
 ghost use lib.ListN.{length, set};
 ghost use Rattle.words.specs.Writes.{writes};
+ghost use Rattle.layout.specs.Layout.{cellRow};
 ghost use Rattle.bodega.specs.Replica.{order, isOpen};
 ghost use Rattle.inst_cell.specs.Cell.{statusOf, statusNamed, acksOf, bookOf, acksNamed, bookNamed, present, acksIn, balIn, noticesIn, cellOf, cellAt, cellWords, hasBook};
 
@@ -116,10 +117,10 @@ fn book_words(bk: ReplicaBk) -> BookWords
 
 // The cell c.
 pub fn load(cells: &[u64], c: usize) -> Cell
-    requires { ⌜ c * 8 + 8 ≤ length (now cells) ⌝ }
-    ensures { λ r. ⌜ cellOf r ≡ cellAt (now (cells .entry)) (c * 8) ⌝ }
+    requires { ⌜ c * cellRow + cellRow ≤ length (now cells) ⌝ }
+    ensures { λ r. ⌜ cellOf r ≡ cellAt (now (cells .entry)) (c * cellRow) ⌝ }
 {
-    let p = c * 8;
+    let p = c * layout::CELL_ROW;
     let p1 = p + 1;
     let p2 = p1 + 1;
     let p3 = p2 + 1;
@@ -140,8 +141,8 @@ pub fn load(cells: &[u64], c: usize) -> Cell
 }
 
 pub fn store(cells: &mut [u64], c: usize, cell: Cell)
-    requires { ⌜ c * 8 + 8 ≤ length (now cells) ⌝ }
-    ensures { λ _. ⌜ now (cells .exit) ≡ writes (now (cells .entry)) (c * 8) (cellWords (cellOf cell)) ⌝ }
+    requires { ⌜ c * cellRow + cellRow ≤ length (now cells) ⌝ }
+    ensures { λ _. ⌜ now (cells .exit) ≡ writes (now (cells .entry)) (c * cellRow) (cellWords (cellOf cell)) ⌝ }
 {
     let status = cell.status;
     let leader = cell.leader_bk;
@@ -149,7 +150,7 @@ pub fn store(cells: &mut [u64], c: usize, cell: Cell)
     let w = status_word(status);
     let a = ack_words(leader);
     let b = book_words(replica);
-    let p = c * 8;
+    let p = c * layout::CELL_ROW;
     let p1 = p + 1;
     let p2 = p1 + 1;
     let p3 = p2 + 1;
@@ -167,26 +168,26 @@ pub fn store(cells: &mut [u64], c: usize, cell: Cell)
 
 // `status < Committed`.
 pub fn is_open(cells: &[u64], c: usize) -> bool
-    requires { ⌜ c * 8 + 8 ≤ length (now cells) ⌝ }
-    ensures { λ r. ⌜ r ≡ isOpen (cellAt (now (cells .entry)) (c * 8) .status) ⌝ }
+    requires { ⌜ c * cellRow + cellRow ≤ length (now cells) ⌝ }
+    ensures { λ r. ⌜ r ≡ isOpen (cellAt (now (cells .entry)) (c * cellRow) .status) ⌝ }
 {
-    let p = c * 8 + 1;
+    let p = c * layout::CELL_ROW + 1;
     cells[p] < 3
 }
 
 pub fn has_book(cells: &[u64], c: usize) -> bool
-    requires { ⌜ c * 8 + 8 ≤ length (now cells) ⌝ }
-    ensures { λ r. ⌜ r ≡ hasBook (cellAt (now (cells .entry)) (c * 8)) ⌝ }
+    requires { ⌜ c * cellRow + cellRow ≤ length (now cells) ⌝ }
+    ensures { λ r. ⌜ r ≡ hasBook (cellAt (now (cells .entry)) (c * cellRow)) ⌝ }
 {
-    let p = c * 8 + 4;
+    let p = c * layout::CELL_ROW + 4;
     cells[p] != 0
 }
 
 pub fn set_status(cells: &mut [u64], c: usize, status: Status)
-    requires { ⌜ c * 8 + 8 ≤ length (now cells) ⌝ }
-    ensures { λ _. ⌜ now (cells .exit) ≡ set (now (cells .entry)) (c * 8 + 1) (order (statusOf status)) ⌝ }
+    requires { ⌜ c * cellRow + cellRow ≤ length (now cells) ⌝ }
+    ensures { λ _. ⌜ now (cells .exit) ≡ set (now (cells .entry)) (c * cellRow + 1) (order (statusOf status)) ⌝ }
 {
-    let p = c * 8 + 1;
+    let p = c * layout::CELL_ROW + 1;
     let w = status_word(status);
     cells[p] = w;
 }

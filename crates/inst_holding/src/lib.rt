@@ -1,4 +1,4 @@
-// The reads that a slot holds, in 145 lent words: how many, and then 16 reads of nine words: client, request, key.
+// The reads that a slot holds, in lent words: how many, and then rows of client, request, key.
 use key_words::Key;
 use key_words::get_key;
 use key_words::put_key;
@@ -7,10 +7,8 @@ ghost use mathlib.Core.List.{[]};
 ghost use Prim.Native.Nat.{_+_, _*_, _<_, _≤_};
 ghost use lib.ListN.{length, set};
 ghost use Rattle.words.specs.Writes.{writes};
+ghost use Rattle.layout.specs.Layout.{heldRow, heldPlaces, heldWords};
 ghost use Rattle.inst_holding.specs.Held.{readOf, readAt, readsOf, readWords, Pushes};
-
-// Reads that a slot holds at most.
-pub const HOLD: usize = 16;
 
 pub struct ReadReq {
     pub client: u64,
@@ -19,19 +17,23 @@ pub struct ReadReq {
 }
 
 pub fn count(s: &[u64]) -> usize
-    requires { ⌜ 145 ≤ length (now s) ⌝ }
-    ensures { λ r. ⌜ (r ≡ length (readsOf (now (s .entry)))) × (r ≤ 16) ⌝ }
+    requires { ⌜ heldWords ≤ length (now s) ⌝ }
+    ensures { λ r. ⌜ (r ≡ length (readsOf (now (s .entry)))) × (r ≤ heldPlaces) ⌝ }
 {
     let n = s[0];
-    if n <= HOLD as u64 { n as usize } else { HOLD }
+    if n <= layout::HELD_PLACES as u64 {
+        n as usize
+    } else {
+        layout::HELD_PLACES
+    }
 }
 
 // The i-th read.
 pub fn get(s: &[u64], i: usize) -> ReadReq
-    requires { ⌜ (i < 16) × (145 ≤ length (now s)) ⌝ }
+    requires { ⌜ (i < heldPlaces) × (heldWords ≤ length (now s)) ⌝ }
     ensures { λ r. ⌜ readOf r ≡ readAt (now (s .entry)) i ⌝ }
 {
-    let p = 1 + i * 9;
+    let p = 1 + i * layout::HELD_ROW;
     let p1 = p + 1;
     let p2 = p1 + 1;
     let key = get_key(s, p2);
@@ -43,10 +45,10 @@ pub fn get(s: &[u64], i: usize) -> ReadReq
 }
 
 fn put(s: &mut [u64], i: usize, x: ReadReq)
-    requires { ⌜ (i < 16) × (145 ≤ length (now s)) ⌝ }
-    ensures { λ _. ⌜ now (s .exit) ≡ writes (now (s .entry)) (1 + i * 9) (readWords x) ⌝ }
+    requires { ⌜ (i < heldPlaces) × (heldWords ≤ length (now s)) ⌝ }
+    ensures { λ _. ⌜ now (s .exit) ≡ writes (now (s .entry)) (1 + i * heldRow) (readWords x) ⌝ }
 {
-    let p = 1 + i * 9;
+    let p = 1 + i * layout::HELD_ROW;
     let p1 = p + 1;
     let p2 = p1 + 1;
     let key = x.key;
@@ -55,13 +57,13 @@ fn put(s: &mut [u64], i: usize, x: ReadReq)
     put_key(s, p2, key);
 }
 
-// A read after the others; false, and nothing changed, where there are 16.
+// A read after the others; false, and nothing changed, where there is no place left.
 pub fn push(s: &mut [u64], x: ReadReq) -> bool
-    requires { ⌜ 145 ≤ length (now s) ⌝ }
+    requires { ⌜ heldWords ≤ length (now s) ⌝ }
     ensures { λ r. ⌜ Pushes (now (s .entry)) (readOf x) r (now (s .exit)) ⌝ }
 {
     let n = count(s);
-    if n == HOLD {
+    if n == layout::HELD_PLACES {
         return false;
     }
     put(s, n, x);
@@ -70,7 +72,7 @@ pub fn push(s: &mut [u64], x: ReadReq) -> bool
 }
 
 pub fn clear(s: &mut [u64])
-    requires { ⌜ 145 ≤ length (now s) ⌝ }
+    requires { ⌜ heldWords ≤ length (now s) ⌝ }
     ensures { λ _. ⌜ (readsOf (now (s .exit)) ≡ []) × (now (s .exit) ≡ set (now (s .entry)) 0 0) ⌝ }
 {
     s[0] = 0;

@@ -14,6 +14,7 @@ use Rattle.words.specs.Choice.{if_then_else_, ifNone_then_else_}
 use Rattle.words.specs.Counted.{countOf, length-counted, counted-push, counted-clear}
 use Rattle.words.specs.Tab.{tab, tab-snoc}
 use Rattle.words.specs.Writes.{writes, Agrees, writes-other, writes-same}
+use Rattle.layout.specs.Layout.{requestPlaces, requestRow, batchWords}
 use Rattle.keys.specs.Same.{sameBytes}
 use Rattle.key_words.specs.Key.{keyAt, bytesOf}
 use Rattle.key_words.specs.declared.Key.{Key}
@@ -27,7 +28,7 @@ use Rattle.inst_reqs.specs.declared.Request.{Request}
 use Rattle.inst_reqs.specs.declared.Latest.{Latest}
 use Rattle.inst_reqs.specs.declared.Latest.the-variants.{Value, Nothing}
 
-pub near : (s′ s : List ℕ) (p : ℕ) → Agrees s′ s p (p + 11) → requestFrom s′ p ≡ requestFrom s p
+pub near : (s′ s : List ℕ) (p : ℕ) → Agrees s′ s p (p + requestRow) → requestFrom s′ p ≡ requestFrom s p
 unfolding requestFrom
 near s′ s p h =
     let a = h p (omega arith) (omega arith) in
@@ -42,13 +43,13 @@ command-back Get = refl
 command-back (Put v) = refl
 
 -- a request that is stored is read back
-read-back : (s : List ℕ) (p : ℕ) (q : Request) → p + 11 ≤ length s → requestFrom (writes s p (requestWords q)) p ≡ requestOf q
+read-back : (s : List ℕ) (p : ℕ) (q : Request) → p + requestRow ≤ length s → requestFrom (writes s p (requestWords q)) p ≡ requestOf q
 unfolding requestFrom
 read-back s p q h =
     let t : List ℕ = writes s p (requestWords q) in
     let s₄ : List ℕ = set (set (set (set s p (q .client)) (p + 1) (q .request)) (p + 1 + 1) (kindOf (q .command))) (p + 1 + 1 + 1) (valueOf (q .command)) in
     let l : length s₄ ≡ length s = simp length-set in
-    let f : (j i : ℕ) → j ≡ p + i → i < 11 → getD t j 0 ≡ getD (requestWords q) i 0 = λ j i e b. rw e (writes-same s p (requestWords q) i h b) in
+    let f : (j i : ℕ) → j ≡ p + i → i < requestRow → getD t j 0 ≡ getD (requestWords q) i 0 = λ j i e b. rw e (writes-same s p (requestWords q) i h b) in
     let a : getD t p 0 ≡ q .client = f p 0 (omega arith) (omega arith) in
     let b : getD t (p + 1) 0 ≡ q .request = f (p + 1) 1 (omega arith) (omega arith) in
     let d : getD t (p + 1 + 1) 0 ≡ kindOf (q .command) = f (p + 1 + 1) 2 (omega arith) (omega arith) in
@@ -56,9 +57,9 @@ read-back s p q h =
     let k : keyAt t (p + 1 + 1 + 1 + 1) ≡ q .key = keyAt-writes s₄ (p + 1 + 1 + 1 + 1) (q .key) (omega (arith, l)) in
     rw (a, b, d, e, k, command-back (q .command))
 
-pub how-many : (s : List ℕ) → length (requestsOf s) ≡ countOf 8 s
+pub how-many : (s : List ℕ) → length (requestsOf s) ≡ countOf requestPlaces s
 unfolding requestsOf
-how-many s = length-counted requestFrom 11 8 s
+how-many s = length-counted requestFrom requestRow requestPlaces s
 
 -- the requests one by one, as many as are counted
 pub requests-are : (s : List ℕ) (n : ℕ) → n ≡ length (requestsOf s) → requestsOf s ≡ tab (requestAt s) 0 n
@@ -66,39 +67,39 @@ unfolding requestsOf
 requests-are s n h = ap (tab (requestAt s) 0) (sym (h ∙ how-many s))
 
 -- in the words of the code: s₁ is what the request's store left, s₂ what the count's did
-module _ (s s₁ s₂ : List ℕ) (n : ℕ) (q : Request) (fits : 89 ≤ length s) (many : n ≡ length (requestsOf s)) (most : n ≤ 8) (room : n ≡ 8 → ⊥)
-    (e₁ : s₁ ≡ writes s (1 + n * 11) (requestWords q)) (e₂ : s₂ ≡ set s₁ 0 (n + 1)) where
+module _ (s s₁ s₂ : List ℕ) (n : ℕ) (q : Request) (fits : batchWords ≤ length s) (many : n ≡ length (requestsOf s)) (most : n ≤ requestPlaces) (room : n ≡ requestPlaces → ⊥)
+    (e₁ : s₁ ≡ writes s (1 + n * requestRow) (requestWords q)) (e₂ : s₂ ≡ set s₁ 0 (n + 1)) where
   pushed : requestsOf s₂ ≡ requestsOf s ++ (requestOf q ∷ [])
   unfolding requestsOf
   pushed =
-      let here : requestFrom s₁ (1 + n * 11) ≡ requestOf q = rw e₁ (read-back s (1 + n * 11) q (omega arith)) in
-      counted-push requestFrom 11 8 near s s₁ s₂ n (requestOf q) (requestWords q) (omega arith) (many ∙ how-many s) (omega arith) refl e₁ here e₂
+      let here : requestFrom s₁ (1 + n * requestRow) ≡ requestOf q = rw e₁ (read-back s (1 + n * requestRow) q (omega arith)) in
+      counted-push requestFrom requestRow requestPlaces near s s₁ s₂ n (requestOf q) (requestWords q) (omega arith) (many ∙ how-many s) (omega arith) refl e₁ here e₂
 
   pub push-yes : Pushes s (requestOf q) true s₂
   push-yes =
       let l : length (requestsOf s ++ (requestOf q ∷ [])) ≡ n + 1 = length-append (requestsOf s) (requestOf q ∷ []) ∙ ap (λ (z : ℕ). z + 1) (sym many) in
       record {
-        outcome = rw (pushed, l, le-leb (n + 1) 8 (omega arith));
+        outcome = rw (pushed, l, le-leb (n + 1) requestPlaces (omega arith));
         refused = λ e. absurd (true≢false e);
-        beyond = λ j h. rw (e₂, getD-set-other s₁ 0 j (n + 1) 0 (omega arith), e₁) (writes-other s (1 + n * 11) (requestWords q) j (inr (omega arith)));
+        beyond = λ j h. rw (e₂, getD-set-other s₁ 0 j (n + 1) 0 (omega arith), e₁) (writes-other s (1 + n * requestRow) (requestWords q) j (inr (omega arith)));
       }
 
-pub push-no : (s : List ℕ) (n : ℕ) (q : machine.Request) → n ≡ length (requestsOf s) → n ≡ 8 → Pushes s q false s
+pub push-no : (s : List ℕ) (n : ℕ) (q : machine.Request) → n ≡ length (requestsOf s) → n ≡ requestPlaces → Pushes s q false s
 push-no s n q many full =
     let l : length (requestsOf s ++ (q ∷ [])) ≡ 9 = length-append (requestsOf s) (q ∷ []) ∙ ap (λ (z : ℕ). z + 1) (sym many ∙ full) in
     record { outcome = rw l; refused = λ e. refl; beyond = λ j h. refl }
 
 -- a push where there is room
-pub pushed-on : (s t : List ℕ) (q : machine.Request) (r : Bool) → Pushes s q r t → length (requestsOf s) < 8 → requestsOf t ≡ requestsOf s ++ (q ∷ [])
-pushed-on s t q r p h = go r (rw (le-leb (length (requestsOf s ++ (q ∷ []))) 8 (rw length-append (omega arith))) at (p .outcome))
+pub pushed-on : (s t : List ℕ) (q : machine.Request) (r : Bool) → Pushes s q r t → length (requestsOf s) < requestPlaces → requestsOf t ≡ requestsOf s ++ (q ∷ [])
+pushed-on s t q r p h = go r (rw (le-leb (length (requestsOf s ++ (q ∷ []))) requestPlaces (rw length-append (omega arith))) at (p .outcome))
   where
     go : (r : Bool) → (if r then some (requestsOf t) else none) ≡ some (requestsOf s ++ (q ∷ [])) → requestsOf t ≡ requestsOf s ++ (q ∷ [])
     go true e = cc
     go false e = cc
 
-pub cleared : (s : List ℕ) → 89 ≤ length s → requestsOf (set s 0 0) ≡ []
+pub cleared : (s : List ℕ) → batchWords ≤ length s → requestsOf (set s 0 0) ≡ []
 unfolding requestsOf
-cleared s h = counted-clear requestFrom 11 8 s (omega arith)
+cleared s h = counted-clear requestFrom requestRow requestPlaces s (omega arith)
 
 -- ---- the command at a kind and a value
 
@@ -114,18 +115,18 @@ abbrev PutAt : List ℕ → ℕ → Key → Option ℕ
 PutAt s i key = putOf (bytesOf key) (requestAt s i) (requestAt s i .command)
 
 module _ (s : List ℕ) (i : ℕ) (key : Key) where
-  pub put-other : (getD s (1 + i * 11 + 1 + 1) 0 ≡ 1 → ⊥) → none ≡ PutAt s i key
+  pub put-other : (getD s (1 + i * requestRow + 1 + 1) 0 ≡ 1 → ⊥) → none ≡ PutAt s i key
   unfolding requestFrom
-  put-other h = rw (ne-eqb (getD s (1 + i * 11 + 1 + 1) 0) 1 h)
+  put-other h = rw (ne-eqb (getD s (1 + i * requestRow + 1 + 1) 0) 1 h)
 
-  module _ (h : getD s (1 + i * 11 + 1 + 1) 0 ≡ 1) (k : Key) (t : Bool) (e : k ≡ keyAt s (1 + i * 11 + 1 + 1 + 1 + 1)) (q : t ≡ sameBytes (bytesOf k) (bytesOf key)) where
-    pub put-here : t ≡ true → some (getD s (1 + i * 11 + 1 + 1 + 1) 0) ≡ PutAt s i key
+  module _ (h : getD s (1 + i * requestRow + 1 + 1) 0 ≡ 1) (k : Key) (t : Bool) (e : k ≡ keyAt s (1 + i * requestRow + 1 + 1 + 1 + 1)) (q : t ≡ sameBytes (bytesOf k) (bytesOf key)) where
+    pub put-here : t ≡ true → some (getD s (1 + i * requestRow + 1 + 1 + 1) 0) ≡ PutAt s i key
     unfolding requestFrom
-    put-here y = rw (eq-eqb (getD s (1 + i * 11 + 1 + 1) 0) 1 h, ← e, ← q, y)
+    put-here y = rw (eq-eqb (getD s (1 + i * requestRow + 1 + 1) 0) 1 h, ← e, ← q, y)
 
     pub put-away : t ≡ false → none ≡ PutAt s i key
     unfolding requestFrom
-    put-away y = rw (eq-eqb (getD s (1 + i * 11 + 1 + 1) 0) 1 h, ← e, ← q, y)
+    put-away y = rw (eq-eqb (getD s (1 + i * requestRow + 1 + 1) 0) 1 h, ← e, ← q, y)
 
 -- ---- the last Put, from the end
 

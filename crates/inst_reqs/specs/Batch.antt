@@ -9,7 +9,7 @@ use lib.ListN.{length, getD}
 use Rattle.words.specs.Choice.{if_then_else_}
 use Rattle.words.specs.Counted.{counted}
 use Rattle.key_words.specs.Key.{keyAt, wordsOf, bytesOf}
-use Rattle.ids.specs.Limits.{batch}
+use Rattle.layout.specs.Layout.{requestPlaces, requestRow, batchWords}
 use Rattle.bodega.specs.Replica as machine
 use Rattle.inst_reqs.specs.declared.Command.{Command}
 use Rattle.inst_reqs.specs.declared.Command.the-variants.{Get, Put}
@@ -50,21 +50,21 @@ requestFrom s p = record {
 }
 
 abbrev pub requestAt : List ℕ → ℕ → machine.Request
-requestAt s i = requestFrom s (1 + i * 11)
+requestAt s i = requestFrom s (1 + i * requestRow)
 
 -- the requests, on any words
 unfoldable pub requestsOf : List ℕ → List machine.Request
-requestsOf s = counted requestFrom 11 batch s
+requestsOf s = counted requestFrom requestRow requestPlaces s
 
 abbrev pub valueIn : Latest → Option ℕ
 valueIn (Value v) = some v
 valueIn Nothing = none
 
 abbrev pub capped : List machine.Request → Option (List machine.Request)
-capped l = if leb (length l) batch then some l else none
+capped l = if leb (length l) requestPlaces then some l else none
 
 -- what a push of q onto the words s comes to: the answer, and the words t
 pub record Pushes (s : List ℕ) (q : machine.Request) (r : Bool) (t : List ℕ) : Type 0 where
   pub outcome : (if r then some (requestsOf t) else none) ≡ capped (requestsOf s ++ (q ∷ []))
   pub refused : r ≡ false → t ≡ s
-  pub beyond : (j : ℕ) → 89 ≤ j → getD t j 0 ≡ getD s j 0
+  pub beyond : (j : ℕ) → batchWords ≤ j → getD t j 0 ≡ getD s j 0

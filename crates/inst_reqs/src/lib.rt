@@ -1,4 +1,4 @@
-// The batch of a slot, in 89 lent words: how many requests, and then eight of eleven words: client, request, kind, value, key. A kind of 1 is a Put.
+// The batch of a slot, in lent words: how many requests, and then rows of client, request, kind, value, key. A kind of 1 is a Put.
 use key_words::Key;
 use key_words::get_key;
 use key_words::put_key;
@@ -8,12 +8,13 @@ ghost use Prim.Native.Nat.{_+_, _*_, _<_, _≤_};
 ghost use lib.ListN.{length, set};
 ghost use Rattle.words.specs.Tab.{tab};
 ghost use Rattle.words.specs.Writes.{writes};
+ghost use Rattle.layout.specs.Layout.{requestPlaces, requestRow, batchWords};
 ghost use Rattle.key_words.specs.Key.{bytesOf};
 ghost use Rattle.bodega.specs.Localread.{lastPut, putOf};
 ghost use Rattle.inst_reqs.specs.Batch.{commandOf, commandAt, kindOf, valueOf, requestOf, requestAt, requestsOf, requestWords, valueIn, Pushes};
 
 // Requests of a batch at most.
-pub const BATCH: usize = 8;
+pub const BATCH: usize = layout::REQUEST_PLACES;
 
 pub enum Command {
     Get,
@@ -34,8 +35,8 @@ pub enum Latest {
 }
 
 pub fn count(s: &[u64]) -> usize
-    requires { ⌜ 89 ≤ length (now s) ⌝ }
-    ensures { λ r. ⌜ (r ≡ length (requestsOf (now (s .entry)))) × (r ≤ 8) ⌝ }
+    requires { ⌜ batchWords ≤ length (now s) ⌝ }
+    ensures { λ r. ⌜ (r ≡ length (requestsOf (now (s .entry)))) × (r ≤ requestPlaces) ⌝ }
 {
     let n = s[0];
     if n <= BATCH as u64 { n as usize } else { BATCH }
@@ -70,10 +71,10 @@ pub fn command_at(kind: u64, value: u64) -> Command
 
 // The i-th request.
 pub fn get(s: &[u64], i: usize) -> Request
-    requires { ⌜ (i < 8) × (89 ≤ length (now s)) ⌝ }
+    requires { ⌜ (i < requestPlaces) × (batchWords ≤ length (now s)) ⌝ }
     ensures { λ r. ⌜ requestOf r ≡ requestAt (now (s .entry)) i ⌝ }
 {
-    let p = 1 + i * 11;
+    let p = 1 + i * layout::REQUEST_ROW;
     let p1 = p + 1;
     let p2 = p1 + 1;
     let p3 = p2 + 1;
@@ -89,10 +90,10 @@ pub fn get(s: &[u64], i: usize) -> Request
 }
 
 fn put(s: &mut [u64], i: usize, q: Request)
-    requires { ⌜ (i < 8) × (89 ≤ length (now s)) ⌝ }
-    ensures { λ _. ⌜ now (s .exit) ≡ writes (now (s .entry)) (1 + i * 11) (requestWords q) ⌝ }
+    requires { ⌜ (i < requestPlaces) × (batchWords ≤ length (now s)) ⌝ }
+    ensures { λ _. ⌜ now (s .exit) ≡ writes (now (s .entry)) (1 + i * requestRow) (requestWords q) ⌝ }
 {
-    let p = 1 + i * 11;
+    let p = 1 + i * layout::REQUEST_ROW;
     let p1 = p + 1;
     let p2 = p1 + 1;
     let p3 = p2 + 1;
@@ -110,7 +111,7 @@ fn put(s: &mut [u64], i: usize, q: Request)
 
 // A request after the others; false, and nothing changed, where there are eight.
 pub fn push(s: &mut [u64], q: Request) -> bool
-    requires { ⌜ 89 ≤ length (now s) ⌝ }
+    requires { ⌜ batchWords ≤ length (now s) ⌝ }
     ensures { λ r. ⌜ Pushes (now (s .entry)) (requestOf q) r (now (s .exit)) ⌝ }
 {
     let n = count(s);
@@ -123,7 +124,7 @@ pub fn push(s: &mut [u64], q: Request) -> bool
 }
 
 pub fn clear(s: &mut [u64])
-    requires { ⌜ 89 ≤ length (now s) ⌝ }
+    requires { ⌜ batchWords ≤ length (now s) ⌝ }
     ensures { λ _. ⌜ (requestsOf (now (s .exit)) ≡ []) × (now (s .exit) ≡ set (now (s .entry)) 0 0) ⌝ }
 {
     s[0] = 0;
@@ -131,10 +132,10 @@ pub fn clear(s: &mut [u64])
 
 // The value that the i-th request puts at a key.
 fn put_at(s: &[u64], i: usize, key: Key) -> Latest
-    requires { ⌜ (i < 8) × (89 ≤ length (now s)) ⌝ }
+    requires { ⌜ (i < requestPlaces) × (batchWords ≤ length (now s)) ⌝ }
     ensures { λ r. ⌜ valueIn r ≡ putOf (bytesOf key) (requestAt (now (s .entry)) i) (requestAt (now (s .entry)) i .command) ⌝ }
 {
-    let p = 1 + i * 11;
+    let p = 1 + i * layout::REQUEST_ROW;
     let p1 = p + 1;
     let p2 = p1 + 1;
     let p3 = p2 + 1;
@@ -150,7 +151,7 @@ fn put_at(s: &[u64], i: usize, key: Key) -> Latest
 
 // The value of the last Put of a key among the first n requests.
 pub fn last_put_among(s: &[u64], n: usize, key: Key) -> Latest
-    requires { ⌜ (n ≤ 8) × (89 ≤ length (now s)) ⌝ }
+    requires { ⌜ (n ≤ requestPlaces) × (batchWords ≤ length (now s)) ⌝ }
     ensures { λ r. ⌜ valueIn r ≡ lastPut (bytesOf key) (tab (requestAt (now (s .entry))) 0 n) ⌝ }
 {
     let mut i = n;
@@ -169,7 +170,7 @@ pub fn last_put_among(s: &[u64], n: usize, key: Key) -> Latest
 
 // The value of the last Put of a key.
 pub fn last_put(s: &[u64], key: Key) -> Latest
-    requires { ⌜ 89 ≤ length (now s) ⌝ }
+    requires { ⌜ batchWords ≤ length (now s) ⌝ }
     ensures { λ r. ⌜ valueIn r ≡ lastPut (bytesOf key) (requestsOf (now (s .entry))) ⌝ }
 {
     let n = count(s);

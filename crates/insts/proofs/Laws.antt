@@ -17,6 +17,7 @@ use Rattle.words.specs.Choice.{if_then_else_, ifNone_then_else_}
 use Rattle.words.specs.Tab.{tab, tab-ext, tab-set, tab-snoc, tab-shift, drop-tab, take-tab, elem-tab, elem-past, length-tab}
 use Rattle.words.specs.Part.{part, splice, part-here, part-before, part-after, length-splice, length-part, getD-splice, part-set-below}
 use Rattle.words.specs.Writes.{writes, length-writes, part-writes, writes-all}
+use Rattle.layout.specs.Layout.{cellRow, slotPlaces, heldPlaces, batchWords, heldWords, batchesFrom, readsFrom, slotWords}
 use Rattle.bodega.specs.Replica as machine
 use Rattle.bodega.specs.Localread.{lastPut}
 use Rattle.bodega.specs.Grounds.{any, holds}
@@ -24,7 +25,7 @@ use Rattle.inst_cell.specs.Cell.{Notices, Short, cellAt, cellWords, withStatus,
 use Rattle.inst_cell.proofs.Laws.{cell-same, cell-other, cell-near, status-same, status-other}
 use Rattle.inst_reqs.specs.Batch.{requestsOf}
 use Rattle.inst_holding.specs.Held.{readsOf, capped, Pushes}
-use Rattle.insts.specs.Slots.{slotWords, shortAt, batchAt, readsAt, instOf, instIn, instsOf, nullShort, SamePlace, Puts, bookOf}
+use Rattle.insts.specs.Slots.{shortAt, batchAt, readsAt, instOf, instIn, instsOf, nullShort, SamePlace, Puts, bookOf}
 
 -- how long a part is that is lent from a to a + k
 pub width : (a k : ℕ) → a + k - a ≡ k
@@ -32,89 +33,89 @@ width a k = omega arith
 
 -- ---- one of the three is stored
 
-module _ (s : List ℕ) (c : ℕ) (h : slotWords ≤ length s) (b : c < 32) where
-  pub puts-short : (x : Short) → Puts s c x (batchAt s c) (readsAt s c) (writes s (c * 8) (cellWords x))
+module _ (s : List ℕ) (c : ℕ) (h : slotWords ≤ length s) (b : c < slotPlaces) where
+  pub puts-short : (x : Short) → Puts s c x (batchAt s c) (readsAt s c) (writes s (c * cellRow) (cellWords x))
   unfolding shortAt batchAt readsAt
   puts-short x =
       record {
         short = cell-same s c x (omega arith);
-        batch = ap requestsOf (part-writes s (c * 8) (cellWords x) (256 + c * 89) 89 (omega arith));
-        held = ap readsOf (part-writes s (c * 8) (cellWords x) (3104 + c * 145) 145 (omega arith));
+        batch = ap requestsOf (part-writes s (c * cellRow) (cellWords x) (batchesFrom + c * batchWords) batchWords (omega arith));
+        held = ap readsOf (part-writes s (c * cellRow) (cellWords x) (readsFrom + c * heldWords) heldWords (omega arith));
         others = λ d l n. record {
           short = cell-other s c x (omega arith) d n;
-          batch = ap requestsOf (part-writes s (c * 8) (cellWords x) (256 + d * 89) 89 (omega arith));
-          reads = ap readsOf (part-writes s (c * 8) (cellWords x) (3104 + d * 145) 145 (omega arith));
+          batch = ap requestsOf (part-writes s (c * cellRow) (cellWords x) (batchesFrom + d * batchWords) batchWords (omega arith));
+          reads = ap readsOf (part-writes s (c * cellRow) (cellWords x) (readsFrom + d * heldWords) heldWords (omega arith));
         };
-        size = length-writes s (c * 8) (cellWords x);
+        size = length-writes s (c * cellRow) (cellWords x);
       }
 
-  pub puts-status : (st : machine.Status) → Puts s c (withStatus st (shortAt s c)) (batchAt s c) (readsAt s c) (set s (c * 8 + 1) (machine.order st))
+  pub puts-status : (st : machine.Status) → Puts s c (withStatus st (shortAt s c)) (batchAt s c) (readsAt s c) (set s (c * cellRow + 1) (machine.order st))
   unfolding shortAt batchAt readsAt
   puts-status st =
       record {
         short = status-same s c st (omega arith);
-        batch = ap requestsOf (part-set-below s (256 + c * 89) 89 (machine.order st) (c * 8 + 1) (omega arith));
-        held = ap readsOf (part-set-below s (3104 + c * 145) 145 (machine.order st) (c * 8 + 1) (omega arith));
+        batch = ap requestsOf (part-set-below s (batchesFrom + c * batchWords) batchWords (machine.order st) (c * cellRow + 1) (omega arith));
+        held = ap readsOf (part-set-below s (readsFrom + c * heldWords) heldWords (machine.order st) (c * cellRow + 1) (omega arith));
         others = λ d l n. record {
           short = status-other s c st (omega arith) d n;
-          batch = ap requestsOf (part-set-below s (256 + d * 89) 89 (machine.order st) (c * 8 + 1) (omega arith));
-          reads = ap readsOf (part-set-below s (3104 + d * 145) 145 (machine.order st) (c * 8 + 1) (omega arith));
+          batch = ap requestsOf (part-set-below s (batchesFrom + d * batchWords) batchWords (machine.order st) (c * cellRow + 1) (omega arith));
+          reads = ap readsOf (part-set-below s (readsFrom + d * heldWords) heldWords (machine.order st) (c * cellRow + 1) (omega arith));
         };
-        size = length-set s (c * 8 + 1) (machine.order st);
+        size = length-set s (c * cellRow + 1) (machine.order st);
       }
 
   module _ (n : ℕ) (w : List ℕ) where
-    low : (a d : ℕ) → a ≤ length s → d < 32 → 256 ≤ a → cellAt (splice s a n w) (d * 8) ≡ cellAt s (d * 8)
-    low a d f g k = cell-near (splice s a n w) s (d * 8) (λ j x y. getD-splice s a n w j f (omega arith))
+    low : (a d : ℕ) → a ≤ length s → d < slotPlaces → batchesFrom ≤ a → cellAt (splice s a n w) (d * cellRow) ≡ cellAt s (d * cellRow)
+    low a d f g k = cell-near (splice s a n w) s (d * cellRow) (λ j x y. getD-splice s a n w j f (omega arith))
 
-    module _ (k : n ≡ 89) (l : length w ≡ 89) where
-      fits : 256 + c * 89 + n ≤ length s
+    module _ (k : n ≡ batchWords) (l : length w ≡ batchWords) where
+      fits : batchesFrom + c * batchWords + n ≤ length s
       fits = omega arith
 
-      other-batch : (d : ℕ) → d ≢ c → part (splice s (256 + c * 89) n w) (256 + d * 89) 89 ≡ part s (256 + d * 89) 89
+      other-batch : (d : ℕ) → d ≢ c → part (splice s (batchesFrom + c * batchWords) n w) (batchesFrom + d * batchWords) batchWords ≡ part s (batchesFrom + d * batchWords) batchWords
       other-batch d f = elim (decLt d c) [
-        | yes g ↦ part-before s (256 + c * 89) n w fits (l ∙ sym k) (256 + d * 89) 89 (omega arith)
-        | no g ↦ part-after s (256 + c * 89) n w fits (l ∙ sym k) (256 + d * 89) 89 (let m : c < d = omega arith in omega arith)
+        | yes g ↦ part-before s (batchesFrom + c * batchWords) n w fits (l ∙ sym k) (batchesFrom + d * batchWords) batchWords (omega arith)
+        | no g ↦ part-after s (batchesFrom + c * batchWords) n w fits (l ∙ sym k) (batchesFrom + d * batchWords) batchWords (let m : c < d = omega arith in omega arith)
       ]
 
-      pub puts-batch : (reqs : List machine.Request) → requestsOf w ≡ reqs → Puts s c (shortAt s c) reqs (readsAt s c) (splice s (256 + c * 89) n w)
+      pub puts-batch : (reqs : List machine.Request) → requestsOf w ≡ reqs → Puts s c (shortAt s c) reqs (readsAt s c) (splice s (batchesFrom + c * batchWords) n w)
       unfolding shortAt batchAt readsAt
       puts-batch reqs q =
           record {
-            short = low (256 + c * 89) c (omega arith) b (omega arith);
-            batch = ap requestsOf (ap (λ (m : ℕ). part (splice s (256 + c * 89) n w) (256 + c * 89) m) (sym k) ∙ part-here s (256 + c * 89) n w fits (l ∙ sym k)) ∙ q;
-            held = ap readsOf (part-after s (256 + c * 89) n w fits (l ∙ sym k) (3104 + c * 145) 145 (omega arith));
+            short = low (batchesFrom + c * batchWords) c (omega arith) b (omega arith);
+            batch = ap requestsOf (ap (λ (m : ℕ). part (splice s (batchesFrom + c * batchWords) n w) (batchesFrom + c * batchWords) m) (sym k) ∙ part-here s (batchesFrom + c * batchWords) n w fits (l ∙ sym k)) ∙ q;
+            held = ap readsOf (part-after s (batchesFrom + c * batchWords) n w fits (l ∙ sym k) (readsFrom + c * heldWords) heldWords (omega arith));
             others = λ d g f. record {
-              short = low (256 + c * 89) d (omega arith) g (omega arith);
+              short = low (batchesFrom + c * batchWords) d (omega arith) g (omega arith);
               batch = ap requestsOf (other-batch d f);
-              reads = ap readsOf (part-after s (256 + c * 89) n w fits (l ∙ sym k) (3104 + d * 145) 145 (omega arith));
+              reads = ap readsOf (part-after s (batchesFrom + c * batchWords) n w fits (l ∙ sym k) (readsFrom + d * heldWords) heldWords (omega arith));
             };
-            size = length-splice s (256 + c * 89) n w fits (l ∙ sym k);
+            size = length-splice s (batchesFrom + c * batchWords) n w fits (l ∙ sym k);
           }
 
-    module _ (k : n ≡ 145) (l : length w ≡ 145) where
-      room : 3104 + c * 145 + n ≤ length s
+    module _ (k : n ≡ heldWords) (l : length w ≡ heldWords) where
+      room : readsFrom + c * heldWords + n ≤ length s
       room = omega arith
 
-      other-reads : (d : ℕ) → d ≢ c → part (splice s (3104 + c * 145) n w) (3104 + d * 145) 145 ≡ part s (3104 + d * 145) 145
+      other-reads : (d : ℕ) → d ≢ c → part (splice s (readsFrom + c * heldWords) n w) (readsFrom + d * heldWords) heldWords ≡ part s (readsFrom + d * heldWords) heldWords
       other-reads d f = elim (decLt d c) [
-        | yes g ↦ part-before s (3104 + c * 145) n w room (l ∙ sym k) (3104 + d * 145) 145 (omega arith)
-        | no g ↦ part-after s (3104 + c * 145) n w room (l ∙ sym k) (3104 + d * 145) 145 (let m : c < d = omega arith in omega arith)
+        | yes g ↦ part-before s (readsFrom + c * heldWords) n w room (l ∙ sym k) (readsFrom + d * heldWords) heldWords (omega arith)
+        | no g ↦ part-after s (readsFrom + c * heldWords) n w room (l ∙ sym k) (readsFrom + d * heldWords) heldWords (let m : c < d = omega arith in omega arith)
       ]
 
-      pub puts-reads : (reads : List machine.ReadReq) → readsOf w ≡ reads → Puts s c (shortAt s c) (batchAt s c) reads (splice s (3104 + c * 145) n w)
+      pub puts-reads : (reads : List machine.ReadReq) → readsOf w ≡ reads → Puts s c (shortAt s c) (batchAt s c) reads (splice s (readsFrom + c * heldWords) n w)
       unfolding shortAt batchAt readsAt
       puts-reads reads q =
           record {
-            short = low (3104 + c * 145) c (omega arith) b (omega arith);
-            batch = ap requestsOf (part-before s (3104 + c * 145) n w room (l ∙ sym k) (256 + c * 89) 89 (omega arith));
-            held = ap readsOf (ap (λ (m : ℕ). part (splice s (3104 + c * 145) n w) (3104 + c * 145) m) (sym k) ∙ part-here s (3104 + c * 145) n w room (l ∙ sym k)) ∙ q;
+            short = low (readsFrom + c * heldWords) c (omega arith) b (omega arith);
+            batch = ap requestsOf (part-before s (readsFrom + c * heldWords) n w room (l ∙ sym k) (batchesFrom + c * batchWords) batchWords (omega arith));
+            held = ap readsOf (ap (λ (m : ℕ). part (splice s (readsFrom + c * heldWords) n w) (readsFrom + c * heldWords) m) (sym k) ∙ part-here s (readsFrom + c * heldWords) n w room (l ∙ sym k)) ∙ q;
             others = λ d g f. record {
-              short = low (3104 + c * 145) d (omega arith) g (omega arith);
-              batch = ap requestsOf (part-before s (3104 + c * 145) n w room (l ∙ sym k) (256 + d * 89) 89 (omega arith));
+              short = low (readsFrom + c * heldWords) d (omega arith) g (omega arith);
+              batch = ap requestsOf (part-before s (readsFrom + c * heldWords) n w room (l ∙ sym k) (batchesFrom + d * batchWords) batchWords (omega arith));
               reads = ap readsOf (other-reads d f);
             };
-            size = length-splice s (3104 + c * 145) n w room (l ∙ sym k);
+            size = length-splice s (readsFrom + c * heldWords) n w room (l ∙ sym k);
           }
 
   -- ---- as the code does it
@@ -124,50 +125,50 @@ module _ (s : List ℕ) (c : ℕ) (h : slotWords ≤ length s) (b : c < 32) wher
   lent a n f = length-part s a n f
 
   module _ (n : ℕ) (w : List ℕ) where
-    pub batch-copied : (words : List ℕ) → n ≡ 89 → length words ≡ 89 → w ≡ writes (take n (drop (256 + c * 89) s)) 0 (take 89 words)
-        → Puts s c (shortAt s c) (requestsOf words) (readsAt s c) (splice s (256 + c * 89) n w)
+    pub batch-copied : (words : List ℕ) → n ≡ batchWords → length words ≡ batchWords → w ≡ writes (take n (drop (batchesFrom + c * batchWords) s)) 0 (take batchWords words)
+        → Puts s c (shortAt s c) (requestsOf words) (readsAt s c) (splice s (batchesFrom + c * batchWords) n w)
     batch-copied words k l e =
-        let f : length (take n (drop (256 + c * 89) s)) ≡ 89 = lent (256 + c * 89) n (omega arith) ∙ k in
-        let g : take 89 words ≡ words = ap (λ (m : ℕ). take m words) (sym l) ∙ take-length words in
-        let q : w ≡ words = e ∙ ap (writes (take n (drop (256 + c * 89) s)) 0) g ∙ writes-all (take n (drop (256 + c * 89) s)) words (f ∙ sym l) in
+        let f : length (take n (drop (batchesFrom + c * batchWords) s)) ≡ batchWords = lent (batchesFrom + c * batchWords) n (omega arith) ∙ k in
+        let g : take batchWords words ≡ words = ap (λ (m : ℕ). take m words) (sym l) ∙ take-length words in
+        let q : w ≡ words = e ∙ ap (writes (take n (drop (batchesFrom + c * batchWords) s)) 0) g ∙ writes-all (take n (drop (batchesFrom + c * batchWords) s)) words (f ∙ sym l) in
         puts-batch n w k (ap length q ∙ l) (requestsOf words) (ap requestsOf q)
 
-    pub batch-cleared : n ≡ 89 → (requestsOf w ≡ []) × (w ≡ set (take n (drop (256 + c * 89) s)) 0 0) → Puts s c (shortAt s c) [] (readsAt s c) (splice s (256 + c * 89) n w)
+    pub batch-cleared : n ≡ batchWords → (requestsOf w ≡ []) × (w ≡ set (take n (drop (batchesFrom + c * batchWords) s)) 0 0) → Puts s c (shortAt s c) [] (readsAt s c) (splice s (batchesFrom + c * batchWords) n w)
     batch-cleared k e =
-        puts-batch n w k (ap length (e .1) ∙ length-set (take n (drop (256 + c * 89) s)) 0 0 ∙ lent (256 + c * 89) n (omega arith) ∙ k) [] (e .0)
+        puts-batch n w k (ap length (e .1) ∙ length-set (take n (drop (batchesFrom + c * batchWords) s)) 0 0 ∙ lent (batchesFrom + c * batchWords) n (omega arith) ∙ k) [] (e .0)
 
-    pub reads-cleared : n ≡ 145 → (readsOf w ≡ []) × (w ≡ set (take n (drop (3104 + c * 145) s)) 0 0) → Puts s c (shortAt s c) (batchAt s c) [] (splice s (3104 + c * 145) n w)
+    pub reads-cleared : n ≡ heldWords → (readsOf w ≡ []) × (w ≡ set (take n (drop (readsFrom + c * heldWords) s)) 0 0) → Puts s c (shortAt s c) (batchAt s c) [] (splice s (readsFrom + c * heldWords) n w)
     reads-cleared k e =
-        puts-reads n w k (ap length (e .1) ∙ length-set (take n (drop (3104 + c * 145) s)) 0 0 ∙ lent (3104 + c * 145) n (omega arith) ∙ k) [] (e .0)
+        puts-reads n w k (ap length (e .1) ∙ length-set (take n (drop (readsFrom + c * heldWords) s)) 0 0 ∙ lent (readsFrom + c * heldWords) n (omega arith) ∙ k) [] (e .0)
 
 -- a push that has room
 kept-all : (r : Bool) (a b : List machine.ReadReq) → (if r then some a else none) ≡ some b → a ≡ b
 kept-all true a b e = cc
 kept-all false a b e = cc
 
-module _ (s : List ℕ) (c : ℕ) (h : slotWords ≤ length s) (b : c < 32) (n : ℕ) (k : n ≡ 145) where
-  lent-reads : take n (drop (3104 + c * 145) s) ≡ part s (3104 + c * 145) 145
+module _ (s : List ℕ) (c : ℕ) (h : slotWords ≤ length s) (b : c < slotPlaces) (n : ℕ) (k : n ≡ heldWords) where
+  lent-reads : take n (drop (readsFrom + c * heldWords) s) ≡ part s (readsFrom + c * heldWords) heldWords
   unfolding part
-  lent-reads = ap (λ (j : ℕ). take j (drop (3104 + c * 145) s)) k
+  lent-reads = ap (λ (j : ℕ). take j (drop (readsFrom + c * heldWords) s)) k
 
-  pub reads-counted : (r : ℕ) → (r ≡ length (readsOf (take n (drop (3104 + c * 145) s)))) × (r ≤ 16) → (r ≡ length (readsAt s c)) × (r ≤ 16)
+  pub reads-counted : (r : ℕ) → (r ≡ length (readsOf (take n (drop (readsFrom + c * heldWords) s)))) × (r ≤ heldPlaces) → (r ≡ length (readsAt s c)) × (r ≤ heldPlaces)
   unfolding readsAt
   reads-counted r e = (e .0 ∙ ap (λ (l : List ℕ). length (readsOf l)) lent-reads, e .1)
 
-  pub read-pushed : (w : List ℕ) (x : machine.ReadReq) (r : Bool) → length w ≡ length (take n (drop (3104 + c * 145) s)) → length (readsAt s c) < 16
-      → Pushes (take n (drop (3104 + c * 145) s)) x r w → Puts s c (shortAt s c) (batchAt s c) (readsAt s c ++ (x ∷ [])) (splice s (3104 + c * 145) n w)
+  pub read-pushed : (w : List ℕ) (x : machine.ReadReq) (r : Bool) → length w ≡ length (take n (drop (readsFrom + c * heldWords) s)) → length (readsAt s c) < heldPlaces
+      → Pushes (take n (drop (readsFrom + c * heldWords) s)) x r w → Puts s c (shortAt s c) (batchAt s c) (readsAt s c ++ (x ∷ [])) (splice s (readsFrom + c * heldWords) n w)
   unfolding readsAt
   read-pushed w x r l f p =
-      let e : length (readsOf (part s (3104 + c * 145) 145) ++ (x ∷ [])) ≤ 16 = simp length-append (omega arith) in
-      let q : (if r then some (readsOf w) else none) ≡ some (readsOf (part s (3104 + c * 145) 145) ++ (x ∷ [])) =
+      let e : length (readsOf (part s (readsFrom + c * heldWords) heldWords) ++ (x ∷ [])) ≤ heldPlaces = simp length-append (omega arith) in
+      let q : (if r then some (readsOf w) else none) ≡ some (readsOf (part s (readsFrom + c * heldWords) heldWords) ++ (x ∷ [])) =
       p .outcome ∙ ap (λ (y : List ℕ). capped (readsOf y ++ (x ∷ []))) lent-reads
-      ∙ rw (le-leb (length (readsOf (part s (3104 + c * 145) 145) ++ (x ∷ []))) 16 e) in
-      puts-reads s c h b n w k (l ∙ lent s c h b (3104 + c * 145) n (omega arith) ∙ k) (readsAt s c ++ (x ∷ []))
-      (kept-all r (readsOf w) (readsOf (part s (3104 + c * 145) 145) ++ (x ∷ [])) q)
+      ∙ rw (le-leb (length (readsOf (part s (readsFrom + c * heldWords) heldWords) ++ (x ∷ []))) heldPlaces e) in
+      puts-reads s c h b n w k (l ∙ lent s c h b (readsFrom + c * heldWords) n (omega arith) ∙ k) (readsAt s c ++ (x ∷ []))
+      (kept-all r (readsOf w) (readsOf (part s (readsFrom + c * heldWords) heldWords) ++ (x ∷ [])) q)
 
-pub last-put-at : (s : List ℕ) (c n : ℕ) (key : List ℕ) (o : Option ℕ) → n ≡ 89 → o ≡ lastPut key (requestsOf (take n (drop (256 + c * 89) s))) → o ≡ lastPut key (batchAt s c)
+pub last-put-at : (s : List ℕ) (c n : ℕ) (key : List ℕ) (o : Option ℕ) → n ≡ batchWords → o ≡ lastPut key (requestsOf (take n (drop (batchesFrom + c * batchWords) s))) → o ≡ lastPut key (batchAt s c)
 unfolding batchAt part
-last-put-at s c n key o k e = e ∙ ap (λ (j : ℕ). lastPut key (requestsOf (take j (drop (256 + c * 89) s)))) k
+last-put-at s c n key o k e = e ∙ ap (λ (j : ℕ). lastPut key (requestsOf (take j (drop (batchesFrom + c * batchWords) s)))) k
 
 -- ---- one change after another
 
@@ -207,50 +208,50 @@ there-is p = rw (p .short, p .batch, p .reads)
 
 pub length-insts : (start n : ℕ) (s : List ℕ) → length (instsOf start n s) ≡ n
 unfolding instsOf
-length-insts start n s = length-tab (λ i. instIn s ((start + i) % 32)) 0 n
+length-insts start n s = length-tab (λ i. instIn s ((start + i) % slotPlaces)) 0 n
 
 -- two of 32 slots in a row have different places
-pub apart : (start i j : ℕ) → i < 32 → j < 32 → i ≢ j → (start + i) % 32 ≢ (start + j) % 32
+pub apart : (start i j : ℕ) → i < slotPlaces → j < slotPlaces → i ≢ j → (start + i) % slotPlaces ≢ (start + j) % slotPlaces
 apart start i j a b n e = omega arith
 
-pub place : (a : ℕ) → a % 32 < 32
+pub place : (a : ℕ) → a % slotPlaces < slotPlaces
 place a = omega arith
 
-module _ {s t : List ℕ} {x : Short} {a : List machine.Request} {l : List machine.ReadReq} (start n k : ℕ) (p : Puts s ((start + k) % 32) x a l t) where
-  pub moved : k < n → n ≤ 32 → instsOf start n t ≡ set (instsOf start n s) k (instOf x a l)
+module _ {s t : List ℕ} {x : Short} {a : List machine.Request} {l : List machine.ReadReq} (start n k : ℕ) (p : Puts s ((start + k) % slotPlaces) x a l t) where
+  pub moved : k < n → n ≤ slotPlaces → instsOf start n t ≡ set (instsOf start n s) k (instOf x a l)
   unfolding instsOf
   moved h g =
-      tab-set (λ i. instIn s ((start + i) % 32)) (λ i. instIn t ((start + i) % 32)) 0 n k (instOf x a l) h (rw (zero-add k) (here-is p))
-      (λ j y z f. there-is (p .others ((start + j) % 32) (place (start + j)) (apart start j k (omega arith) (omega arith) (omega arith))))
+      tab-set (λ i. instIn s ((start + i) % slotPlaces)) (λ i. instIn t ((start + i) % slotPlaces)) 0 n k (instOf x a l) h (rw (zero-add k) (here-is p))
+      (λ j y z f. there-is (p .others ((start + j) % slotPlaces) (place (start + j)) (apart start j k (omega arith) (omega arith) (omega arith))))
 
-  pub untouched : n ≤ k → k < 32 → instsOf start n t ≡ instsOf start n s
+  pub untouched : n ≤ k → k < slotPlaces → instsOf start n t ≡ instsOf start n s
   unfolding instsOf
   untouched h g =
-      tab-ext (λ i. instIn t ((start + i) % 32)) (λ i. instIn s ((start + i) % 32)) 0 n
-      (λ j y z. there-is (p .others ((start + j) % 32) (place (start + j)) (apart start j k (omega arith) (omega arith) (omega arith))))
+      tab-ext (λ i. instIn t ((start + i) % slotPlaces)) (λ i. instIn s ((start + i) % slotPlaces)) 0 n
+      (λ j y z. there-is (p .others ((start + j) % slotPlaces) (place (start + j)) (apart start j k (omega arith) (omega arith) (omega arith))))
 
-pub appended : {s t : List ℕ} {x : Short} {a : List machine.Request} {l : List machine.ReadReq} (start n : ℕ) → Puts s ((start + n) % 32) x a l t → n < 32
+pub appended : {s t : List ℕ} {x : Short} {a : List machine.Request} {l : List machine.ReadReq} (start n : ℕ) → Puts s ((start + n) % slotPlaces) x a l t → n < slotPlaces
     → instsOf start (n + 1) t ≡ instsOf start n s ++ (instOf x a l ∷ [])
 unfolding instsOf
 appended {s = s} {t = t} {x = x} {a = a} {l = l} start n p h =
-    tab-snoc (λ i. instIn t ((start + i) % 32)) 0 n
+    tab-snoc (λ i. instIn t ((start + i) % slotPlaces)) 0 n
     ∙ rw (zero-add n, here-is p) (ap (λ (z : List machine.Instance). z ++ (instOf x a l ∷ [])) (untouched start n n p (omega arith) h))
 
 pub dropped : (start n d : ℕ) (s : List ℕ) → d ≤ n → instsOf (start + d) (n - d) s ≡ drop d (instsOf start n s)
 unfolding instsOf
 dropped start n d s h =
-    tab-shift (λ i. instIn s ((start + d + i) % 32)) (λ i. instIn s ((start + i) % 32)) 0 (0 + d) (n - d)
-    (λ k l. let e : start + d + (0 + k) ≡ start + (0 + d + k) = omega arith in ap (λ (j : ℕ). instIn s (j % 32)) e)
-    ∙ sym (drop-tab (λ i. instIn s ((start + i) % 32)) 0 n d h)
+    tab-shift (λ i. instIn s ((start + d + i) % slotPlaces)) (λ i. instIn s ((start + i) % slotPlaces)) 0 (0 + d) (n - d)
+    (λ k l. let e : start + d + (0 + k) ≡ start + (0 + d + k) = omega arith in ap (λ (j : ℕ). instIn s (j % slotPlaces)) e)
+    ∙ sym (drop-tab (λ i. instIn s ((start + i) % slotPlaces)) 0 n d h)
 
 -- the slot at a place, where it is held
-pub inst-at : (start n k : ℕ) (s : List ℕ) → k < n → getElem? (instsOf start n s) k ≡ some (instIn s ((start + k) % 32))
+pub inst-at : (start n k : ℕ) (s : List ℕ) → k < n → getElem? (instsOf start n s) k ≡ some (instIn s ((start + k) % slotPlaces))
 unfolding instsOf
-inst-at start n k s h = elem-tab (λ i. instIn s ((start + i) % 32)) 0 n k h ∙ ap (λ (j : ℕ). some (instIn s ((start + j) % 32))) (zero-add k)
+inst-at start n k s h = elem-tab (λ i. instIn s ((start + i) % slotPlaces)) 0 n k h ∙ ap (λ (j : ℕ). some (instIn s ((start + j) % slotPlaces))) (zero-add k)
 
 pub inst-none : (start n k : ℕ) (s : List ℕ) → n ≤ k → getElem? (instsOf start n s) k ≡ none
 unfolding instsOf
-inst-none start n k s h = elem-past (λ i. instIn s ((start + i) % 32)) 0 n k h
+inst-none start n k s h = elem-past (λ i. instIn s ((start + i) % slotPlaces)) 0 n k h
 
 -- ---- null slots after the others
 
@@ -263,7 +264,7 @@ pad-start start n s =
     let z : n - n ≡ 0 = omega arith in
     sym (ap (λ (k : ℕ). instsOf start n s ++ replicate k machine.nullInstance) z ∙ append-nil (instsOf start n s))
 
-pub pad-step : (start n i : ℕ) (s₀ s t : List ℕ) → n ≤ i → i < 32 → Puts s ((start + i) % 32) nullShort [] (readsAt s ((start + i) % 32)) t
+pub pad-step : (start n i : ℕ) (s₀ s t : List ℕ) → n ≤ i → i < slotPlaces → Puts s ((start + i) % slotPlaces) nullShort [] (readsAt s ((start + i) % slotPlaces)) t
     → instsOf start i s ≡ instsOf start n s₀ ++ replicate (i - n) machine.nullInstance
     → instsOf start (i + 1) t ≡ instsOf start n s₀ ++ replicate (i + 1 - n) machine.nullInstance
 pad-step start n i s₀ s t h g p e =
@@ -279,7 +280,7 @@ pad-end start n i to s₀ s h g e = let z : i ≡ to = omega arith in rw z at e
 -- the first k of them
 pub first : (start n k : ℕ) (s : List ℕ) → k ≤ n → take k (instsOf start n s) ≡ instsOf start k s
 unfolding instsOf
-first start n k s h = take-tab (λ i. instIn s ((start + i) % 32)) 0 n k h
+first start n k s h = take-tab (λ i. instIn s ((start + i) % slotPlaces)) 0 n k h
 
 -- ---- the code's tests
 
@@ -303,11 +304,11 @@ module _ (s : List ℕ) (c : ℕ) (t : Bool) (e : t ≡ hasBook (shortAt s c)) w
 
 module _ (f : machine.Instance → Bool) (start n : ℕ) (s : List ℕ) where
   abbrev pub anyFrom : ℕ → Bool
-  anyFrom i = any f (tab (λ j. instIn s ((start + j) % 32)) i (n - i))
+  anyFrom i = any f (tab (λ j. instIn s ((start + j) % slotPlaces)) i (n - i))
 
   pub any-start : anyFrom 0 ≡ any f (instsOf start n s)
   unfolding instsOf
-  any-start = let e : n - 0 ≡ n = omega arith in ap (λ (k : ℕ). any f (tab (λ j. instIn s ((start + j) % 32)) 0 k)) e
+  any-start = let e : n - 0 ≡ n = omega arith in ap (λ (k : ℕ). any f (tab (λ j. instIn s ((start + j) % slotPlaces)) 0 k)) e
 
   pub any-end : (i : ℕ) → n ≤ i → anyFrom i ≡ false
   any-end i h = let e : n - i ≡ 0 = omega arith in rw e
@@ -316,7 +317,7 @@ module _ (f : machine.Instance → Bool) (start n : ℕ) (s : List ℕ) where
     more : n - i ≡ suc (n - (i + 1))
     more = omega arith
 
-    module _ (t : Bool) (e : t ≡ f (instIn s ((start + i) % 32))) where
+    module _ (t : Bool) (e : t ≡ f (instIn s ((start + i) % slotPlaces))) where
       pub any-here : t ≡ true → anyFrom i ≡ true
       any-here g = rw (more, sym e ∙ g)
 

@@ -1,5 +1,4 @@
--- The slots that a replica holds, in 7,744 lent words: 32 cells of 8, 32 batches of 89, 32 rows of 145 for held reads; slot s has those of number s % 32.
--- Assumes nothing: these are definitions.
+-- The slots that a replica holds, in lent words: cells, batches and held reads; slot s has those of number s % slotPlaces. Assumes nothing: these are definitions.
 use mathlib.Core.Path.{_≡_}
 use mathlib.Core.Logic.{_≢_}
 use mathlib.Core.List.{List}
@@ -9,24 +8,29 @@ use lib.ListN.{length}
 use Rattle.words.specs.Choice.{ifNone_then_else_}
 use Rattle.words.specs.Tab.{tab}
 use Rattle.words.specs.Part.{part}
+use Rattle.layout.specs.Layout.{cellRow, slotPlaces, batchWords, heldWords, batchesFrom, readsFrom}
 use Rattle.bodega.specs.Replica as machine
 use Rattle.inst_cell.specs.Cell.{Notices, Short, cellAt}
 use Rattle.inst_reqs.specs.Batch.{requestsOf}
 use Rattle.inst_holding.specs.Held.{readsOf}
 
-abbrev pub slotWords : ℕ
-slotWords = 7744
+-- where the batch and the held reads of place c stand
+abbrev pub batchStart : ℕ → ℕ
+batchStart c = batchesFrom + c * batchWords
+
+abbrev pub readsStart : ℕ → ℕ
+readsStart c = readsFrom + c * heldWords
 
 -- ---- what stands in place c, on any words
 
 unfoldable pub shortAt : List ℕ → ℕ → Short
-shortAt s c = cellAt s (c * 8)
+shortAt s c = cellAt s (c * cellRow)
 
 unfoldable pub batchAt : List ℕ → ℕ → List machine.Request
-batchAt s c = requestsOf (part s (256 + c * 89) 89)
+batchAt s c = requestsOf (part s (batchStart c) batchWords)
 
 unfoldable pub readsAt : List ℕ → ℕ → List machine.ReadReq
-readsAt s c = readsOf (part s (3104 + c * 145) 145)
+readsAt s c = readsOf (part s (readsStart c) heldWords)
 
 -- reads are held where there is a notice book
 abbrev pub bookOf : Option Notices → List machine.ReadReq → Option machine.Book
@@ -45,7 +49,7 @@ nullShort = record { bal = 0; status = machine.Null; leaderBk = none; replicaBk 
 -- ---- n slots from start on
 
 unfoldable pub instsOf : ℕ → ℕ → List ℕ → List machine.Instance
-instsOf start n s = tab (λ i. instIn s ((start + i) % 32)) 0 n
+instsOf start n s = tab (λ i. instIn s ((start + i) % slotPlaces)) 0 n
 
 -- ---- what a change of place c comes to: the words t have these three there, and every other place is as it was
 
@@ -58,5 +62,5 @@ pub record Puts (s : List ℕ) (c : ℕ) (x : Short) (reqs : List machine.Reques
   pub short : shortAt t c ≡ x
   pub batch : batchAt t c ≡ reqs
   pub held : readsAt t c ≡ reads
-  pub others : (d : ℕ) → d < 32 → d ≢ c → SamePlace s t d
+  pub others : (d : ℕ) → d < slotPlaces → d ≢ c → SamePlace s t d
   pub size : length t ≡ length s

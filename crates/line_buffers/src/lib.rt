@@ -1,19 +1,20 @@
 // The buffers that an event line is answered in, for a program to lend: of each only the length is said, so that a proof over it does not go through the array.
 ghost use mathlib.Core.Path.{_≡_};
 ghost use lib.ListN.{length};
+ghost use Rattle.layout.specs.Layout.{rosterWords, nodeWords};
 
 // The node's.
-pub fn node_words() -> [u64; 10305]
-    ensures { λ r. ⌜ 10305 ≡ length r ⌝ }
+pub fn node_words() -> [u64; layout::NODE_WORDS]
+    ensures { λ r. ⌜ nodeWords ≡ length r ⌝ }
 {
-    [0; 10305]
+    [0; layout::NODE_WORDS]
 }
 
 // The draft's ranges.
-pub fn draft_rows() -> [u64; 320]
-    ensures { λ r. ⌜ 320 ≡ length r ⌝ }
+pub fn draft_rows() -> [u64; layout::ROSTER_WORDS]
+    ensures { λ r. ⌜ rosterWords ≡ length r ⌝ }
 {
-    [0; 320]
+    [0; layout::ROSTER_WORDS]
 }
 
 // 546 places for items.

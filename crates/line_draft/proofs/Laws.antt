@@ -11,6 +11,7 @@ use borrow.Author.Tests.{le-leb, lt-leb, lt-ltb, le-ltb, leb-true, ltb-true, ltb
 use Rattle.words.specs.Text.{Bytes}
 use Rattle.words.specs.Choice.{if_then_else_}
 use Rattle.words.proofs.Tests.{and-both}
+use Rattle.layout.specs.Layout.{nodeWords}
 use Rattle.line_fields.specs.Split.{fieldsFrom}
 use Rattle.line_fields.specs.Number.{isNumber, valueOf, numbers, numberAt}
 use Rattle.line_fields.specs.Reads.{noneLeft, between, ReadsField, ReadsNumbers}
@@ -154,9 +155,9 @@ module _ (id population quorum : ℕ) where
     pub far-quorum : 255 < quorum → BeginsBy (node.inRange id population quorum) id population quorum n mem a mem
     far-quorum h = not-begun (is-false _ (λ t. omega (arith, small t)))
 
-  module _ (n : Node) (mem mem′ : List ℕ) (long : 10305 ≤ length mem) (f : Fresh) (b : begins.Begins id population quorum mem f mem′) where
+  module _ (n : Node) (mem mem′ : List ℕ) (long : nodeWords ≤ length mem) (f : Fresh) (b : begins.Begins id population quorum mem f mem′) where
     by-range : begins.Gives (node.inRange id population quorum) id population quorum mem f mem′
-    by-range = rw (le-leb 10305 (length mem) long) at b
+    by-range = rw (le-leb nodeWords (length mem) long) at b
 
     pub made : (m : Node) (a : Answered) → f ≡ begun.Made m → length mem′ ≡ length mem → a ≡ record { number = 0; count = 0; node = m }
         → BeginsBy (node.inRange id population quorum) id population quorum n mem a mem′

@@ -6,7 +6,7 @@ use Prim.Native.Nat.{ℕ, _≤_}
 use lib.ListN.{length, getD}
 use Rattle.words.specs.Text.{Bytes}
 use Rattle.words.specs.Part.{Untouched}
-use Rattle.ids.specs.Limits.{nodeWords}
+use Rattle.layout.specs.Layout.{nodeWords}
 use Rattle.line_fields.specs.Split.{fieldsFrom}
 use Rattle.line_fields.specs.Number.{numberAt}
 use Rattle.line_fields.specs.Reads.{between}

@@ -11,6 +11,7 @@ ghost use mathlib.Core.Path.{_≡_};
 ghost use mathlib.Core.Bool.{false};
 ghost use Prim.Native.Nat.{_≤_};
 ghost use lib.ListN.{length};
+ghost use Rattle.layout.specs.Layout.{nodeWords};
 ghost use Rattle.line_kind.specs.declared.EditKind.the-variants.{Lead, Range, Whole, Drop, Reset};
 ghost use Rattle.line_fields.specs.Split.{fieldsFrom};
 ghost use Rattle.line_fields.specs.Number.{numbers, numberAt};
@@ -198,7 +199,7 @@ fn refused(node: Node, number: u64) -> Answered
 
 // The node in place of one that no call made.
 fn begin(node: Node, mem: &mut [u64], id: u64, population: u64, quorum: u64) -> Answered
-    ensures { λ r. ⌜ (10305 ≤ length (now (mem .entry)) → BeginsBy (inRange id population quorum) id population quorum node (now (mem .entry)) r (now (mem .exit))) ⌝ }
+    ensures { λ r. ⌜ (nodeWords ≤ length (now (mem .entry)) → BeginsBy (inRange id population quorum) id population quorum node (now (mem .entry)) r (now (mem .exit))) ⌝ }
 {
     if 255 < id {
         return refused(node, 2);
@@ -221,7 +222,7 @@ fn begin(node: Node, mem: &mut [u64], id: u64, population: u64, quorum: u64) -> 
 }
 
 pub fn node_line(node: Node, mem: &mut [u64], line: &[u8], at: usize) -> Answered
-    ensures { λ r. ⌜ (10305 ≤ length (now (mem .entry)) → BeginsLine (numbers 3 (fieldsFrom (now (line .entry)) at)) (numberAt (fieldsFrom (now (line .entry)) at) 0) (numberAt (fieldsFrom (now (line .entry)) at) 1) (numberAt (fieldsFrom (now (line .entry)) at) 2) node (now (mem .entry)) r (now (mem .exit))) ⌝ }
+    ensures { λ r. ⌜ (nodeWords ≤ length (now (mem .entry)) → BeginsLine (numbers 3 (fieldsFrom (now (line .entry)) at)) (numberAt (fieldsFrom (now (line .entry)) at) 0) (numberAt (fieldsFrom (now (line .entry)) at) 1) (numberAt (fieldsFrom (now (line .entry)) at) 2) node (now (mem .entry)) r (now (mem .exit))) ⌝ }
 {
     let mut a = [0u64; 3];
     if !line_reader::numbers(line, at, 3, &mut a) {

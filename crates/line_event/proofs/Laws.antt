@@ -54,6 +54,7 @@ use Rattle.text.specs.Wrote.{Wrote}
 use Rattle.line_answer.specs.Wrote.{Answered}
 use Rattle.line_answer.proofs.Items.{holds}
 use Rattle.words.specs.Writes.{writes, length-writes}
+use Rattle.layout.specs.Layout.{rosterWords, nodeWords}
 use Rattle.line_event.specs.Ways as ways
 use Rattle.line_event.specs.Event.{whole, fit, dueIn, due as due-line, AnswersEvent}
 
@@ -186,7 +187,7 @@ module _ (h : code.Host) (mem rows area rows′ : List ℕ) (d : Edited) (r : Li
         rowsSize = l;
         beyondMem = λ j b. refl;
         beyondRows = g .beyond;
-        soundAgain = rw (m .0, l, and-both (leb 320 (length rows)) (leb (h .draft .count) 64) (m .1) .0, le-leb (k .count) 64 (g .few));
+        soundAgain = rw (m .0, l, and-both (leb rosterWords (length rows)) (leb (h .draft .count) 64) (m .1) .0, le-leb (k .count) 64 (g .few));
       })
 
   -- the population that the code gave the edit
@@ -224,7 +225,7 @@ module _ (h : code.Host) (mem rows area area′ : List ℕ) (d : Shown) (r : Lin
 
   room : h .draft .count ≤ 64
   unfolding sound
-  room = leb-true (h .draft .count) 64 (and-both (leb 320 (length rows)) _ (and-both (leb size (length mem)) _ s .1) .1)
+  room = leb-true (h .draft .count) 64 (and-both (leb rosterWords (length rows)) _ (and-both (leb size (length mem)) _ s .1) .1)
 
   lists : _≡_ {A = Listing} (record { answer = d; area = area′ }) (listing (h .draft) rows area)
       → LineFollowsBy (hostOf h mem rows) (lines.Items (show (edits-specs.view (h .draft) rows))) h mem rows area r mem rows area′
@@ -282,10 +283,10 @@ module _ (h : code.Host) (mem rows area mem′ : List ℕ) (a : code-answered.An
       })
   begins false f = node-refused 2 (omega arith) f
 
-  pub node-line : (good : Bool) → (10305 ≤ length mem → BeginsLine good id population quorum (h .node) mem a mem′)
+  pub node-line : (good : Bool) → (nodeWords ≤ length mem → BeginsLine good id population quorum (h .node) mem a mem′)
       → LineFollows (resultBy (hostOf h mem rows) (only good (NodeLine id population quorum))) h mem rows area r mem′ rows area
   unfolding lineAt firstLine sound
-  node-line good f = by-fields good (f (leb-true 10305 (length mem) (and-both (leb size (length mem)) _ s .0)))
+  node-line good f = by-fields good (f (leb-true nodeWords (length mem) (and-both (leb size (length mem)) _ s .0)))
     where
       go : (t : Bool) → ready (h .node) mem ≡ t → BeginsLine true id population quorum (h .node) mem a mem′
           → LineFollows (ifNone (if t then some (view (h .node) mem) else none) then firstLine (hostOf h mem rows) (NodeLine id population quorum) else λ y. lineAt (hostOf h mem rows) y (NodeLine id population quorum)) h
@@ -416,7 +417,7 @@ module _ (H : Host) (s : length (show (H .draft)) ≤ 65) where
 few-heard : (h : code.Host) (mem rows : List ℕ) (s : Bytes) → sound (h .draft) mem rows ≡ true → Few (answerLine (hostOf h mem rows) s .outcome)
 unfolding answerLine sound
 few-heard h mem rows s e =
-    few-told (hostOf h mem rows) (show-length (h .draft) rows (leb-true (h .draft .count) 64 (and-both (leb 320 (length rows)) _ (and-both (leb size (length mem)) _ e .1) .1))) (lineOf s)
+    few-told (hostOf h mem rows) (show-length (h .draft) rows (leb-true (h .draft .count) 64 (and-both (leb rosterWords (length rows)) _ (and-both (leb size (length mem)) _ e .1) .1))) (lineOf s)
 
 -- ---- whole buffers
 

@@ -8,6 +8,7 @@ use lib.Dec.{leb}
 use lib.ListN.{length}
 use borrow.Author.Tests.{le-leb, lt-leb, lt-ltb, le-ltb}
 use Rattle.words.specs.Text.{Bytes}
+use Rattle.layout.specs.Layout.{rosterWords, nodeWords}
 use Rattle.line_fields.specs.Reads.{noneLeft}
 use Rattle.roster_conf.specs.declared.RespondersConf.{RespondersConf}
 use Rattle.roster_conf.specs.Conf.{empty}
@@ -19,18 +20,18 @@ use Rattle.line_host.specs.Host.{freshHost}
 use Rattle.line_host.specs.Follows.{hostOf, sound, asByte}
 
 module _ (d : RespondersConf) (mem rows : List ℕ) where
-  pub short-mem : length mem < 10305 → false ≡ sound d mem rows
+  pub short-mem : length mem < nodeWords → false ≡ sound d mem rows
   unfolding sound
-  short-mem l = sym (simp (lt-leb 10305 (length mem) l))
+  short-mem l = sym (simp (lt-leb nodeWords (length mem) l))
 
-  module _ (m : 10305 ≤ length mem) where
-    pub short-rows : length rows < 320 → false ≡ sound d mem rows
+  module _ (m : nodeWords ≤ length mem) where
+    pub short-rows : length rows < rosterWords → false ≡ sound d mem rows
     unfolding sound
-    short-rows l = sym (simp (le-leb 10305 (length mem) m, lt-leb 320 (length rows) l))
+    short-rows l = sym (simp (le-leb nodeWords (length mem) m, lt-leb rosterWords (length rows) l))
 
-    pub by-count : 320 ≤ length rows → leb (d .count) 64 ≡ sound d mem rows
+    pub by-count : rosterWords ≤ length rows → leb (d .count) 64 ≡ sound d mem rows
     unfolding sound
-    by-count r = sym (simp (le-leb 10305 (length mem) m, le-leb 320 (length rows) r))
+    by-count r = sym (simp (le-leb nodeWords (length mem) m, le-leb rosterWords (length rows) r))
 
 -- ---- before the first line
 

@@ -9,7 +9,7 @@ use lib.ListN.{length}
 use Rattle.words.specs.Choice.{if_then_else_, ifNone_then_else_}
 use Rattle.words.specs.Writes.{writes}
 use Rattle.words.specs.Part.{Untouched}
-use Rattle.ids.specs.Limits.{ranges}
+use Rattle.layout.specs.Layout.{rosterWords}
 use Rattle.items.specs.Item.{Item, encode}
 use Rattle.roster_conf.specs.declared.RespondersConf.{RespondersConf}
 use Rattle.roster_conf.specs.declared.Edited.{Edited}
@@ -55,7 +55,7 @@ pub record LineTakes (next : Host) (l : List Item) (h : code.Host) (mem rows are
   pub memSize : length mem′ ≡ length mem
   pub rowsSize : length rows′ ≡ length rows
   pub beyondMem : Untouched size mem mem′
-  pub beyondRows : Untouched (ranges * 5) rows rows′
+  pub beyondRows : Untouched rosterWords rows rows′
   pub soundAgain : sound (a .host .draft) mem′ rows′ ≡ true
 
 abbrev pub LineFollowsBy : Host → Outcome → code.Host → List ℕ → List ℕ → List ℕ → LineDone → List ℕ → List ℕ → List ℕ → Type 0

@@ -16,7 +16,6 @@ use Rattle.ids.specs.declared.Replica.{Replica}
 use Rattle.items.specs.Item.{Item, places, encode}
 use Rattle.words.specs.Writes.{writes}
 use Rattle.words.specs.Part.{Untouched}
-use Rattle.ids.specs.Limits.{nodeWords}
 use Rattle.roster_conf.specs.Ground.{Ground, _when_or_, refusal}
 use Rattle.roster_conf.proofs.Grounds.{NoneApply, Positive}
 use Rattle.bodega.specs.Replica as machine
@@ -25,6 +24,8 @@ use Rattle.bodega.specs.Step.{step, effect, refusalOf}
 use Rattle.bodega.specs.Answers.{due, Answers}
 use Rattle.bodega.proofs.Taken.{positive}
 use Rattle.words.proofs.Tests.{and-both}
+use Rattle.ids.specs.Limits.{replicas, window}
+use Rattle.layout.specs.Layout.{nodeWords}
 use Rattle.node.specs.declared.Node.{Node}
 use Rattle.node.specs.View.{size, view, inRange, barsInRange, sound, ready, lowest, leadsIt}
 
@@ -43,11 +44,11 @@ module _ (start exec commit slots : ℕ) where
       low-commit k = sym (simp (le-leb start 281474976710655 h, le-leb start exec g, lt-leb exec commit k))
 
       module _ (k : exec ≤ commit) where
-        pub many-slots : 32 < slots → false ≡ barsInRange start exec commit slots
-        many-slots l = sym (simp (le-leb start 281474976710655 h, le-leb start exec g, le-leb exec commit k, lt-leb slots 32 l))
+        pub many-slots : window < slots → false ≡ barsInRange start exec commit slots
+        many-slots l = sym (simp (le-leb start 281474976710655 h, le-leb start exec g, le-leb exec commit k, lt-leb slots window l))
 
-        pub commit-held : slots ≤ 32 → leb commit (start + slots) ≡ barsInRange start exec commit slots
-        commit-held l = sym (simp (le-leb start 281474976710655 h, le-leb start exec g, le-leb exec commit k, le-leb slots 32 l))
+        pub commit-held : slots ≤ window → leb commit (start + slots) ≡ barsInRange start exec commit slots
+        commit-held l = sym (simp (le-leb start 281474976710655 h, le-leb start exec g, le-leb exec commit k, le-leb slots window l))
 
 and-assoc : (a b c : Bool) → (a && b) && c ≡ a && (b && c)
 and-assoc true b c = refl
@@ -76,16 +77,16 @@ leads-by l x id e = sym (ap (λ (k : Leader). leadsIt (leaderOf k) (id .0)) e)
 -- ---- what is known of a ready node
 
 pub record Ready (n : Node) (m : List ℕ) : Type 0 where
-  pub long : 10305 ≤ length m
+  pub long : nodeWords ≤ length m
   pub quorate : 0 < n .quorum
   pub enough : n .quorum ≤ n .population
-  pub few : n .population ≤ 64
+  pub few : n .population ≤ replicas
   pub own : n .id .0 < n .population
   pub ranges : n .«bodega_conf» .count ≤ 64
   pub start-low : n .«start_slot» .0 ≤ 281474976710655
   pub start-exec : n .«start_slot» .0 ≤ n .«exec_bar» .0
   pub exec-commit : n .«exec_bar» .0 ≤ n .«commit_bar» .0
-  pub window : n .slots ≤ 32
+  pub window : n .slots ≤ window
   pub commit-end : n .«commit_bar» .0 ≤ n .«start_slot» .0 + n .slots
 
 pub is-ready : (n : Node) (m : List ℕ) (t : Bool) → t ≡ ready n m → not t ≡ false → Ready n m
@@ -95,23 +96,23 @@ is-ready n m t e f =
     let s = and-both (inRange (n .id .0) (n .population) (n .quorum)) _ (r .1) in
     let a = and-both (ltb 0 (n .quorum)) _ (s .0) in
     let b = and-both (leb (n .quorum) (n .population)) _ (a .1) in
-    let c = and-both (leb (n .population) 64) _ (b .1) in
+    let c = and-both (leb (n .population) replicas) _ (b .1) in
     let u = and-both (leb (n .«bodega_conf» .count) 64) _ (s .1) in
     let v = and-both (leb (n .«start_slot» .0) 281474976710655) _ (u .1) in
     let w = and-both (leb (n .«start_slot» .0) (n .«exec_bar» .0)) _ (v .1) in
     let x = and-both (leb (n .«exec_bar» .0) (n .«commit_bar» .0)) _ (w .1) in
-    let y = and-both (leb (n .slots) 32) _ (x .1) in
+    let y = and-both (leb (n .slots) window) _ (x .1) in
     record {
-      long = leb-true 10305 (length m) (r .0);
+      long = leb-true nodeWords (length m) (r .0);
       quorate = ltb-true 0 (n .quorum) (a .0);
       enough = leb-true (n .quorum) (n .population) (b .0);
-      few = leb-true (n .population) 64 (c .0);
+      few = leb-true (n .population) replicas (c .0);
       own = ltb-true (n .id .0) (n .population) (c .1);
       ranges = leb-true (n .«bodega_conf» .count) 64 (u .0);
       start-low = leb-true (n .«start_slot» .0) 281474976710655 (v .0);
       start-exec = leb-true (n .«start_slot» .0) (n .«exec_bar» .0) (w .0);
       exec-commit = leb-true (n .«exec_bar» .0) (n .«commit_bar» .0) (x .0);
-      window = leb-true (n .slots) 32 (y .0);
+      window = leb-true (n .slots) window (y .0);
       commit-end = leb-true (n .«commit_bar» .0) (n .«start_slot» .0 + n .slots) (y .1);
     }
 
@@ -120,16 +121,16 @@ pub made-ready : (n : Node) (m : List ℕ) → Ready n m → ready n m ≡ true
 unfolding ready
 made-ready n m r =
     simp (
-      le-leb 10305 (length m) (r .long),
+      le-leb nodeWords (length m) (r .long),
       lt-ltb 0 (n .quorum) (r .quorate),
       le-leb (n .quorum) (n .population) (r .enough),
-      le-leb (n .population) 64 (r .few),
+      le-leb (n .population) replicas (r .few),
       lt-ltb (n .id .0) (n .population) (r .own),
       le-leb (n .«bodega_conf» .count) 64 (r .ranges),
       le-leb (n .«start_slot» .0) 281474976710655 (r .start-low),
       le-leb (n .«start_slot» .0) (n .«exec_bar» .0) (r .start-exec),
       le-leb (n .«exec_bar» .0) (n .«commit_bar» .0) (r .exec-commit),
-      le-leb (n .slots) 32 (r .window),
+      le-leb (n .slots) window (r .window),
       le-leb (n .«commit_bar» .0) (n .«start_slot» .0 + n .slots) (r .commit-end),
     )
 

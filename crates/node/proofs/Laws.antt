@@ -12,7 +12,7 @@ use lib.Seq.{drop-set-add, take-set-le, take-set-lt, getD-take, getD-drop, getD-
 use borrow.Author.Tests.{lt-ltb, le-ltb, le-leb, lt-leb, leb-true, not-true, not-false}
 use Rattle.words.specs.Part.{part, splice, part-here, part-before, part-after, length-splice, length-part, part-set-above, part-set-first, getD-part, Untouched, splice-untouched}
 use Rattle.words.specs.Counted.{counted, counted-clear}
-use Rattle.ids.specs.Limits.{keys}
+use Rattle.ids.specs.Limits.{replicas}
 use Rattle.highest_slot.specs.Written.{highestAt, writtenOf}
 use Rattle.node.specs.View.{size, view, inRange, ready}
 use Rattle.peer_accept_bar.specs.Pairs.{pairsOf}
@@ -25,6 +25,7 @@ use Rattle.roster_conf.specs.Conf.{empty}
 use Rattle.roster_conf.specs.Edits.{view as rosterOf}
 use Rattle.words.specs.Tab.{tab, run, tab-ext}
 use Rattle.words.proofs.Tests.{and-both}
+use Rattle.layout.specs.Layout.{replicaPlaces, writtenPlaces, barsAt, writtenRow, writtenWords, rosterWords, pairWords, execsAt, rowsAt, writtenAt, nodeWords}
 
 -- ---- tests
 
@@ -36,17 +37,17 @@ module _ (id population quorum : ℕ) where
     pub large-quorum : population < quorum → false ≡ inRange id population quorum
     large-quorum g = sym (simp (lt-ltb 0 quorum (omega arith), lt-leb quorum population g))
 
-    pub many : quorum ≤ population → 64 < population → false ≡ inRange id population quorum
-    many g k = sym (simp (lt-ltb 0 quorum (omega arith), le-leb quorum population g, lt-leb population 64 k))
+    pub many : quorum ≤ population → replicas < population → false ≡ inRange id population quorum
+    many g k = sym (simp (lt-ltb 0 quorum (omega arith), le-leb quorum population g, lt-leb population replicas k))
 
-    pub own-number : quorum ≤ population → population ≤ 64 → ltb id population ≡ inRange id population quorum
-    own-number g k = sym (simp (lt-ltb 0 quorum (omega arith), le-leb quorum population g, le-leb population 64 k))
+    pub own-number : quorum ≤ population → population ≤ replicas → ltb id population ≡ inRange id population quorum
+    own-number g k = sym (simp (lt-ltb 0 quorum (omega arith), le-leb quorum population g, le-leb population replicas k))
 
-  pub short-buffer : (len : ℕ) → len < 10305 → false ≡ leb size len && inRange id population quorum
-  short-buffer len h = sym (simp (lt-leb 10305 len h))
+  pub short-buffer : (len : ℕ) → len < nodeWords → false ≡ leb size len && inRange id population quorum
+  short-buffer len h = sym (simp (lt-leb nodeWords len h))
 
-  pub long-buffer : (len : ℕ) (t : Bool) → 10305 ≤ len → t ≡ inRange id population quorum → t ≡ leb size len && inRange id population quorum
-  long-buffer len t h e = e ∙ sym (simp (le-leb 10305 len h))
+  pub long-buffer : (len : ℕ) (t : Bool) → nodeWords ≤ len → t ≡ inRange id population quorum → t ≡ leb size len && inRange id population quorum
+  long-buffer len t h e = e ∙ sym (simp (le-leb nodeWords len h))
 
 -- ---- words filled
 
@@ -65,89 +66,89 @@ fill-end l i n v f g k e =
 
 -- ---- three parts filled, and one word cleared
 
-module _ (m x y z : List ℕ) (h : 10305 ≤ length m) (lx : length x ≡ 64) (ly : length y ≡ 64) (lz : length z ≡ 64) where
+module _ (m x y z : List ℕ) (h : nodeWords ≤ length m) (lx : length x ≡ replicaPlaces) (ly : length y ≡ replicaPlaces) (lz : length z ≡ replicaPlaces) where
   abbrev m₁ : List ℕ
-  m₁ = splice m 0 64 x
+  m₁ = splice m 0 replicaPlaces x
 
   abbrev m₂ : List ℕ
-  m₂ = splice m₁ 64 64 y
+  m₂ = splice m₁ barsAt replicaPlaces y
 
   abbrev m₃ : List ℕ
-  m₃ = splice m₂ 128 64 z
+  m₃ = splice m₂ execsAt replicaPlaces z
 
   l₁ : length m₁ ≡ length m
-  l₁ = length-splice m 0 64 x (omega arith) lx
+  l₁ = length-splice m 0 replicaPlaces x (omega arith) lx
 
   l₂ : length m₂ ≡ length m
-  l₂ = length-splice m₁ 64 64 y (rw l₁ (omega arith)) ly ∙ l₁
+  l₂ = length-splice m₁ barsAt replicaPlaces y (rw l₁ (omega arith)) ly ∙ l₁
 
   pub length-filled : length m₃ ≡ length m
-  length-filled = length-splice m₂ 128 64 z (rw l₂ (omega arith)) lz ∙ l₂
+  length-filled = length-splice m₂ execsAt replicaPlaces z (rw l₂ (omega arith)) lz ∙ l₂
 
   abbrev m₄ : List ℕ
-  m₄ = set m₃ 8256 0
+  m₄ = set m₃ writtenAt 0
 
-  first : part m₄ 0 64 ≡ x
+  first : part m₄ 0 replicaPlaces ≡ x
   first =
-      part-set-above m₃ 0 64 0 8256 (omega arith) ∙ part-before m₂ 128 64 z (rw l₂ (omega arith)) lz 0 64 (omega arith)
-      ∙ part-before m₁ 64 64 y (rw l₁ (omega arith)) ly 0 64 (omega arith) ∙ part-here m 0 64 x (omega arith) lx
+      part-set-above m₃ 0 replicaPlaces 0 writtenAt (omega arith) ∙ part-before m₂ execsAt replicaPlaces z (rw l₂ (omega arith)) lz 0 replicaPlaces (omega arith)
+      ∙ part-before m₁ barsAt replicaPlaces y (rw l₁ (omega arith)) ly 0 replicaPlaces (omega arith) ∙ part-here m 0 replicaPlaces x (omega arith) lx
 
-  second : part m₄ 64 64 ≡ y
+  second : part m₄ barsAt replicaPlaces ≡ y
   second =
-      part-set-above m₃ 64 64 0 8256 (omega arith) ∙ part-before m₂ 128 64 z (rw l₂ (omega arith)) lz 64 64 (omega arith)
-      ∙ part-here m₁ 64 64 y (rw l₁ (omega arith)) ly
+      part-set-above m₃ barsAt replicaPlaces 0 writtenAt (omega arith) ∙ part-before m₂ execsAt replicaPlaces z (rw l₂ (omega arith)) lz barsAt replicaPlaces (omega arith)
+      ∙ part-here m₁ barsAt replicaPlaces y (rw l₁ (omega arith)) ly
 
-  third : part m₄ 128 64 ≡ z
-  third = part-set-above m₃ 128 64 0 8256 (omega arith) ∙ part-here m₂ 128 64 z (rw l₂ (omega arith)) lz
+  third : part m₄ execsAt replicaPlaces ≡ z
+  third = part-set-above m₃ execsAt replicaPlaces 0 writtenAt (omega arith) ∙ part-here m₂ execsAt replicaPlaces z (rw l₂ (omega arith)) lz
 
-  keys-none : writtenOf (part m₄ 8256 2049) ≡ []
+  keys-none : writtenOf (part m₄ writtenAt writtenWords) ≡ []
   unfolding writtenOf
   keys-none =
-      ap (counted highestAt 8 keys) (part-set-first m₃ 8256 2049 0 (omega arith))
-      ∙ counted-clear highestAt 8 keys (part m₃ 8256 2049) (rw (length-part m₃ 8256 2049 (rw length-filled (omega arith))) (omega arith))
+      ap (counted highestAt writtenRow writtenPlaces) (part-set-first m₃ writtenAt writtenWords 0 (omega arith))
+      ∙ counted-clear highestAt writtenRow writtenPlaces (part m₃ writtenAt writtenWords) (rw (length-part m₃ writtenAt writtenWords (rw length-filled (omega arith))) (omega arith))
 
-  rest : Untouched 10305 m m₄
+  rest : Untouched nodeWords m m₄
   rest j f =
-      getD-set-other m₃ 8256 j 0 0 (omega arith) ∙ splice-untouched m₂ 128 64 z (rw l₂ (omega arith)) lz 10305 (omega arith) j f
-      ∙ splice-untouched m₁ 64 64 y (rw l₁ (omega arith)) ly 10305 (omega arith) j f ∙ splice-untouched m 0 64 x (omega arith) lx 10305 (omega arith) j f
+      getD-set-other m₃ writtenAt j 0 0 (omega arith) ∙ splice-untouched m₂ execsAt replicaPlaces z (rw l₂ (omega arith)) lz nodeWords (omega arith) j f
+      ∙ splice-untouched m₁ barsAt replicaPlaces y (rw l₁ (omega arith)) ly nodeWords (omega arith) j f ∙ splice-untouched m 0 replicaPlaces x (omega arith) lx nodeWords (omega arith) j f
 
-  pub resets : x ≡ replicate 64 0 → y ≡ replicate 64 18446744073709551615 → z ≡ replicate 64 0 → Reset m m₄
+  pub resets : x ≡ replicate replicaPlaces 0 → y ≡ replicate replicaPlaces 18446744073709551615 → z ≡ replicate replicaPlaces 0 → Reset m m₄
   resets e f g = record { nums = first ∙ e; bars = second ∙ f; execs = third ∙ g; written = keys-none; rest = rest }
 
 -- the same with what is known of the parts as the code has it
-part-64 : (m : List ℕ) (a : ℕ) → a + 64 ≤ length m → length (take 64 (drop a m)) ≡ 64
+part-64 : (m : List ℕ) (a : ℕ) → a + replicaPlaces ≤ length m → length (take replicaPlaces (drop a m)) ≡ replicaPlaces
 unfolding part
-part-64 m a h = length-part m a 64 h
+part-64 m a h = length-part m a replicas h
 
-module _ (m x y z : List ℕ) (h : 10305 ≤ length m) (lx : length x ≡ length (take 64 m)) (ly : length y ≡ length (take 64 (drop 64 (splice m 0 64 x))))
-    (lz : length z ≡ length (take 64 (drop 128 (splice (splice m 0 64 x) 64 64 y)))) where
-  x-64 : length (take 64 m) ≡ 64
-  x-64 = length-take-le 64 m (omega arith)
+module _ (m x y z : List ℕ) (h : nodeWords ≤ length m) (lx : length x ≡ length (take replicaPlaces m)) (ly : length y ≡ length (take replicaPlaces (drop barsAt (splice m 0 replicaPlaces x))))
+    (lz : length z ≡ length (take replicaPlaces (drop execsAt (splice (splice m 0 replicaPlaces x) barsAt replicaPlaces y)))) where
+  x-64 : length (take replicaPlaces m) ≡ replicaPlaces
+  x-64 = length-take-le replicas m (omega arith)
 
-  lx′ : length x ≡ 64
+  lx′ : length x ≡ replicaPlaces
   lx′ = lx ∙ x-64
 
-  y-64 : length (take 64 (drop 64 (splice m 0 64 x))) ≡ 64
-  y-64 = part-64 (splice m 0 64 x) 64 (rw (length-splice m 0 64 x (omega arith) lx′) (omega arith))
+  y-64 : length (take replicaPlaces (drop barsAt (splice m 0 replicaPlaces x))) ≡ replicaPlaces
+  y-64 = part-64 (splice m 0 replicaPlaces x) replicas (rw (length-splice m 0 replicaPlaces x (omega arith) lx′) (omega arith))
 
-  ly′ : length y ≡ 64
+  ly′ : length y ≡ replicaPlaces
   ly′ = ly ∙ y-64
 
-  l-two : length (splice (splice m 0 64 x) 64 64 y) ≡ length m
+  l-two : length (splice (splice m 0 replicaPlaces x) barsAt replicaPlaces y) ≡ length m
   l-two =
-      length-splice (splice m 0 64 x) 64 64 y (rw (length-splice m 0 64 x (omega arith) lx′) (omega arith)) ly′ ∙ length-splice m 0 64 x (omega arith) lx′
+      length-splice (splice m 0 replicaPlaces x) barsAt replicaPlaces y (rw (length-splice m 0 replicaPlaces x (omega arith) lx′) (omega arith)) ly′ ∙ length-splice m 0 replicaPlaces x (omega arith) lx′
 
-  z-64 : length (take 64 (drop 128 (splice (splice m 0 64 x) 64 64 y))) ≡ 64
-  z-64 = part-64 (splice (splice m 0 64 x) 64 64 y) 128 (rw l-two (omega arith))
+  z-64 : length (take replicaPlaces (drop execsAt (splice (splice m 0 replicaPlaces x) barsAt replicaPlaces y))) ≡ replicaPlaces
+  z-64 = part-64 (splice (splice m 0 replicaPlaces x) barsAt replicaPlaces y) execsAt (rw l-two (omega arith))
 
-  lz′ : length z ≡ 64
+  lz′ : length z ≡ replicaPlaces
   lz′ = lz ∙ z-64
 
-  pub same-size : length (splice (splice (splice m 0 64 x) 64 64 y) 128 64 z) ≡ length m
+  pub same-size : length (splice (splice (splice m 0 replicaPlaces x) barsAt replicaPlaces y) execsAt replicaPlaces z) ≡ length m
   same-size = length-filled m x y z h lx′ ly′ lz′
 
-  pub reset-is : x ≡ replicate (length (take 64 m)) 0 → y ≡ replicate (length (take 64 (drop 64 (splice m 0 64 x)))) 18446744073709551615
-      → z ≡ replicate (length (take 64 (drop 128 (splice (splice m 0 64 x) 64 64 y)))) 0 → Reset m (set (splice (splice (splice m 0 64 x) 64 64 y) 128 64 z) 8256 0)
+  pub reset-is : x ≡ replicate (length (take replicaPlaces m)) 0 → y ≡ replicate (length (take replicaPlaces (drop barsAt (splice m 0 replicaPlaces x)))) 18446744073709551615
+      → z ≡ replicate (length (take replicaPlaces (drop execsAt (splice (splice m 0 replicaPlaces x) barsAt replicaPlaces y)))) 0 → Reset m (set (splice (splice (splice m 0 replicaPlaces x) barsAt replicaPlaces y) execsAt replicaPlaces z) writtenAt 0)
   reset-is e f g =
       resets m x y z h lx′ ly′ lz′ (e ∙ ap (λ (k : ℕ). replicate k 0) x-64) (f ∙ ap (λ (k : ℕ). replicate k 18446744073709551615) y-64) (g ∙ ap (λ (k : ℕ). replicate k 0) z-64)
 
@@ -157,25 +158,25 @@ tab-const : {A : Type 0} (v : A) (i n : ℕ) → tab (λ j. v) i n ≡ replicate
 tab-const v i zero = refl
 tab-const {A = A} v i (suc n) = ap (λ (l : List A). v ∷ l) (tab-const v (i + 1) n)
 
-module _ (s : List ℕ) (a : part s 0 64 ≡ replicate 64 0) (b : part s 64 64 ≡ replicate 64 18446744073709551615) where
-  number-0 : (i : ℕ) → i < 64 → getD (part s 0 128) i 0 ≡ 0
+module _ (s : List ℕ) (a : part s 0 replicaPlaces ≡ replicate replicaPlaces 0) (b : part s barsAt replicaPlaces ≡ replicate replicaPlaces 18446744073709551615) where
+  number-0 : (i : ℕ) → i < replicas → getD (part s 0 pairWords) i 0 ≡ 0
   number-0 i h =
-      getD-part s 0 128 i (omega arith) ∙ sym (getD-part s 0 64 i h) ∙ ap (λ (l : List ℕ). getD l i 0) a ∙ getD-replicate {A = ℕ} 64 i 0 0 h
+      getD-part s 0 pairWords i (omega arith) ∙ sym (getD-part s 0 replicaPlaces i h) ∙ ap (λ (l : List ℕ). getD l i 0) a ∙ getD-replicate {A = ℕ} replicas i 0 0 h
 
-  bar-beyond : (i : ℕ) → i < 64 → getD (part s 0 128) (64 + i) 0 ≡ 18446744073709551615
+  bar-beyond : (i : ℕ) → i < replicas → getD (part s 0 pairWords) (barsAt + i) 0 ≡ 18446744073709551615
   bar-beyond i h =
-      getD-part s 0 128 (64 + i) (omega arith) ∙ ap (λ (k : ℕ). getD s k 0) (zero-add (64 + i)) ∙ sym (getD-part s 64 64 i h) ∙ ap (λ (l : List ℕ). getD l i 0) b
-      ∙ getD-replicate {A = ℕ} 64 i 18446744073709551615 0 h
+      getD-part s 0 pairWords (barsAt + i) (omega arith) ∙ ap (λ (k : ℕ). getD s k 0) (zero-add (barsAt + i)) ∙ sym (getD-part s barsAt replicaPlaces i h) ∙ ap (λ (l : List ℕ). getD l i 0) b
+      ∙ getD-replicate {A = ℕ} replicas i 18446744073709551615 0 h
 
-  fresh-pairs : (n : ℕ) → n ≤ 64 → pairsOf n (part s 0 128) ≡ replicate n freshPair
+  fresh-pairs : (n : ℕ) → n ≤ replicas → pairsOf n (part s 0 pairWords) ≡ replicate n freshPair
   unfolding pairsOf
   fresh-pairs n h =
-      tab-ext (λ i. pair (getD (part s 0 128) i 0) (getD (part s 0 128) (64 + i) 0)) (λ i. freshPair) 0 n
-      (λ j x y. let l : j < 64 = omega arith in rw (number-0 j l, bar-beyond j l))
+      tab-ext (λ i. pair (getD (part s 0 pairWords) i 0) (getD (part s 0 pairWords) (barsAt + i) 0)) (λ i. freshPair) 0 n
+      (λ j x y. let l : j < replicas = omega arith in rw (number-0 j l, bar-beyond j l))
       ∙ tab-const freshPair 0 n
 
-fresh-execs : (n : ℕ) → n ≤ 64 → run n (replicate 64 0) 0 ≡ replicate n 0
-fresh-execs n h = tab-ext (λ i. getD (replicate 64 0) i 0) (λ i. 0) 0 n (λ j a b. getD-replicate {A = ℕ} 64 j 0 0 (omega arith)) ∙ tab-const 0 0 n
+fresh-execs : (n : ℕ) → n ≤ replicas → run n (replicate replicaPlaces 0) 0 ≡ replicate n 0
+fresh-execs n h = tab-ext (λ i. getD (replicate replicaPlaces 0) i 0) (λ i. 0) 0 n (λ j a b. getD-replicate {A = ℕ} replicas j 0 0 (omega arith)) ∙ tab-const 0 0 n
 
 module _ (id population quorum : ℕ) (s : List ℕ) (t : Bool) (e : t ≡ leb size (length s) && inRange id population quorum) where
   pub not-begun : not t ≡ true → Gives (leb size (length s) && inRange id population quorum) id population quorum s (Refused 2) s
@@ -185,20 +186,20 @@ module _ (id population quorum : ℕ) (s : List ℕ) (t : Bool) (e : t ≡ leb s
     holds : (leb size (length s) ≡ true) × (inRange id population quorum ≡ true)
     holds = and-both (leb size (length s)) (inRange id population quorum) (sym e ∙ not-false t f)
 
-    pub long-enough : 10305 ≤ length s
-    long-enough = leb-true 10305 (length s) (holds .0)
+    pub long-enough : nodeWords ≤ length s
+    long-enough = leb-true nodeWords (length s) (holds .0)
 
-    few : population ≤ 64
+    few : population ≤ replicas
     few =
-        let a = and-both (ltb 0 quorum) (leb quorum population && (leb population 64 && ltb id population)) (holds .1) .1 in
-        let b = and-both (leb quorum population) (leb population 64 && ltb id population) a .1 in
-        leb-true population 64 (and-both (leb population 64) (ltb id population) b .0)
+        let a = and-both (ltb 0 quorum) (leb quorum population && (leb population replicas && ltb id population)) (holds .1) .1 in
+        let b = and-both (leb quorum population) (leb population replicas && ltb id population) a .1 in
+        leb-true population replicas (and-both (leb population replicas) (ltb id population) b .0)
 
     module _ (s′ : List ℕ) (r : Reset s s′) (l : length s′ ≡ length s) where
-      pairs : pairsOf population (part s′ 0 128) ≡ replicate population freshPair
+      pairs : pairsOf population (part s′ 0 pairWords) ≡ replicate population freshPair
       pairs = fresh-pairs s′ (r .nums) (r .bars) population few
 
-      execs : run population (part s′ 128 64) 0 ≡ replicate population 0
+      execs : run population (part s′ execsAt replicaPlaces) 0 ≡ replicate population 0
       execs = rw (r .execs) (fresh-execs population few)
 
       -- no slots, every ballot and bar 0
@@ -224,7 +225,7 @@ module _ (id population quorum : ℕ) (s : List ℕ) (t : Bool) (e : t ≡ leb s
         where
           replica : view n s′ ≡ fresh id population quorum
           replica =
-              rw (z .own, z .members, z .enough, z .seen, z .sent, z .prepared, z .start, z .accept, z .commit, z .exec, z .snap, z .figure, z .none, pairs, execs, c .0 (part s′ 192 320), r .written)
+              rw (z .own, z .members, z .enough, z .seen, z .sent, z .prepared, z .start, z .accept, z .commit, z .exec, z .snap, z .figure, z .none, pairs, execs, c .0 (part s′ rowsAt rosterWords), r .written)
 
           readied : ready n s′ ≡ true
           readied = rw (l, holds .0, z .own, z .members, z .enough, holds .1, le-leb (n .«bodega_conf» .count) 64 (c .1), z .start, z .exec, z .commit, z .none)

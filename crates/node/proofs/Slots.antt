@@ -6,6 +6,7 @@ use Prim.Native.Nat.{ℕ, _+_, _-_, _%_, _≤_, _<_}
 use native.Mathlib.Omega.{arith}
 use borrow.Author.Tests.{lt-ltb, le-ltb}
 use Rattle.words.specs.Part.{part}
+use Rattle.layout.specs.Layout.{slotPlaces, slotWords, slotsAt}
 use Rattle.bodega.specs.Replica as machine
 use Rattle.inst_cell.specs.Cell.{Short}
 use Rattle.insts.specs.Slots.{instOf, instIn, instsOf, Puts}
@@ -21,20 +22,20 @@ module _ (n : Node) (m : List ℕ) (slot : ℕ) where
   module _ (h : n .«start_slot» .0 ≤ slot) where
     pub not-past : n .«start_slot» .0 + n .slots ≤ slot → machine.instAt (view n m) slot ≡ none
     unfolding view machine.instAt
-    not-past g = rw (le-ltb slot (n .«start_slot» .0) h) (inst-none (n .«start_slot» .0) (n .slots) (slot - n .«start_slot» .0) (part m 512 7744) (omega arith))
+    not-past g = rw (le-ltb slot (n .«start_slot» .0) h) (inst-none (n .«start_slot» .0) (n .slots) (slot - n .«start_slot» .0) (part m slotsAt slotWords) (omega arith))
 
     module _ (g : slot < n .«start_slot» .0 + n .slots) where
-      pub held-at : machine.instAt (view n m) slot ≡ some (instIn (part m 512 7744) (slot % 32))
+      pub held-at : machine.instAt (view n m) slot ≡ some (instIn (part m slotsAt slotWords) (slot % slotPlaces))
       unfolding view machine.instAt
       held-at =
           let e : n .«start_slot» .0 + (slot - n .«start_slot» .0) ≡ slot = omega arith in
-          rw (le-ltb slot (n .«start_slot» .0) h) (inst-at (n .«start_slot» .0) (n .slots) (slot - n .«start_slot» .0) (part m 512 7744) (omega arith)
-          ∙ ap (λ (j : ℕ). some (instIn (part m 512 7744) (j % 32))) e)
+          rw (le-ltb slot (n .«start_slot» .0) h) (inst-at (n .«start_slot» .0) (n .slots) (slot - n .«start_slot» .0) (part m slotsAt slotWords) (omega arith)
+          ∙ ap (λ (j : ℕ). some (instIn (part m slotsAt slotWords) (j % slotPlaces))) e)
 
-      pub set-at : {t : List ℕ} {x : Short} {a : List machine.Request} {l : List machine.ReadReq} → n .slots ≤ 32 → Puts (part m 512 7744) (slot % 32) x a l t
+      pub set-at : {t : List ℕ} {x : Short} {a : List machine.Request} {l : List machine.ReadReq} → n .slots ≤ slotPlaces → Puts (part m slotsAt slotWords) (slot % slotPlaces) x a l t
           → machine.withInsts (instsOf (n .«start_slot» .0) (n .slots) t) (view n m) ≡ machine.setInst slot (instOf x a l) (view n m)
       unfolding view machine.setInst
       set-at {t = t} {x = x} {a = a} {l = l} w p =
           let e : slot ≡ n .«start_slot» .0 + (slot - n .«start_slot» .0) = omega arith in
-          let q : Puts (part m 512 7744) ((n .«start_slot» .0 + (slot - n .«start_slot» .0)) % 32) x a l t = rw e at p in
+          let q : Puts (part m slotsAt slotWords) ((n .«start_slot» .0 + (slot - n .«start_slot» .0)) % slotPlaces) x a l t = rw e at p in
           rw (moved (n .«start_slot» .0) (n .slots) (slot - n .«start_slot» .0) q (omega arith) w)

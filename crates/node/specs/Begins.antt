@@ -7,6 +7,7 @@ use lib.Dec.{leb}
 use lib.ListN.{length, replicate}
 use Rattle.words.specs.Part.{part, Untouched}
 use Rattle.ids.specs.Limits.{beyond}
+use Rattle.layout.specs.Layout.{replicaPlaces, barsAt, writtenWords, execsAt, writtenAt}
 use Rattle.highest_slot.specs.Written.{writtenOf}
 use Rattle.bodega.specs.Replica.{fresh}
 use Rattle.node.specs.declared.Node.{Node}
@@ -16,10 +17,10 @@ use Rattle.node.specs.View.{size, view, inRange, ready}
 
 -- no guard and no exec bar heard, no key written
 pub record Reset (before after : List ℕ) : Type 0 where
-  pub nums : part after 0 64 ≡ replicate 64 0
-  pub bars : part after 64 64 ≡ replicate 64 beyond
-  pub execs : part after 128 64 ≡ replicate 64 0
-  pub written : writtenOf (part after 8256 2049) ≡ []
+  pub nums : part after 0 replicaPlaces ≡ replicate replicaPlaces 0
+  pub bars : part after barsAt replicaPlaces ≡ replicate replicaPlaces beyond
+  pub execs : part after execsAt replicaPlaces ≡ replicate replicaPlaces 0
+  pub written : writtenOf (part after writtenAt writtenWords) ≡ []
   pub rest : Untouched size before after
 
 -- the node and the buffer stand for a fresh replica; what lies past the buffer's tables is as it was

@@ -1,5 +1,4 @@
--- The replica that a node and its lent buffer stand for, on any words. The buffer: 128 words of guard pairs, 64 of peers' exec bars, 320 of the
--- roster's rows, 7,744 of the slots, and 2,049 of the written keys. Assumes nothing: these are definitions.
+-- The replica that a node and its lent buffer stand for, on any words. Assumes nothing: these are definitions.
 use mathlib.Core.Bool.{Bool, false, _&&_}
 use mathlib.Core.List.{List, [], _∷_}
 use mathlib.Core.Option.{Option}
@@ -9,7 +8,8 @@ use lib.ListN.{length}
 use Rattle.words.specs.Choice.{if_then_else_, ifNone_then_else_}
 use Rattle.words.specs.Tab.{run}
 use Rattle.words.specs.Part.{part}
-use Rattle.ids.specs.Limits.{window, ranges, replicas, top, nodeWords}
+use Rattle.ids.specs.Limits.{window, ranges, replicas, top}
+use Rattle.layout.specs.Layout.{replicaPlaces, slotWords, writtenWords, rosterWords, pairWords, execsAt, rowsAt, slotsAt, writtenAt, nodeWords}
 use Rattle.roster_conf.specs.Edits.{view as rosterOf}
 use Rattle.roster_conf.specs.Ground.{Ground}
 use Rattle.bodega.specs.Replica as machine
@@ -31,11 +31,11 @@ view n m =
       me = record { id = n .id .0; population = n .population; quorum = n .quorum };
       bal = record { maxSeen = n .«bal_max_seen» .0; prepSent = n .«bal_prep_sent» .0; prepared = n .«bal_prepared» .0 };
       bar = record { start = n .«start_slot» .0; accept = n .«accept_bar» .0; commit = n .«commit_bar» .0; exec = n .«exec_bar» .0; snap = n .«snap_bar» .0 };
-      peerAccept = record { bar = pairsOf (n .population) (part m 0 128); max = n .«peer_accept_max» .0 };
-      peerExecBar = run (n .population) (part m 128 64) 0;
-      conf = rosterOf (n .«bodega_conf») (part m 192 320);
-      insts = instsOf (n .«start_slot» .0) (n .slots) (part m 512 7744);
-      highestSlot = writtenOf (part m 8256 2049);
+      peerAccept = record { bar = pairsOf (n .population) (part m 0 pairWords); max = n .«peer_accept_max» .0 };
+      peerExecBar = run (n .population) (part m execsAt replicaPlaces) 0;
+      conf = rosterOf (n .«bodega_conf») (part m rowsAt rosterWords);
+      insts = instsOf (n .«start_slot» .0) (n .slots) (part m slotsAt slotWords);
+      highestSlot = writtenOf (part m writtenAt writtenWords);
     }
 
 -- ---- what a call can make: where this is false a call is refused, 2

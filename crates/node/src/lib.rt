@@ -11,6 +11,7 @@ ghost use lib.Dec.{leb};
 ghost use lib.ListN.{length, replicate};
 ghost use Rattle.node.specs.View.{size, inRange, barsInRange, sound, ready, leadsIt};
 ghost use Rattle.ids.specs.Leader.{leaderOf};
+ghost use Rattle.layout.specs.Layout.{nodeWords};
 ghost use Rattle.node.specs.Begins.{Reset, Begins};
 
 pub struct Node {
@@ -145,23 +146,24 @@ fn fill(words: &mut [u64], v: u64)
 
 // No guard and no exec bar heard, no key written.
 fn reset(mem: &mut [u64])
-    requires { ⌜ 10305 ≤ length (now mem) ⌝ }
+    requires { ⌜ nodeWords ≤ length (now mem) ⌝ }
     ensures { λ _. ⌜ Reset (now (mem .entry)) (now (mem .exit)) ⌝ }
 {
-    fill(&mut mem[0..64], 0);
-    fill(&mut mem[64..128], Slot::BEYOND);
-    fill(&mut mem[128..192], 0);
-    mem[8256] = 0;
+    fill(&mut mem[0..layout::BARS_AT], 0);
+    fill(&mut mem[layout::BARS_AT..layout::EXECS_AT], Slot::BEYOND);
+    fill(&mut mem[layout::EXECS_AT..layout::ROWS_AT], 0);
+    mem[layout::WRITTEN_AT] = 0;
 }
 
 impl Node {
-    pub const WORDS: usize = 10305;
+    pub const WORDS: usize = layout::NODE_WORDS;
 
     pub const REPLICAS: u8 = Replica::LIMIT;
 
-    pub const WINDOW: usize = insts::WINDOW;
+    // Slots held at most, and reads held by a slot.
+    pub const WINDOW: usize = 32;
 
-    pub const HOLD: usize = inst_holding::HOLD;
+    pub const HOLD: usize = 16;
 
     pub const KEYS: usize = highest_slot::KEYS;
 

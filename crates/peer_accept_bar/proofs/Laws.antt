@@ -12,6 +12,8 @@ use lib.ListN.{length, getD, set, take, length-set}
 use lib.Seq.{getD-set-same, getD-set-other, take-suc-set}
 use borrow.Author.Tests.{le-ltb, eq-eqb, ne-eqb, not-true, not-false}
 use Rattle.words.specs.Tab.{tab, getD-tab, tab-set, tab-snoc, map-tab}
+use Rattle.ids.specs.Limits.{replicas}
+use Rattle.layout.specs.Layout.{barsAt, pairWords}
 use Rattle.bodega.specs.Replica.{Replica, pair, freshPair, withPeerAccept}
 use Rattle.bodega.specs.Conflease.{newer, counted, guardAcceptBar, updatePeerAcceptMax}
 use Rattle.peer_accept_bar.specs.Pairs.{pairsOf, peerAccept, acceptMax, guarded}
@@ -24,11 +26,11 @@ newer-no a b n k h e = simp (le-ltb a n h, ne-eqb n a e)
 pub newer-bar : (a b n k : ℕ) → n ≤ a → n ≡ a → ltb k b ≡ newer (pair a b) n k
 newer-bar a b n k h e = simp (le-ltb a n h, eq-eqb n a e)
 
-pub pair-at : (p : List ℕ) (n i : ℕ) → i < n → getD (pairsOf n p) i freshPair ≡ pair (getD p i 0) (getD p (64 + i) 0)
+pub pair-at : (p : List ℕ) (n i : ℕ) → i < n → getD (pairsOf n p) i freshPair ≡ pair (getD p i 0) (getD p (barsAt + i) 0)
 unfolding pairsOf
-pair-at p n i h = getD-tab (λ j. pair (getD p j 0) (getD p (64 + j) 0)) 0 n i freshPair h ∙ rw (zero-add i)
+pair-at p n i h = getD-tab (λ j. pair (getD p j 0) (getD p (barsAt + j) 0)) 0 n i freshPair h ∙ rw (zero-add i)
 
-pub is-newer : (p : List ℕ) (n i number bar : ℕ) (t : Bool) → i < n → t ≡ newer (pair (getD p i 0) (getD p (64 + i) 0)) number bar
+pub is-newer : (p : List ℕ) (n i number bar : ℕ) (t : Bool) → i < n → t ≡ newer (pair (getD p i 0) (getD p (barsAt + i) 0)) number bar
     → t ≡ newer (getD (pairsOf n p) i freshPair) number bar
 is-newer p n i number bar t h e = rw (pair-at p n i h) e
 
@@ -38,33 +40,33 @@ pub fill : (f : ℕ → ℕ) (b : List ℕ) (i v : ℕ) → i < length b → v �
 fill f b i v h e k = rw (tab-snoc f 0 i, zero-add i, ← e, ← k, add-one i) (take-suc-set b i v h)
 
 abbrev pub barAt : List ℕ → ℕ → ℕ → ℕ
-barAt p ballot i = counted ballot (pair (getD p i 0) (getD p (64 + i) 0))
+barAt p ballot i = counted ballot (pair (getD p i 0) (getD p (barsAt + i) 0))
 
 pub counted-are : (p : List ℕ) (ballot n : ℕ) → tab (barAt p ballot) 0 n ≡ map (counted ballot) (pairsOf n p)
 unfolding pairsOf
-counted-are p ballot n = sym (map-tab (counted ballot) (λ i. pair (getD p i 0) (getD p (64 + i) 0)) 0 n)
+counted-are p ballot n = sym (map-tab (counted ballot) (λ i. pair (getD p i 0) (getD p (barsAt + i) 0)) 0 n)
 
 -- ---- the pair altered
 
-module _ (p : List ℕ) (n i number bar : ℕ) (h : i < n) (k : n ≤ 64) (l : 128 ≤ length p) where
+module _ (p : List ℕ) (n i number bar : ℕ) (h : i < n) (k : n ≤ replicas) (l : pairWords ≤ length p) where
   abbrev moved : List ℕ
-  moved = set (set p i number) (64 + i) bar
+  moved = set (set p i number) (barsAt + i) bar
 
   pub length-moved : length moved ≡ length p
-  length-moved = length-set (set p i number) (64 + i) bar ∙ length-set p i number
+  length-moved = length-set (set p i number) (barsAt + i) bar ∙ length-set p i number
 
-  here : pair (getD moved i 0) (getD moved (64 + i) 0) ≡ pair number bar
+  here : pair (getD moved i 0) (getD moved (barsAt + i) 0) ≡ pair number bar
   here =
-      rw (getD-set-other (set p i number) (64 + i) i bar 0 (omega arith), getD-set-same p i number 0 (omega arith), getD-set-same (set p i number) (64 + i) bar 0 (rw (length-set p i number) (omega arith)))
+      rw (getD-set-other (set p i number) (barsAt + i) i bar 0 (omega arith), getD-set-same p i number 0 (omega arith), getD-set-same (set p i number) (barsAt + i) bar 0 (rw (length-set p i number) (omega arith)))
 
-  there : (j : ℕ) → j < 64 → j ≢ i → pair (getD moved j 0) (getD moved (64 + j) 0) ≡ pair (getD p j 0) (getD p (64 + j) 0)
+  there : (j : ℕ) → j < replicas → j ≢ i → pair (getD moved j 0) (getD moved (barsAt + j) 0) ≡ pair (getD p j 0) (getD p (barsAt + j) 0)
   there j f g =
-      rw (getD-set-other (set p i number) (64 + i) j bar 0 (omega arith), getD-set-other p i j number 0 g, getD-set-other (set p i number) (64 + i) (64 + j) bar 0 (omega arith), getD-set-other p i (64 + j) number 0 (omega arith))
+      rw (getD-set-other (set p i number) (barsAt + i) j bar 0 (omega arith), getD-set-other p i j number 0 g, getD-set-other (set p i number) (barsAt + i) (barsAt + j) bar 0 (omega arith), getD-set-other p i (barsAt + j) number 0 (omega arith))
 
   pub pairs-moved : pairsOf n moved ≡ set (pairsOf n p) i (pair number bar)
   unfolding pairsOf
   pairs-moved =
-      tab-set (λ j. pair (getD p j 0) (getD p (64 + j) 0)) (λ j. pair (getD moved j 0) (getD moved (64 + j) 0)) 0 n i (pair number bar) h (rw (zero-add i) here)
+      tab-set (λ j. pair (getD p j 0) (getD p (barsAt + j) 0)) (λ j. pair (getD moved j 0) (getD moved (barsAt + j) 0)) 0 n i (pair number bar) h (rw (zero-add i) here)
       (λ j x y z. there j (omega arith) (omega arith))
 
 -- ---- a guard

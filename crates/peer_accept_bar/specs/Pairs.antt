@@ -1,16 +1,17 @@
--- `peer_accept_bar` in 128 lent words: 64 guard numbers, then 64 guard bars. Assumes nothing: these are definitions.
+-- `peer_accept_bar` in lent words: the guard numbers, then the guard bars. Assumes nothing: these are definitions.
 use mathlib.Core.List.{List, map}
 use Prim.Native.Nat.{ℕ, _+_, _-_}
 use lib.ListN.{getD, set}
 use Rattle.words.specs.Choice.{if_then_else_}
 use Rattle.words.specs.Tab.{tab}
+use Rattle.layout.specs.Layout.{barsAt}
 use Rattle.rank.specs.Sort.{sort}
 use Rattle.bodega.specs.Replica.{Pair, pair, freshPair, PeerAccept}
 use Rattle.bodega.specs.Conflease.{counted, newer}
 
 -- the pairs of n replicas, on any words
 unfoldable pub pairsOf : ℕ → List ℕ → List Pair
-pairsOf n p = tab (λ i. pair (getD p i 0) (getD p (64 + i) 0)) 0 n
+pairsOf n p = tab (λ i. pair (getD p i 0) (getD p (barsAt + i) 0)) 0 n
 
 abbrev pub peerAccept : ℕ → List ℕ → ℕ → PeerAccept
 peerAccept n p max = record { bar = pairsOf n p; max = max }

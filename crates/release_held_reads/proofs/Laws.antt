@@ -12,6 +12,7 @@ use Rattle.words.specs.Choice.{if_then_else_, ifNone_then_else_}
 use Rattle.words.specs.Tab.{tab, length-tab, tab-snoc, map-tab}
 use Rattle.words.specs.Part.{part}
 use Rattle.words.specs.Writes.{writes}
+use Rattle.layout.specs.Layout.{heldPlaces, batchWords, heldWords}
 use Rattle.bitmap.specs.Bitmap.{count}
 use Rattle.items.specs.Item.{Item, Value, Retry, encode, places}
 use Rattle.items.specs.Area.{Put, putItem}
@@ -29,7 +30,7 @@ use Rattle.inst_reqs.specs.declared.Latest.{Latest}
 use Rattle.inst_reqs.specs.declared.Latest.the-variants as latest
 use Rattle.inst_holding.specs.Held.{readAt, readsOf}
 use Rattle.inst_holding.proofs.Laws.{reads-are}
-use Rattle.insts.specs.Slots.{shortAt, batchAt, readsAt, instOf, instIn, Puts}
+use Rattle.insts.specs.Slots.{batchStart, readsStart, shortAt, batchAt, readsAt, instOf, instIn, Puts}
 use Rattle.release_held_reads.specs.Release.{answerTo, holdingOf, answersOf, Releases}
 
 -- ---- whether the write is bound to commit
@@ -120,23 +121,22 @@ module _ (s : List ℕ) (c : ℕ) (cell : Cell) (e : cellOf cell ≡ shortAt s c
   unfolding instIn
   holds-some b f = rw (book-here, f)
 
-  pub holding-none : cell .«replica_bk» ≡ replica.None → (0 ≡ length (holdingOf (instIn s c))) × (0 ≤ 16)
+  pub holding-none : cell .«replica_bk» ≡ replica.None → (0 ≡ length (holdingOf (instIn s c))) × (0 ≤ heldPlaces)
   holding-none f = (rw (holds-none f), omega arith)
 
-  pub holding-some : (b : NoticeBook) (n k : ℕ) → cell .«replica_bk» ≡ replica.Some b → k ≡ 145 → (n ≡ length (readsOf (take k (drop (3104 + c * 145) s)))) × (n ≤ 16)
-      → (n ≡ length (holdingOf (instIn s c))) × (n ≤ 16)
-  unfolding readsAt part
-  holding-some b n k f w h = (h .0 ∙ ap (λ (m : ℕ). length (readsOf (take m (drop (3104 + c * 145) s)))) w ∙ ap (λ (l : List machine.ReadReq). length l) (sym (holds-some b f)), h .1)
+  pub holding-some : (b : NoticeBook) (n : ℕ) → cell .«replica_bk» ≡ replica.Some b → (n ≡ length (readsAt s c)) × (n ≤ heldPlaces)
+      → (n ≡ length (holdingOf (instIn s c))) × (n ≤ heldPlaces)
+  holding-some b n f h = (h .0 ∙ ap (λ (l : List machine.ReadReq). length l) (sym (holds-some b f)), h .1)
 
 module _ (quorum : ℕ) (leader : Option ℕ) (s area : List ℕ) (c place n : ℕ) (cell : Cell) (bound : Bool)
-    (h : (n ≡ length (holdingOf (instIn s c))) × (n ≤ 16)) (e : cellOf cell ≡ shortAt s c)
+    (h : (n ≡ length (holdingOf (instIn s c))) × (n ≤ heldPlaces)) (e : cellOf cell ≡ shortAt s c)
     (b : (reqs : List machine.Request) (reads : List machine.ReadReq) → bound ≡ isBound quorum (instOf (cellOf cell) reqs reads)) where
   bound-is : isBound quorum (instIn s c) ≡ bound
   unfolding instIn
   bound-is = sym (b (batchAt s c) (readsAt s c) ∙ ap (λ (x : Short). isBound quorum (instOf x (batchAt s c) (readsAt s c))) e)
 
   abbrev answerAt : ℕ → Item
-  answerAt i = answerTo bound leader (batchAt s c) (readAt (part s (3104 + c * 145) 145) i)
+  answerAt i = answerTo bound leader (batchAt s c) (readAt (part s (readsStart c) heldWords) i)
 
   answers-are : answersOf quorum leader (instIn s c) ≡ tab answerAt 0 n
   unfolding instIn readsAt
@@ -148,20 +148,24 @@ module _ (quorum : ℕ) (leader : Option ℕ) (s area : List ℕ) (c place n : �
           ap (map (answerTo bound leader (batchAt s c))) (holds-none s c cell e f) ∙ ap (tab answerAt 0) (sym z)
       go (replica.Some k) f =
           let q = holds-some s c cell e k f in
-          ap (map (answerTo bound leader (batchAt s c))) (q ∙ reads-are (part s (3104 + c * 145) 145) n (h .0 ∙ ap (λ (l : List machine.ReadReq). length l) q))
-          ∙ map-tab (answerTo bound leader (batchAt s c)) (readAt (part s (3104 + c * 145) 145)) 0 n
+          ap (map (answerTo bound leader (batchAt s c))) (q ∙ reads-are (part s (readsStart c) heldWords) n (h .0 ∙ ap (λ (l : List machine.ReadReq). length l) q))
+          ∙ map-tab (answerTo bound leader (batchAt s c)) (readAt (part s (readsStart c) heldWords)) 0 n
 
-  pub released : (k l : ℕ) (area′ t : List ℕ) → k ≡ 89 → l ≡ 145
-      → area′ ≡ writes area (place * 6) (encode (tab (λ i. answerTo bound leader (requestsOf (take k (drop (256 + c * 89) s))) (readAt (take l (drop (3104 + c * 145) s)) i)) 0 n))
+  abbrev Written : ℕ → ℕ → ℕ → ℕ → List ℕ
+  Written a k d l =
+      writes area (place * 6) (encode (tab (λ i. answerTo bound leader (requestsOf (take k (drop a s))) (readAt (take l (drop d s)) i)) 0 n))
+
+  pub released : (a d k l : ℕ) (area′ t : List ℕ) → a ≡ batchStart c → d ≡ readsStart c → k ≡ batchWords → l ≡ heldWords
+      → area′ ≡ writes area (place * 6) (encode (tab (λ i. answerTo bound leader (requestsOf (take k (drop a s))) (readAt (take l (drop d s)) i)) 0 n))
       → Puts s c (shortAt s c) (batchAt s c) [] t → Releases quorum leader c place s area n t area′
   unfolding batchAt part
-  released k l area′ t x y w p =
+  released a d k l area′ t f g x y w p =
       record {
         count = sym (ap (λ (z : List Item). length z) answers-are ∙ length-tab answerAt 0 n);
         items =
-            w
-            ∙ ap (λ (j : ℕ). writes area (place * 6) (encode (tab (λ i. answerTo bound leader (requestsOf (take j (drop (256 + c * 89) s))) (readAt (take l (drop (3104 + c * 145) s)) i)) 0 n))) x
-            ∙ ap (λ (j : ℕ). writes area (place * 6) (encode (tab (λ i. answerTo bound leader (batchAt s c) (readAt (take j (drop (3104 + c * 145) s)) i)) 0 n))) y
+            w ∙ ap (λ (j : ℕ). Written j k d l) f ∙ ap (λ (j : ℕ). Written (batchStart c) k j l) g
+            ∙ ap (λ (j : ℕ). Written (batchStart c) j (readsStart c) l) x
+            ∙ ap (λ (j : ℕ). Written (batchStart c) batchWords (readsStart c) j) y
             ∙ ap (λ (z : List Item). writes area (place * 6) (encode z)) (sym answers-are);
         emptied = p;
       }

@@ -17,6 +17,7 @@ ghost use Rattle.words.specs.Tab.{tab};
 ghost use Rattle.words.specs.Writes.{writes};
 ghost use Rattle.bitmap.specs.Bitmap.{count};
 ghost use Rattle.ids.specs.Leader.{leaderOf};
+ghost use Rattle.layout.specs.Layout.{slotPlaces, heldPlaces, batchWords, heldWords, slotWords};
 ghost use Rattle.items.specs.Item.{itemOf, encode, places};
 ghost use Rattle.bodega.specs.Replica.{Request, ReadReq as Held};
 ghost use Rattle.bodega.specs.Localread.{isBound};
@@ -53,7 +54,7 @@ pub fn is_bound(cell: Cell, quorum: u8) -> bool
 
 // What a read gets that the slot of this batch held.
 fn answer_to(bound: bool, leader: Leader, batch: &[u64], read: ReadReq) -> Item
-    requires { ⌜ 89 ≤ length (now batch) ⌝ }
+    requires { ⌜ batchWords ≤ length (now batch) ⌝ }
     ensures { λ r. ⌜ itemOf r ≡ answerTo bound (leaderOf leader) (requestsOf (now (batch .entry))) (readOf read) ⌝ }
 {
     if !bound {
@@ -89,7 +90,7 @@ fn put_answers(
     area: &mut [u64],
     place: usize,
 )
-    requires { ⌜ (89 ≤ length (now batch)) × (145 ≤ length (now reads)) × (n ≤ 16) × (place + n ≤ places (now area)) ⌝ }
+    requires { ⌜ (batchWords ≤ length (now batch)) × (heldWords ≤ length (now reads)) × (n ≤ heldPlaces) × (place + n ≤ places (now area)) ⌝ }
     ensures { λ _. ⌜ now (area .exit) ≡ writes (now (area .entry)) (place * 6) (encode (tab (λ i. answerTo bound (leaderOf leader) (requestsOf (now (batch .entry))) (readAt (now (reads .entry)) i)) 0 n)) ⌝ }
 {
     let mut i = 0;
@@ -103,17 +104,15 @@ fn put_answers(
 
 // How many reads the slot at place c holds: none where it has no notice book.
 pub fn holding(s: &[u64], c: usize) -> usize
-    requires { ⌜ (c < 32) × (7744 ≤ length (now s)) ⌝ }
-    ensures { λ r. ⌜ (r ≡ length (holdingOf (instIn (now (s .entry)) c))) × (r ≤ 16) ⌝ }
+    requires { ⌜ (c < slotPlaces) × (slotWords ≤ length (now s)) ⌝ }
+    ensures { λ r. ⌜ (r ≡ length (holdingOf (instIn (now (s .entry)) c))) × (r ≤ heldPlaces) ⌝ }
 {
     let cell = insts::load(s, c);
     let book = cell.replica_bk;
     let ReplicaBk::Some(_b) = book else {
         return 0;
     };
-    let a = 3104 + c * 145;
-    let e = a + 145;
-    inst_holding::count(&s[a..e])
+    insts::count_reads(s, c)
 }
 
 // `release_held_read_reqs` for the slot at place c: its items from a place of the area on, and its queue emptied. Returns how many items.
@@ -125,16 +124,16 @@ pub fn release(
     area: &mut [u64],
     place: usize,
 ) -> usize
-    requires { ⌜ (c < 32) × (7744 ≤ length (now s)) × (place + length (holdingOf (instIn (now s) c)) ≤ places (now area)) ⌝ }
+    requires { ⌜ (c < slotPlaces) × (slotWords ≤ length (now s)) × (place + length (holdingOf (instIn (now s) c)) ≤ places (now area)) ⌝ }
     ensures { λ r. ⌜ Releases quorum (leaderOf leader) c place (now (s .entry)) (now (area .entry)) r (now (s .exit)) (now (area .exit)) ⌝ }
 {
     let n = holding(s, c);
     let cell = insts::load(s, c);
     let bound = is_bound(cell, quorum);
-    let a = 256 + c * 89;
-    let e = a + 89;
-    let b = 3104 + c * 145;
-    let f = b + 145;
+    let a = insts::batch_at(c);
+    let e = a + layout::BATCH_WORDS;
+    let b = insts::reads_at(c);
+    let f = b + layout::HELD_WORDS;
     put_answers(bound, leader, &s[a..e], &s[b..f], n, area, place);
     insts::clear_reads(s, c);
     n

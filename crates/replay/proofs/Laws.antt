@@ -11,6 +11,7 @@ use lib.Signed.{ltZ}
 use borrow.Author.Tests.{ltb-true, ltb-false}
 use Rattle.words.specs.Text.{Bytes}
 use Rattle.words.specs.Part.{splice}
+use Rattle.layout.specs.Layout.{rosterWords, nodeWords}
 use Rattle.stream_events.proofs.Laws.{fresh-lent}
 use Rattle.stream_turns.specs.declared.Stream.{Stream}
 use Rattle.stream_turns.specs.declared.TurnResult.{TurnResult}
@@ -70,7 +71,7 @@ module _ (interrupted : Bool) (have end : ℕ) where
 pub begins : (s : Stream) (buf : Bytes) (mem rows : List ℕ) → Begins s → TurnsSoFar s buf mem rows
 begins s buf mem rows b = record { pieces = []; text = []; went = spec.none b }
 
-pub begun : (s : Stream) (buf : Bytes) (mem rows area groups : List ℕ) → Begins s → 10305 ≤ length mem → 320 ≤ length rows → length area ≡ 3276 → 1542 ≤ length groups → Stands s buf mem rows area groups
+pub begun : (s : Stream) (buf : Bytes) (mem rows area groups : List ℕ) → Begins s → nodeWords ≤ length mem → rosterWords ≤ length rows → length area ≡ 3276 → 1542 ≤ length groups → Stands s buf mem rows area groups
 begun s buf mem rows area groups b m r a g = record {
   order = omega (arith, b .atStart);
   within = omega (arith, b .noByte);

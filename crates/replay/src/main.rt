@@ -8,6 +8,7 @@ ghost use mathlib.Core.Path.{_≡_};
 ghost use mathlib.Core.Bool.{true};
 ghost use Prim.Native.Nat.{_≤_, _<_};
 ghost use lib.ListN.{length};
+ghost use Rattle.layout.specs.Layout.{rosterWords, nodeWords};
 ghost use Rattle.replay.specs.Reads.{filledAs, Filling};
 ghost use Rattle.replay.specs.Steps.{Stands, Steps};
 
@@ -134,7 +135,7 @@ fn run(
     groups: &mut [u64],
     out: &mut [u8],
 )
-    requires { ⌜ (1025 ≤ length (now buf)) × (10305 ≤ length (now mem)) × (320 ≤ length (now rows)) × (length (now area) ≡ 3276) × (1542 ≤ length (now groups)) × (65536 ≤ length (now out)) ⌝ }
+    requires { ⌜ (1025 ≤ length (now buf)) × (nodeWords ≤ length (now mem)) × (rosterWords ≤ length (now rows)) × (length (now area) ≡ 3276) × (1542 ≤ length (now groups)) × (65536 ≤ length (now out)) ⌝ }
 {
     let stream = Stream::fresh();
     let mut s = Next { stream, on: true };

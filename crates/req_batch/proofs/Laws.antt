@@ -12,6 +12,7 @@ use lib.ListN.{length, getD, set, take, drop, length-take, length-drop, drop-of-
 use lib.Seq.{take-all, take-length, drop-length, getD-set-other}
 use Rattle.words.specs.Part.{part}
 use Rattle.words.specs.Tab.{tab, tab-snoc, length-tab}
+use Rattle.layout.specs.Layout.{requestPlaces, batchWords}
 use Rattle.roster_conf.specs.Edit.{longKey}
 use Rattle.bodega.specs.Replica as machine
 use Rattle.inst_reqs.specs.Batch.{requestsOf, Pushes}
@@ -114,13 +115,13 @@ short-at rows text i e h = rw (zero-add i) at (none-long (givenAt rows text) 0 (
 pub record Loaded (rows text s t : List ℕ) (i : ℕ) : Type 0 where
   pub fits : length t ≡ length s
   pub requests : requestsOf t ≡ tab (givenAt rows text) 0 i
-  pub beyond : (j : ℕ) → 89 ≤ j → getD t j 0 ≡ getD s j 0
+  pub beyond : (j : ℕ) → batchWords ≤ j → getD t j 0 ≡ getD s j 0
 
 pub loaded-start : (rows text t : List ℕ) → requestsOf t ≡ [] → Loaded rows text t t 0
 loaded-start rows text t e = record { fits = refl; requests = e; beyond = λ j h. refl }
 
 -- in the words of the code: q is the request that was read, t what its push left
-pub loaded-next : (rows text s₀ s t : List ℕ) (i : ℕ) (q : machine.Request) (r : Bool) → Loaded rows text s₀ s i → i < 8 → q ≡ givenAt rows text i → Pushes s q r t → length t ≡ length s
+pub loaded-next : (rows text s₀ s t : List ℕ) (i : ℕ) (q : machine.Request) (r : Bool) → Loaded rows text s₀ s i → i < requestPlaces → q ≡ givenAt rows text i → Pushes s q r t → length t ≡ length s
     → Loaded rows text s₀ t (i + 1)
 loaded-next rows text s₀ s t i q r l h e p k =
     let m : length (requestsOf s) ≡ i = rw (l .requests) (length-tab (givenAt rows text) 0 i) in

@@ -6,6 +6,7 @@ use Prim.Native.Nat.{ℕ, _+_, _*_, _/_, _≤_}
 use lib.ListN.{length, getD}
 use Rattle.words.specs.Part.{part}
 use Rattle.words.specs.Tab.{tab}
+use Rattle.layout.specs.Layout.{batchWords}
 use Rattle.bodega.specs.Replica as machine
 use Rattle.bodega.specs.Grounds.{any}
 use Rattle.roster_conf.specs.Edit.{longKey}
@@ -34,4 +35,4 @@ anyLong qs = any (λ (q : machine.Request). longKey (q .key)) qs
 -- the words t are those of s with the batch loaded
 pub record Loads (rows text s t : List ℕ) : Type 0 where
   pub requests : requestsOf t ≡ given rows text
-  pub beyond : (j : ℕ) → 89 ≤ j → getD t j 0 ≡ getD s j 0
+  pub beyond : (j : ℕ) → batchWords ≤ j → getD t j 0 ≡ getD s j 0

@@ -10,6 +10,7 @@ ghost use mathlib.Core.List.{List};
 ghost use Prim.Native.Nat.{ℕ, _/_, _<_, _≤_, min};
 ghost use lib.ListN.{length};
 ghost use Rattle.words.specs.Part.{part};
+ghost use Rattle.layout.specs.Layout.{requestPlaces, batchWords};
 ghost use Rattle.key_words.specs.Key.{bytesOf};
 ghost use Rattle.roster_conf.specs.Edit.{longKey};
 ghost use Rattle.inst_reqs.specs.Batch.{requestOf};
@@ -88,8 +89,8 @@ fn request_at(rows: &[u64], text: &[u8], i: usize) -> Request
 
 // The batch of a slot that holds these requests.
 pub fn load(rows: &[u64], text: &[u8], out: &mut [u64])
-    requires { ⌜ 89 ≤ length (now out) ⌝ }
-    requires { ⌜ length (given (now rows) (now text)) ≤ 8 ⌝ }
+    requires { ⌜ batchWords ≤ length (now out) ⌝ }
+    requires { ⌜ length (given (now rows) (now text)) ≤ requestPlaces ⌝ }
     requires { ⌜ anyLong (given (now rows) (now text)) ≡ false ⌝ }
     ensures { λ _. ⌜ Loads (now (rows .entry)) (now (text .entry)) (now (out .entry)) (now (out .exit)) ⌝ }
 {

@@ -13,6 +13,7 @@ use Rattle.ids.specs.declared.Replica.{Replica}
 use Rattle.ids.specs.declared.Leader.{Leader}
 use Rattle.ids.specs.declared.Leader.the-variants.{None, Some}
 use Rattle.ids.specs.Leader.{leaderOf}
+use Rattle.layout.specs.Layout.{rosterRow, rosterWords}
 use Rattle.bitmap.specs.Bitmap.{fits}
 use Rattle.roster_ranges.specs.Range.{Range, goesOn}
 use Rattle.roster_ranges.specs.Canon.{heads, isCanon}
@@ -60,7 +61,7 @@ rows-start s u n k e = rw (from-all s n, from-all u n) (ap (λ (z : ℕ). sameRa
 
 -- m is the answer; t whether row i is the same in both
 module _ (s u : List ℕ) (n i : ℕ) (m : Bool) where
-  module _ (t : Bool) (h : i < n) (e : t ≡ sameRange (rangeAt s (i * 5)) (rangeAt u (i * 5))) (g : sameRanges (rowsFrom s i n) (rowsFrom u i n) ≡ m) where
+  module _ (t : Bool) (h : i < n) (e : t ≡ sameRange (rangeAt s (i * rosterRow)) (rangeAt u (i * rosterRow))) (g : sameRanges (rowsFrom s i n) (rowsFrom u i n) ≡ m) where
     cut : t && sameRanges (rowsFrom s (i + 1) n) (rowsFrom u (i + 1) n) ≡ m
     cut = rw e (sym (rw (from-first s i n h, from-first u i n h)) ∙ g)
 
@@ -117,9 +118,9 @@ canon-start s n = rw (from-all s n)
 
 module _ (s : List ℕ) (n i : ℕ) (m : Bool) where
   abbrev this : Range
-  this = rangeAt s (i * 5)
+  this = rangeAt s (i * rosterRow)
 
-  module _ (t : Bool) (h : i < n) (e : (n ≤ i + 1 → t ≡ heads this []) × (i + 1 < n → t ≡ heads this (rangeAt s ((i + 1) * 5) ∷ []))) (g : isCanon (rowsFrom s i n) ≡ m) where
+  module _ (t : Bool) (h : i < n) (e : (n ≤ i + 1 → t ≡ heads this []) × (i + 1 < n → t ≡ heads this (rangeAt s ((i + 1) * rosterRow) ∷ []))) (g : isCanon (rowsFrom s i n) ≡ m) where
     heads-rest : t ≡ heads this (rowsFrom s (i + 1) n)
     heads-rest = go (ltb (i + 1) n) refl
       where
@@ -166,7 +167,7 @@ pub any-start : (s : List ℕ) (n p : ℕ) → any (misfit p) (rowsFrom s 0 n) �
 any-start s n p = rw (from-all s n)
 
 module _ (s : List ℕ) (n i p : ℕ) (m : Bool) where
-  module _ (t : Bool) (h : i < n) (e : t ≡ not (fits (rangeAt s (i * 5) .mask) p)) (g : any (misfit p) (rowsFrom s i n) ≡ m) where
+  module _ (t : Bool) (h : i < n) (e : t ≡ not (fits (rangeAt s (i * rosterRow) .mask) p)) (g : any (misfit p) (rowsFrom s i n) ≡ m) where
     shorter : t || any (misfit p) (rowsFrom s (i + 1) n) ≡ m
     shorter = rw e (sym (rw (from-first s i n h)) ∙ g)
 
@@ -190,7 +191,7 @@ module _ (p : ℕ) (c : RespondersConf) (s : List ℕ) (t : Bool) (e : t ≡ any
 
 -- ---- the rows copied
 
-pub copied : (c : RespondersConf) (s t from : List ℕ) → c .count ≤ 64 → 320 ≤ length from → 320 ≤ length s → t ≡ writes s 0 (take (c .count * 5) from) → view c t ≡ view c from
+pub copied : (c : RespondersConf) (s t from : List ℕ) → c .count ≤ 64 → rosterWords ≤ length from → rosterWords ≤ length s → t ≡ writes s 0 (take (c .count * rosterRow) from) → view c t ≡ view c from
 unfolding view
 copied c s t from h f g e =
     ap (λ (l : List Range). record { leader = leaderOf (c .leader); ranges = l; default = c .default })

@@ -13,6 +13,7 @@ ghost use lib.Dec.{ltb};
 ghost use lib.ListN.{length, take};
 ghost use Rattle.words.specs.Writes.{writes};
 ghost use Rattle.ids.specs.Leader.{leaderOf};
+ghost use Rattle.layout.specs.Layout.{rosterRow, rosterWords};
 ghost use Rattle.bitmap.specs.Bitmap.{fits};
 ghost use Rattle.roster_ranges.specs.Range.{Range, goesOn};
 ghost use Rattle.roster_ranges.specs.Canon.{follows, heads, isCanon};
@@ -50,8 +51,8 @@ fn same_leader(a: Leader, b: Leader) -> bool
 }
 
 fn same_row(crows: &[u64], drows: &[u64], i: usize) -> bool
-    requires { ⌜ (i * 5 + 5 ≤ length (now crows)) × (i * 5 + 5 ≤ length (now drows)) ⌝ }
-    ensures { λ r. ⌜ r ≡ sameRange (rangeAt (now (crows .entry)) (i * 5)) (rangeAt (now (drows .entry)) (i * 5)) ⌝ }
+    requires { ⌜ (i * rosterRow + rosterRow ≤ length (now crows)) × (i * rosterRow + rosterRow ≤ length (now drows)) ⌝ }
+    ensures { λ r. ⌜ r ≡ sameRange (rangeAt (now (crows .entry)) (i * rosterRow)) (rangeAt (now (drows .entry)) (i * rosterRow)) ⌝ }
 {
     let x = roster_map::get_row(crows, i);
     let y = roster_map::get_row(drows, i);
@@ -65,7 +66,7 @@ fn same_row(crows: &[u64], drows: &[u64], i: usize) -> bool
 }
 
 fn same_rows(crows: &[u64], n: usize, drows: &[u64], k: usize) -> bool
-    requires { ⌜ (n * 5 ≤ length (now crows)) × (k * 5 ≤ length (now drows)) ⌝ }
+    requires { ⌜ (n * rosterRow ≤ length (now crows)) × (k * rosterRow ≤ length (now drows)) ⌝ }
     ensures { λ r. ⌜ r ≡ sameRanges (rangesOf (now (crows .entry)) n) (rangesOf (now (drows .entry)) k) ⌝ }
 {
     if n != k {
@@ -83,7 +84,7 @@ fn same_rows(crows: &[u64], n: usize, drows: &[u64], k: usize) -> bool
 
 // `==`: as they are stored.
 pub fn same(c: RespondersConf, crows: &[u64], d: RespondersConf, drows: &[u64]) -> bool
-    requires { ⌜ (c .count * 5 ≤ length (now crows)) × (d .count * 5 ≤ length (now drows)) ⌝ }
+    requires { ⌜ (c .count * rosterRow ≤ length (now crows)) × (d .count * rosterRow ≤ length (now drows)) ⌝ }
     ensures { λ r. ⌜ r ≡ same (rosterOf c (now (crows .entry))) (rosterOf d (now (drows .entry))) ⌝ }
 {
     let a = c.leader;
@@ -109,8 +110,8 @@ fn is_apart(x: Row, y: Row) -> bool
 
 // Whether row i of n is a range that the next one does not touch.
 fn heads(rows: &[u64], i: usize, n: usize) -> bool
-    requires { ⌜ (i < n) × (n * 5 ≤ length (now rows)) ⌝ }
-    ensures { λ r. ⌜ (n ≤ i + 1 → r ≡ heads (rangeAt (now (rows .entry)) (i * 5)) []) × (i + 1 < n → r ≡ heads (rangeAt (now (rows .entry)) (i * 5)) (rangeAt (now (rows .entry)) ((i + 1) * 5) ∷ [])) ⌝ }
+    requires { ⌜ (i < n) × (n * rosterRow ≤ length (now rows)) ⌝ }
+    ensures { λ r. ⌜ (n ≤ i + 1 → r ≡ heads (rangeAt (now (rows .entry)) (i * rosterRow)) []) × (i + 1 < n → r ≡ heads (rangeAt (now (rows .entry)) (i * rosterRow)) (rangeAt (now (rows .entry)) ((i + 1) * rosterRow) ∷ [])) ⌝ }
 {
     let row = roster_map::get_row(rows, i);
     if inty::lt(row.end, row.start) {
@@ -124,7 +125,7 @@ fn heads(rows: &[u64], i: usize, n: usize) -> bool
 }
 
 fn is_canon(rows: &[u64], n: usize) -> bool
-    requires { ⌜ n * 5 ≤ length (now rows) ⌝ }
+    requires { ⌜ n * rosterRow ≤ length (now rows) ⌝ }
     ensures { λ r. ⌜ r ≡ isCanon (rangesOf (now (rows .entry)) n) ⌝ }
 {
     let mut i = 0;
@@ -139,7 +140,7 @@ fn is_canon(rows: &[u64], n: usize) -> bool
 
 // Whether no edits make such rows.
 pub fn is_unformed(c: RespondersConf, rows: &[u64]) -> bool
-    requires { ⌜ (c .count ≤ 64) × (320 ≤ length (now rows)) ⌝ }
+    requires { ⌜ (c .count ≤ 64) × (rosterWords ≤ length (now rows)) ⌝ }
     ensures { λ r. ⌜ r ≡ unformed (some (rosterOf c (now (rows .entry)))) ⌝ }
 {
     !is_canon(rows, c.count)
@@ -157,15 +158,15 @@ pub fn foreign_leader(population: u8, c: RespondersConf) -> bool
 }
 
 fn foreign_row(population: u8, rows: &[u64], i: usize) -> bool
-    requires { ⌜ i * 5 + 5 ≤ length (now rows) ⌝ }
-    ensures { λ r. ⌜ r ≡ not (fits (rangeAt (now (rows .entry)) (i * 5) .mask) population) ⌝ }
+    requires { ⌜ i * rosterRow + rosterRow ≤ length (now rows) ⌝ }
+    ensures { λ r. ⌜ r ≡ not (fits (rangeAt (now (rows .entry)) (i * rosterRow) .mask) population) ⌝ }
 {
     let row = roster_map::get_row(rows, i);
     !bitmap::fits(row.mask, population)
 }
 
 fn foreign_rows(population: u8, rows: &[u64], n: usize) -> bool
-    requires { ⌜ n * 5 ≤ length (now rows) ⌝ }
+    requires { ⌜ n * rosterRow ≤ length (now rows) ⌝ }
     ensures { λ r. ⌜ r ≡ any (λ (x : Range). not (fits (x .mask) population)) (rangesOf (now (rows .entry)) n) ⌝ }
 {
     let mut i = 0;
@@ -180,7 +181,7 @@ fn foreign_rows(population: u8, rows: &[u64], n: usize) -> bool
 
 // A mask has a bit at or above the population.
 pub fn foreign_mask(population: u8, c: RespondersConf, rows: &[u64]) -> bool
-    requires { ⌜ c .count * 5 ≤ length (now rows) ⌝ }
+    requires { ⌜ c .count * rosterRow ≤ length (now rows) ⌝ }
     ensures { λ r. ⌜ r ≡ foreignMask population (some (rosterOf c (now (rows .entry)))) ⌝ }
 {
     if foreign_rows(population, rows, c.count) {
@@ -191,10 +192,10 @@ pub fn foreign_mask(population: u8, c: RespondersConf, rows: &[u64]) -> bool
 
 // The rows of c, from one lent buffer into another; what lies past them stays as it was.
 pub fn copy(c: RespondersConf, from: &[u64], to: &mut [u64])
-    requires { ⌜ (c .count ≤ 64) × (320 ≤ length (now from)) × (320 ≤ length (now to)) ⌝ }
-    ensures { λ _. ⌜ (rosterOf c (now (to .exit)) ≡ rosterOf c (now (from .entry))) × (now (to .exit) ≡ writes (now (to .entry)) 0 (take (c .count * 5) (now (from .entry)))) ⌝ }
+    requires { ⌜ (c .count ≤ 64) × (rosterWords ≤ length (now from)) × (rosterWords ≤ length (now to)) ⌝ }
+    ensures { λ _. ⌜ (rosterOf c (now (to .exit)) ≡ rosterOf c (now (from .entry))) × (now (to .exit) ≡ writes (now (to .entry)) 0 (take (c .count * rosterRow) (now (from .entry)))) ⌝ }
 {
-    words::copy_words(to, from, c.count * 5);
+    words::copy_words(to, from, c.count * layout::ROSTER_ROW);
 }
 
 // Whether the peer proposed the ballot: its low byte is the proposer's number and one.

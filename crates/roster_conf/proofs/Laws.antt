@@ -14,6 +14,7 @@ use Rattle.ids.specs.declared.Replica.{Replica}
 use Rattle.ids.specs.declared.Leader.{Leader}
 use Rattle.ids.specs.declared.Leader.the-variants.{None, Some}
 use Rattle.ids.specs.Leader.{leaderOf}
+use Rattle.layout.specs.Layout.{rosterRow, rosterWords}
 use Rattle.inty.specs.declared.Inty.{Inty}
 use Rattle.inty.specs.Value.{valueOf}
 use Rattle.bitmap.specs.Bitmap.{fits, setTo}
@@ -45,11 +46,11 @@ and-false true = refl
 and-false false = refl
 
 module _ (len count : ℕ) where
-  pub short-rows : len < 320 → false ≡ holdsRows len count
-  short-rows h = sym (simp (lt-leb 320 len h))
+  pub short-rows : len < rosterWords → false ≡ holdsRows len count
+  short-rows h = sym (simp (lt-leb rosterWords len h))
 
-  pub long-rows : 320 ≤ len → leb count 64 ≡ holdsRows len count
-  long-rows h = sym (simp (le-leb 320 len h))
+  pub long-rows : rosterWords ≤ len → leb count 64 ≡ holdsRows len count
+  long-rows h = sym (simp (le-leb rosterWords len h))
 
   module _ (t : Bool) (e : t ≡ holdsRows len count) (p : ℕ) where
     pub not-whole : not t ≡ true → false ≡ holdsRows len count && inRange p
@@ -62,10 +63,10 @@ module _ (len count : ℕ) where
     somebody f g = sym (ap (λ (b : Bool). b && inRange p) (sym e ∙ not-false t f) ∙ simp (le-leb 1 p g))
 
   whole-few : holdsRows len count ≡ true → count ≤ 64
-  whole-few e = leb-true count 64 (and-both (leb 320 len) (leb count 64) e .1)
+  whole-few e = leb-true count 64 (and-both (leb rosterWords len) (leb count 64) e .1)
 
-  whole-long : holdsRows len count ≡ true → 320 ≤ len
-  whole-long e = leb-true 320 len (and-both (leb 320 len) (leb count 64) e .0)
+  whole-long : holdsRows len count ≡ true → rosterWords ≤ len
+  whole-long e = leb-true rosterWords len (and-both (leb rosterWords len) (leb count 64) e .0)
 
   module _ (t : Bool) (p : ℕ) (e : t ≡ holdsRows len count && inRange p) (f : not t ≡ false) where
     ready-whole : holdsRows len count ≡ true
@@ -74,13 +75,13 @@ module _ (len count : ℕ) where
     pub ready-few : count ≤ 64
     ready-few = whole-few ready-whole
 
-    pub ready-long : 320 ≤ len
+    pub ready-long : rosterWords ≤ len
     ready-long = whole-long ready-whole
 
-    pub ready : (count ≤ 64) × (320 ≤ len)
+    pub ready : (count ≤ 64) × (rosterWords ≤ len)
     ready = (ready-few, ready-long)
 
-  pub whole-rows : (t : Bool) → t ≡ holdsRows len count → not t ≡ false → count * 5 ≤ len
+  pub whole-rows : (t : Bool) → t ≡ holdsRows len count → not t ≡ false → count * rosterRow ≤ len
   whole-rows t e f =
       let w : holdsRows len count ≡ true = sym e ∙ not-false t f in
       omega (arith, whole-few w, whole-long w)

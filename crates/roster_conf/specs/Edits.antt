@@ -10,6 +10,7 @@ use Rattle.words.specs.Choice.{if_then_else_}
 use Rattle.ids.specs.Leader.{leaderOf}
 use Rattle.ids.specs.Limits.{ranges, replicas}
 use Rattle.words.specs.Part.{Untouched}
+use Rattle.layout.specs.Layout.{rosterWords}
 use Rattle.roster_map.specs.Rows.{rangesOf}
 use Rattle.roster_conf.specs.declared.RespondersConf.{RespondersConf}
 use Rattle.roster_conf.specs.declared.Edited.{Edited}
@@ -25,7 +26,7 @@ view c rows = record { leader = leaderOf (c .leader); ranges = rangesOf rows (c 
 
 -- the words hold 64 rows, and no more are counted
 abbrev pub holdsRows : ℕ → ℕ → Bool
-holdsRows len count = leb (ranges * 5) len && leb count ranges
+holdsRows len count = leb rosterWords len && leb count ranges
 
 -- "population 1 to 64"
 abbrev pub inRange : ℕ → Bool
@@ -38,7 +39,7 @@ due population c rows e = if holdsRows (length rows) (c .count) && inRange popul
 pub record Leaves (c : Conf) (before : List ℕ) (d : RespondersConf) (after : List ℕ) : Type 0 where
   pub roster : view d after ≡ c
   pub few : d .count ≤ ranges
-  pub beyond : Untouched (ranges * 5) before after
+  pub beyond : Untouched rosterWords before after
 
 -- a refusal gives the number, and the words stay as they were
 abbrev pub Gives : EditResult → Edited → List ℕ → List ℕ → Type 0

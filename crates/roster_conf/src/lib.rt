@@ -11,6 +11,7 @@ ghost use mathlib.Core.List.{List};
 ghost use Prim.Native.Nat.{ℕ, _≤_};
 ghost use lib.ListN.{length};
 ghost use Rattle.ids.specs.Leader.{leaderOf};
+ghost use Rattle.layout.specs.Layout.{rosterWords};
 ghost use Rattle.roster_conf.specs.Conf.{empty, leaderWithout};
 ghost use Rattle.roster_conf.specs.Edit.{SetLeader, SetResponders, SetFull, IntoFiltered, ResetFull};
 ghost use Rattle.roster_conf.specs.Edits.{view, holdsRows, inRange, Gives, Edits, lookup};
@@ -93,7 +94,7 @@ fn ask(population: u8, start: &[u8], end: &[u8], mask: u64) -> Asked
 
 // 17: the row over those of a roster, where they stay 64 or fewer.
 fn store(conf: RespondersConf, rows: &mut [u64], w: Row) -> Edited
-    requires { ⌜ (conf .count ≤ 64) × (320 ≤ length (now rows)) ⌝ }
+    requires { ⌜ (conf .count ≤ 64) × (rosterWords ≤ length (now rows)) ⌝ }
     ensures { λ r. ⌜ Gives (storing (stored (view conf (now (rows .entry))) w)) r (now (rows .entry)) (now (rows .exit)) ⌝ }
 {
     let Stored::Rows(n) = roster_map::set(rows, conf.count, w) else {
@@ -124,7 +125,7 @@ impl RespondersConf {
     // Ranges stored at most, and the words that hold them.
     pub const RANGES: usize = roster_map::RANGES;
 
-    pub const WORDS: usize = roster_map::RANGES * 5;
+    pub const WORDS: usize = layout::ROSTER_WORDS;
 
     pub fn empty() -> RespondersConf
         ensures { λ r. ⌜ ((rows : List ℕ) → view r rows ≡ empty) × (r .count ≤ 64) ⌝ }

@@ -16,6 +16,7 @@ use Rattle.words.specs.Choice.{if_then_else_, ifNone_then_else_}
 use Rattle.words.specs.Tab.{tab, tab-snoc, tab-ext, length-tab}
 use Rattle.words.specs.Writes.{writes, writes-other, writes-same, writes-take}
 use Rattle.ids.specs.declared.Replica.{Replica}
+use Rattle.layout.specs.Layout.{rosterRow, rosterWords}
 use Rattle.bitmap.specs.Bitmap.{setTo}
 use Rattle.inty.specs.Value.{valueOf, checked, bounded}
 use Rattle.inty.specs.declared.Inty.{Inty}
@@ -36,70 +37,70 @@ use Rattle.roster_map.specs.Rows.{rangeOf, rowWords, rangeAt, rangesOf, 
 
 -- the rows from i up to n
 abbrev pub rowsFrom : List ℕ → ℕ → ℕ → List Range
-rowsFrom s i n = tab (λ j. rangeAt s (j * 5)) i (n - i)
+rowsFrom s i n = tab (λ j. rangeAt s (j * rosterRow)) i (n - i)
 
 module _ (s : List ℕ) where
-  pub from-first : (i n : ℕ) → i < n → rowsFrom s i n ≡ rangeAt s (i * 5) ∷ rowsFrom s (i + 1) n
+  pub from-first : (i n : ℕ) → i < n → rowsFrom s i n ≡ rangeAt s (i * rosterRow) ∷ rowsFrom s (i + 1) n
   from-first i n h =
       let e : n - i ≡ suc (n - (i + 1)) = omega arith in
-      ap (tab (λ j. rangeAt s (j * 5)) i) e
+      ap (tab (λ j. rangeAt s (j * rosterRow)) i) e
 
   pub from-none : (i n : ℕ) → n ≤ i → rowsFrom s i n ≡ []
-  from-none i n h = let e : n - i ≡ 0 = omega arith in ap (tab (λ j. rangeAt s (j * 5)) i) e
+  from-none i n h = let e : n - i ≡ 0 = omega arith in ap (tab (λ j. rangeAt s (j * rosterRow)) i) e
 
   pub from-all : (n : ℕ) → rowsFrom s 0 n ≡ rangesOf s n
   unfolding rangesOf
-  from-all n = let e : n - 0 ≡ n = omega arith in ap (tab (λ j. rangeAt s (j * 5)) 0) e
+  from-all n = let e : n - 0 ≡ n = omega arith in ap (tab (λ j. rangeAt s (j * rosterRow)) 0) e
 
   -- one row more
-  pub more-is : (n : ℕ) → rangesOf s (n + 1) ≡ rangesOf s n ++ (rangeAt s (n * 5) ∷ [])
+  pub more-is : (n : ℕ) → rangesOf s (n + 1) ≡ rangesOf s n ++ (rangeAt s (n * rosterRow) ∷ [])
   unfolding rangesOf
   more-is n =
       let z : 0 + n ≡ n = omega arith in
-      tab-snoc (λ j. rangeAt s (j * 5)) 0 n ∙ ap (λ (k : ℕ). tab (λ j. rangeAt s (j * 5)) 0 n ++ (rangeAt s (k * 5) ∷ [])) z
+      tab-snoc (λ j. rangeAt s (j * rosterRow)) 0 n ∙ ap (λ (k : ℕ). tab (λ j. rangeAt s (j * rosterRow)) 0 n ++ (rangeAt s (k * rosterRow) ∷ [])) z
 
-  last-is : (n : ℕ) → 0 < n → rangesOf s n ≡ rangesOf s (n - 1) ++ (rangeAt s ((n - 1) * 5) ∷ [])
+  last-is : (n : ℕ) → 0 < n → rangesOf s n ≡ rangesOf s (n - 1) ++ (rangeAt s ((n - 1) * rosterRow) ∷ [])
   last-is n h = let e : n ≡ n - 1 + 1 = omega arith in ap (rangesOf s) e ∙ more-is (n - 1)
 
 -- a row that is stored, and those before it
-module _ (s : List ℕ) (i : ℕ) (v : Row) (h : i * 5 + 5 ≤ length s) where
-  stored : (q k : ℕ) → q ≡ i * 5 + k → k < 5 → getD (writes s (i * 5) (rowWords v)) q 0 ≡ getD (rowWords v) k 0
-  stored q k e b = rw e (writes-same s (i * 5) (rowWords v) k h b)
+module _ (s : List ℕ) (i : ℕ) (v : Row) (h : i * rosterRow + rosterRow ≤ length s) where
+  stored : (q k : ℕ) → q ≡ i * rosterRow + k → k < rosterRow → getD (writes s (i * rosterRow) (rowWords v)) q 0 ≡ getD (rowWords v) k 0
+  stored q k e b = rw e (writes-same s (i * rosterRow) (rowWords v) k h b)
 
-  row-same : rangeAt (writes s (i * 5) (rowWords v)) (i * 5) ≡ rangeOf v
+  row-same : rangeAt (writes s (i * rosterRow) (rowWords v)) (i * rosterRow) ≡ rangeOf v
   unfolding rangeAt
   row-same =
       simp (
-        stored (i * 5) 0 (omega arith) (omega arith),
-        stored (i * 5 + 1) 1 (omega arith) (omega arith),
-        stored (i * 5 + 1 + 1) 2 (omega arith) (omega arith),
-        stored (i * 5 + 1 + 1 + 1) 3 (omega arith) (omega arith),
-        stored (i * 5 + 1 + 1 + 1 + 1) 4 (omega arith) (omega arith),
+        stored (i * rosterRow) 0 (omega arith) (omega arith),
+        stored (i * rosterRow + 1) 1 (omega arith) (omega arith),
+        stored (i * rosterRow + 1 + 1) 2 (omega arith) (omega arith),
+        stored (i * rosterRow + 1 + 1 + 1) 3 (omega arith) (omega arith),
+        stored (i * rosterRow + 1 + 1 + 1 + 1) 4 (omega arith) (omega arith),
       )
 
-  before : (q : ℕ) → q < i * 5 → getD (writes s (i * 5) (rowWords v)) q 0 ≡ getD s q 0
-  before q b = writes-other s (i * 5) (rowWords v) q (inl b)
+  before : (q : ℕ) → q < i * rosterRow → getD (writes s (i * rosterRow) (rowWords v)) q 0 ≡ getD s q 0
+  before q b = writes-other s (i * rosterRow) (rowWords v) q (inl b)
 
-  row-other : (j : ℕ) → j < i → rangeAt (writes s (i * 5) (rowWords v)) (j * 5) ≡ rangeAt s (j * 5)
+  row-other : (j : ℕ) → j < i → rangeAt (writes s (i * rosterRow) (rowWords v)) (j * rosterRow) ≡ rangeAt s (j * rosterRow)
   unfolding rangeAt
   row-other j b =
       simp (
-        before (j * 5) (omega arith),
-        before (j * 5 + 1) (omega arith),
-        before (j * 5 + 1 + 1) (omega arith),
-        before (j * 5 + 1 + 1 + 1) (omega arith),
-        before (j * 5 + 1 + 1 + 1 + 1) (omega arith),
+        before (j * rosterRow) (omega arith),
+        before (j * rosterRow + 1) (omega arith),
+        before (j * rosterRow + 1 + 1) (omega arith),
+        before (j * rosterRow + 1 + 1 + 1) (omega arith),
+        before (j * rosterRow + 1 + 1 + 1 + 1) (omega arith),
       )
 
-  pub put-last : rangesOf (writes s (i * 5) (rowWords v)) (i + 1) ≡ rangesOf s i ++ (rangeOf v ∷ [])
+  pub put-last : rangesOf (writes s (i * rosterRow) (rowWords v)) (i + 1) ≡ rangesOf s i ++ (rangeOf v ∷ [])
   unfolding rangesOf
   put-last =
-      let t = writes s (i * 5) (rowWords v) in
+      let t = writes s (i * rosterRow) (rowWords v) in
       let z : 0 + i ≡ i = omega arith in
-      let rest = tab-ext (λ j. rangeAt t (j * 5)) (λ j. rangeAt s (j * 5)) 0 i (λ j a b. row-other j (omega arith)) in
-      tab-snoc (λ j. rangeAt t (j * 5)) 0 i ∙ ap (λ (l : List Range). l ++ (rangeAt t ((0 + i) * 5) ∷ [])) rest
-      ∙ ap (λ (k : ℕ). tab (λ j. rangeAt s (j * 5)) 0 i ++ (rangeAt t (k * 5) ∷ [])) z
-      ∙ ap (λ (r : Range). tab (λ j. rangeAt s (j * 5)) 0 i ++ (r ∷ [])) row-same
+      let rest = tab-ext (λ j. rangeAt t (j * rosterRow)) (λ j. rangeAt s (j * rosterRow)) 0 i (λ j a b. row-other j (omega arith)) in
+      tab-snoc (λ j. rangeAt t (j * rosterRow)) 0 i ∙ ap (λ (l : List Range). l ++ (rangeAt t ((0 + i) * rosterRow) ∷ [])) rest
+      ∙ ap (λ (k : ℕ). tab (λ j. rangeAt s (j * rosterRow)) 0 i ++ (rangeAt t (k * rosterRow) ∷ [])) z
+      ∙ ap (λ (r : Range). tab (λ j. rangeAt s (j * rosterRow)) 0 i ++ (r ∷ [])) row-same
 
 -- ---- lookup: t is whether row i holds v, g what is known of the rows from i on
 
@@ -121,14 +122,14 @@ pub from-start : (s : List ℕ) (n v : ℕ) → at (rowsFrom s 0 n) v ≡ at (ra
 from-start s n v = ap (λ (l : List Range). at l v) (from-all s n)
 
 module _ (s : List ℕ) (n v i : ℕ) (o : Option ℕ) where
-  pub found : (t : Bool) (k : ℕ) → i < n → t ≡ inside (rangeAt s (i * 5)) v → t ≡ true → k ≡ rangeAt s (i * 5) .mask → at (rowsFrom s i n) v ≡ o → some k ≡ o
+  pub found : (t : Bool) (k : ℕ) → i < n → t ≡ inside (rangeAt s (i * rosterRow)) v → t ≡ true → k ≡ rangeAt s (i * rosterRow) .mask → at (rowsFrom s i n) v ≡ o → some k ≡ o
   found t k h e f q g =
-      ap some q ∙ sym (ap (λ (b : Bool). if b then some (rangeAt s (i * 5) .mask) else at (rowsFrom s (i + 1) n) v) (sym e ∙ f))
+      ap some q ∙ sym (ap (λ (b : Bool). if b then some (rangeAt s (i * rosterRow) .mask) else at (rowsFrom s (i + 1) n) v) (sym e ∙ f))
       ∙ sym (ap (λ (l : List Range). at l v) (from-first s i n h)) ∙ g
 
-  pub passed : (t : Bool) → i < n → t ≡ inside (rangeAt s (i * 5)) v → t ≡ false → at (rowsFrom s i n) v ≡ o → at (rowsFrom s (i + 1) n) v ≡ o
+  pub passed : (t : Bool) → i < n → t ≡ inside (rangeAt s (i * rosterRow)) v → t ≡ false → at (rowsFrom s i n) v ≡ o → at (rowsFrom s (i + 1) n) v ≡ o
   passed t h e f g =
-      sym (ap (λ (b : Bool). if b then some (rangeAt s (i * 5) .mask) else at (rowsFrom s (i + 1) n) v) (sym e ∙ f))
+      sym (ap (λ (b : Bool). if b then some (rangeAt s (i * rosterRow) .mask) else at (rowsFrom s (i + 1) n) v) (sym e ∙ f))
       ∙ sym (ap (λ (l : List Range). at l v) (from-first s i n h)) ∙ g
 
   pub lost : n ≤ i → at (rowsFrom s i n) v ≡ o → none ≡ o
@@ -163,10 +164,10 @@ pub extends-none : (s : List ℕ) (n : ℕ) (r : Range) → n ≡ 0 → false �
 unfolding rangesOf
 extends-none s n r e = rw e
 
-pub extends-some : (s : List ℕ) (n : ℕ) (x r : Range) (t : Bool) → (n ≡ 0 → ⊥) → x ≡ rangeAt s ((n - 1) * 5) → t ≡ goesOn x r → t ≡ extendsLast (rangesOf s n) r
+pub extends-some : (s : List ℕ) (n : ℕ) (x r : Range) (t : Bool) → (n ≡ 0 → ⊥) → x ≡ rangeAt s ((n - 1) * rosterRow) → t ≡ goesOn x r → t ≡ extendsLast (rangesOf s n) r
 extends-some s n x r t h e f =
     let p : 0 < n = omega arith in
-    f ∙ ap (λ (y : Range). goesOn y r) e ∙ sym (ap (λ (l : List Range). extendsLast l r) (last-is s n p) ∙ extends-snoc (rangesOf s (n - 1)) (rangeAt s ((n - 1) * 5)) r)
+    f ∙ ap (λ (y : Range). goesOn y r) e ∙ sym (ap (λ (l : List Range). extendsLast l r) (last-is s n p) ∙ extends-snoc (rangesOf s (n - 1)) (rangeAt s ((n - 1) * rosterRow)) r)
 
 module _ (s : List ℕ) (n : ℕ) (r : Range) (t : Bool) (e : t ≡ extendsLast (rangesOf s n) r) where
   pub extends-pos : t ≡ true → 1 ≤ n
@@ -179,19 +180,19 @@ module _ (s : List ℕ) (n : ℕ) (r : Range) (t : Bool) (e : t ≡ extendsLast 
       go zero z = let q : false ≡ true = nothing z in let w : _≡_ {A = ℕ} 0 1 = cc in absurd (omega arith)
       go (suc k) z = omega arith
 
-  pub push-joins : (s′ : List ℕ) (x : Range) (v : Row) → t ≡ true → x ≡ rangeAt s ((n - 1) * 5) → rangeOf v ≡ joined x r → s′ ≡ writes s ((n - 1) * 5) (rowWords v)
-      → n * 5 + 5 ≤ length s → rangesOf s′ n ≡ push (rangesOf s n) r
+  pub push-joins : (s′ : List ℕ) (x : Range) (v : Row) → t ≡ true → x ≡ rangeAt s ((n - 1) * rosterRow) → rangeOf v ≡ joined x r → s′ ≡ writes s ((n - 1) * rosterRow) (rowWords v)
+      → n * rosterRow + rosterRow ≤ length s → rangesOf s′ n ≡ push (rangesOf s n) r
   push-joins s′ x v f g k w h =
       let p : 1 ≤ n = extends-pos f in
-      let y = rangeAt s ((n - 1) * 5) in
+      let y = rangeAt s ((n - 1) * rosterRow) in
       let one : n ≡ n - 1 + 1 = omega arith in
       let on : goesOn y r ≡ true = sym (extends-snoc (rangesOf s (n - 1)) y r) ∙ ap (λ (l : List Range). extendsLast l r) (sym (last-is s n p)) ∙ sym e ∙ f in
-      ap (λ (q : List ℕ). rangesOf q n) w ∙ ap (rangesOf (writes s ((n - 1) * 5) (rowWords v))) one ∙ put-last s (n - 1) v (omega arith)
+      ap (λ (q : List ℕ). rangesOf q n) w ∙ ap (rangesOf (writes s ((n - 1) * rosterRow) (rowWords v))) one ∙ put-last s (n - 1) v (omega arith)
       ∙ ap (λ (z : Range). rangesOf s (n - 1) ++ (z ∷ [])) (k ∙ ap (λ (z : Range). joined z r) g)
       ∙ sym (ap (λ (l : List Range). push l r) (last-is s n p) ∙ push-yes (rangesOf s (n - 1)) y r on)
 
-pub push-adds : (s : List ℕ) (n : ℕ) (v : Row) (t : Bool) (s′ : List ℕ) → t ≡ extendsLast (rangesOf s n) (rangeOf v) → t ≡ false → s′ ≡ writes s (n * 5) (rowWords v)
-    → n * 5 + 5 ≤ length s → rangesOf s′ (n + 1) ≡ push (rangesOf s n) (rangeOf v)
+pub push-adds : (s : List ℕ) (n : ℕ) (v : Row) (t : Bool) (s′ : List ℕ) → t ≡ extendsLast (rangesOf s n) (rangeOf v) → t ≡ false → s′ ≡ writes s (n * rosterRow) (rowWords v)
+    → n * rosterRow + rosterRow ≤ length s → rangesOf s′ (n + 1) ≡ push (rangesOf s n) (rangeOf v)
 push-adds s n v t s′ e f w h =
     ap (λ (q : List ℕ). rangesOf q (n + 1)) w ∙ put-last s n v h ∙ sym (push-no (rangesOf s n) (rangeOf v) (sym e ∙ f))
 
@@ -263,10 +264,10 @@ pushAll-append l [] ys = refl
 pushAll-append l (x ∷ xs) ys = pushAll-append (push l x) xs ys
 
 module _ (f : Range → List Range) (s : List ℕ) (i n : ℕ) (l k : List Range) where
-  pub pass-on : (m : List Range) (r : Range) → i < n → r ≡ rangeAt s (i * 5) → m ≡ pushAll l (f r) → pushAll l (each f (rowsFrom s i n)) ≡ k → pushAll m (each f (rowsFrom s (i + 1) n)) ≡ k
+  pub pass-on : (m : List Range) (r : Range) → i < n → r ≡ rangeAt s (i * rosterRow) → m ≡ pushAll l (f r) → pushAll l (each f (rowsFrom s i n)) ≡ k → pushAll m (each f (rowsFrom s (i + 1) n)) ≡ k
   pass-on m r h e g p =
       ap (λ (x : List Range). pushAll x (each f (rowsFrom s (i + 1) n))) (g ∙ ap (λ (x : Range). pushAll l (f x)) e)
-      ∙ sym (pushAll-append l (f (rangeAt s (i * 5))) (each f (rowsFrom s (i + 1) n)))
+      ∙ sym (pushAll-append l (f (rangeAt s (i * rosterRow))) (each f (rowsFrom s (i + 1) n)))
       ∙ sym (ap (λ (x : List Range). pushAll l (each f x)) (from-first s i n h)) ∙ p
 
   pub pass-end : n ≤ i → pushAll l (each f (rowsFrom s i n)) ≡ k → l ≡ k
@@ -292,36 +293,36 @@ filter-is s l x id e = e
 
 pub length-ranges : (s : List ℕ) (n : ℕ) → length (rangesOf s n) ≡ n
 unfolding rangesOf
-length-ranges s n = length-tab (λ i. rangeAt s (i * 5)) 0 n
+length-ranges s n = length-tab (λ i. rangeAt s (i * rosterRow)) 0 n
 
 pub stores-full : (s out : List ℕ) (n : ℕ) → 64 < n → Stores (rangesOf out n) s s Full
 stores-full s out n h =
     let over : 64 < length (rangesOf out n) = rw length-ranges h in
     record { outcome = sym (simp (lt-leb (length (rangesOf out n)) 64 over)); refused = λ e. refl; few = omega arith; beyond = λ j f. refl }
 
-module _ (s out : List ℕ) (n : ℕ) (h : n ≤ 64) (k : n * 5 ≤ length out) (m : 320 ≤ length s) where
+module _ (s out : List ℕ) (n : ℕ) (h : n ≤ 64) (k : n * rosterRow ≤ length out) (m : rosterWords ≤ length s) where
   abbrev written : List ℕ
-  written = writes s 0 (take (n * 5) out)
+  written = writes s 0 (take (n * rosterRow) out)
 
-  taken : length (take (n * 5) out) ≡ n * 5
-  taken = length-take-le (n * 5) out k
+  taken : length (take (n * rosterRow) out) ≡ n * rosterRow
+  taken = length-take-le (n * rosterRow) out k
 
-  word-same : (q : ℕ) → q < n * 5 → getD written q 0 ≡ getD out q 0
+  word-same : (q : ℕ) → q < n * rosterRow → getD written q 0 ≡ getD out q 0
   word-same q b =
       let z : 0 + q ≡ q = omega arith in
-      ap (λ (j : ℕ). getD written j 0) (sym z) ∙ writes-same s 0 (take (n * 5) out) q (omega (arith, taken)) (omega (arith, taken)) ∙ getD-take (n * 5) out q 0 b
+      ap (λ (j : ℕ). getD written j 0) (sym z) ∙ writes-same s 0 (take (n * rosterRow) out) q (omega (arith, taken)) (omega (arith, taken)) ∙ getD-take (n * rosterRow) out q 0 b
 
   pub rows-same : rangesOf written n ≡ rangesOf out n
   unfolding rangesOf rangeAt
   rows-same =
-      tab-ext (λ j. rangeAt written (j * 5)) (λ j. rangeAt out (j * 5)) 0 n
+      tab-ext (λ j. rangeAt written (j * rosterRow)) (λ j. rangeAt out (j * rosterRow)) 0 n
       (λ j a b.
       simp (
-        word-same (j * 5) (omega arith),
-        word-same (j * 5 + 1) (omega arith),
-        word-same (j * 5 + 1 + 1) (omega arith),
-        word-same (j * 5 + 1 + 1 + 1) (omega arith),
-        word-same (j * 5 + 1 + 1 + 1 + 1) (omega arith),
+        word-same (j * rosterRow) (omega arith),
+        word-same (j * rosterRow + 1) (omega arith),
+        word-same (j * rosterRow + 1 + 1) (omega arith),
+        word-same (j * rosterRow + 1 + 1 + 1) (omega arith),
+        word-same (j * rosterRow + 1 + 1 + 1 + 1) (omega arith),
       ))
 
   pub stores-rows : (t : List ℕ) → t ≡ written → Stores (rangesOf out n) s t (Rows n)
@@ -331,7 +332,7 @@ module _ (s out : List ℕ) (n : ℕ) (h : n ≤ 64) (k : n * 5 ≤ length out) 
         outcome = ap some (ap (λ (x : List ℕ). rangesOf x n) e ∙ rows-same) ∙ sym (simp (le-leb (length (rangesOf out n)) 64 few));
         refused = λ f. never t f;
         few = h;
-        beyond = λ j f. ap (λ (x : List ℕ). getD x j 0) e ∙ writes-other s 0 (take (n * 5) out) j (inr (omega (arith, taken)));
+        beyond = λ j f. ap (λ (x : List ℕ). getD x j 0) e ∙ writes-other s 0 (take (n * rosterRow) out) j (inr (omega (arith, taken)));
       }
     where
       never : (t : List ℕ) → Rows n ≡ Full → t ≡ s
@@ -340,6 +341,6 @@ module _ (s out : List ℕ) (n : ℕ) (h : n ≤ 64) (k : n * 5 ≤ length out) 
 pub stores-of : (l m : List Range) (s t : List ℕ) (r : Stored) → l ≡ m → Stores l s t r → Stores m s t r
 stores-of l m s t r e f = rw e at f
 
-pub stores-filtered : (m : List Range) (s out t : List ℕ) (n c : ℕ) → rangesOf out n ≡ m → n ≤ c → c ≤ 64 → length out ≡ 320 → 320 ≤ length s → t ≡ writes s 0 (take (n * 5) out)
+pub stores-filtered : (m : List Range) (s out t : List ℕ) (n c : ℕ) → rangesOf out n ≡ m → n ≤ c → c ≤ 64 → length out ≡ rosterWords → rosterWords ≤ length s → t ≡ writes s 0 (take (n * rosterRow) out)
     → Stores m s t (Rows n)
 stores-filtered m s out t n c e f g h k w = stores-of (rangesOf out n) m s t (Rows n) e (stores-rows s out n (omega arith) (omega arith) k t w)

@@ -10,6 +10,7 @@ use Rattle.words.specs.Choice.{if_then_else_}
 use Rattle.words.specs.Tab.{tab}
 use Rattle.words.specs.Part.{Untouched}
 use Rattle.ids.specs.Limits.{ranges}
+use Rattle.layout.specs.Layout.{rosterRow, rosterWords}
 use Rattle.inty.specs.Value.{valueOf}
 use Rattle.bitmap.specs.Bitmap.{setTo}
 use Rattle.roster_ranges.specs.Range.{Range, goesOn, below, above, remask}
@@ -38,7 +39,7 @@ rangeAt s p =
 
 -- the first n rows
 unfoldable pub rangesOf : List ℕ → ℕ → List Range
-rangesOf s n = tab (λ i. rangeAt s (i * 5)) 0 n
+rangesOf s n = tab (λ i. rangeAt s (i * rosterRow)) 0 n
 
 abbrev pub maskIn : Lookup → Option ℕ
 maskIn (Mask m) = some m
@@ -72,4 +73,4 @@ pub record Stores (l : List Range) (s t : List ℕ) (r : Stored) : Type 0 where
   pub outcome : shown r t ≡ capped l
   pub refused : r ≡ Full → t ≡ s
   pub few : size r ≤ ranges
-  pub beyond : Untouched (ranges * 5) s t
+  pub beyond : Untouched rosterWords s t

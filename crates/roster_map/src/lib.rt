@@ -7,6 +7,7 @@ ghost use mathlib.Core.Bool.{false};
 ghost use Prim.Native.Nat.{ℕ, _+_, _*_, _<_, _≤_};
 ghost use lib.ListN.{length, take};
 ghost use Rattle.words.specs.Writes.{writes};
+ghost use Rattle.layout.specs.Layout.{rosterRow, rosterWords};
 ghost use Rattle.inty.specs.Value.{valueOf};
 ghost use Rattle.roster_ranges.specs.Range.{inside, at, maskAt, goesOn, joined, push as pushed, pushAll, cutBelow, cutAbove, below, above, each, overwrite, remask, remasked};
 ghost use Rattle.bitmap.specs.Bitmap.{setTo};
@@ -26,7 +27,7 @@ pub enum Cut {
 }
 
 // Rows stored at most.
-pub const RANGES: usize = 64;
+pub const RANGES: usize = layout::ROSTER_PLACES;
 
 // How many rows are stored, or that they would be more than 64.
 pub enum Stored {
@@ -41,10 +42,10 @@ pub enum Lookup {
 }
 
 pub fn get_row(rows: &[u64], i: usize) -> Row
-    requires { ⌜ i * 5 + 5 ≤ length (now rows) ⌝ }
-    ensures { λ r. ⌜ rangeOf r ≡ rangeAt (now (rows .entry)) (i * 5) ⌝ }
+    requires { ⌜ i * rosterRow + rosterRow ≤ length (now rows) ⌝ }
+    ensures { λ r. ⌜ rangeOf r ≡ rangeAt (now (rows .entry)) (i * rosterRow) ⌝ }
 {
-    let p = i * 5;
+    let p = i * layout::ROSTER_ROW;
     let p1 = p + 1;
     let p2 = p1 + 1;
     let p3 = p2 + 1;
@@ -65,10 +66,10 @@ pub fn get_row(rows: &[u64], i: usize) -> Row
 }
 
 fn put_row(rows: &mut [u64], i: usize, row: Row)
-    requires { ⌜ i * 5 + 5 ≤ length (now rows) ⌝ }
-    ensures { λ _. ⌜ now (rows .exit) ≡ writes (now (rows .entry)) (i * 5) (rowWords row) ⌝ }
+    requires { ⌜ i * rosterRow + rosterRow ≤ length (now rows) ⌝ }
+    ensures { λ _. ⌜ now (rows .exit) ≡ writes (now (rows .entry)) (i * rosterRow) (rowWords row) ⌝ }
 {
-    let p = i * 5;
+    let p = i * layout::ROSTER_ROW;
     let p1 = p + 1;
     let p2 = p1 + 1;
     let p3 = p2 + 1;
@@ -81,8 +82,8 @@ fn put_row(rows: &mut [u64], i: usize, row: Row)
 }
 
 fn holds(rows: &[u64], i: usize, n: Inty) -> bool
-    requires { ⌜ i * 5 + 5 ≤ length (now rows) ⌝ }
-    ensures { λ r. ⌜ r ≡ inside (rangeAt (now (rows .entry)) (i * 5)) (valueOf n) ⌝ }
+    requires { ⌜ i * rosterRow + rosterRow ≤ length (now rows) ⌝ }
+    ensures { λ r. ⌜ r ≡ inside (rangeAt (now (rows .entry)) (i * rosterRow)) (valueOf n) ⌝ }
 {
     let row = get_row(rows, i);
     if inty::lt(row.end, n) {
@@ -95,10 +96,10 @@ fn holds(rows: &[u64], i: usize, n: Inty) -> bool
 }
 
 fn mask_of(rows: &[u64], i: usize) -> u64
-    requires { ⌜ i * 5 + 5 ≤ length (now rows) ⌝ }
-    ensures { λ r. ⌜ r ≡ rangeAt (now (rows .entry)) (i * 5) .mask ⌝ }
+    requires { ⌜ i * rosterRow + rosterRow ≤ length (now rows) ⌝ }
+    ensures { λ r. ⌜ r ≡ rangeAt (now (rows .entry)) (i * rosterRow) .mask ⌝ }
 {
-    let p = i * 5;
+    let p = i * layout::ROSTER_ROW;
     let p1 = p + 1;
     let p2 = p1 + 1;
     let p3 = p2 + 1;
@@ -108,7 +109,7 @@ fn mask_of(rows: &[u64], i: usize) -> u64
 
 // The mask stored at n.
 pub fn at(rows: &[u64], count: usize, n: Inty) -> Lookup
-    requires { ⌜ count * 5 ≤ length (now rows) ⌝ }
+    requires { ⌜ count * rosterRow ≤ length (now rows) ⌝ }
     ensures { λ r. ⌜ maskIn r ≡ at (rangesOf (now (rows .entry)) count) (valueOf n) ⌝ }
 {
     let mut i = 0;
@@ -123,7 +124,7 @@ pub fn at(rows: &[u64], count: usize, n: Inty) -> Lookup
 
 // The mask at n, the default where none is stored.
 pub fn get(rows: &[u64], count: usize, default: u64, n: Inty) -> u64
-    requires { ⌜ count * 5 ≤ length (now rows) ⌝ }
+    requires { ⌜ count * rosterRow ≤ length (now rows) ⌝ }
     ensures { λ r. ⌜ r ≡ maskAt default (rangesOf (now (rows .entry)) count) (valueOf n) ⌝ }
 {
     let Lookup::Mask(mask) = at(rows, count, n) else {
@@ -143,7 +144,7 @@ pub fn goes_on(x: Row, r: Row) -> bool
 }
 
 fn extends_last(rows: &[u64], n: usize, row: Row) -> bool
-    requires { ⌜ n * 5 ≤ length (now rows) ⌝ }
+    requires { ⌜ n * rosterRow ≤ length (now rows) ⌝ }
     ensures { λ t. ⌜ t ≡ extendsLast (rangesOf (now (rows .entry)) n) (rangeOf row) ⌝ }
 {
     if n == 0 {
@@ -166,7 +167,7 @@ fn joined_row(x: Row, r: Row) -> Row
 
 // A row after the last of n; how many there are then.
 fn push(rows: &mut [u64], n: usize, row: Row) -> usize
-    requires { ⌜ n * 5 + 5 ≤ length (now rows) ⌝ }
+    requires { ⌜ n * rosterRow + rosterRow ≤ length (now rows) ⌝ }
     ensures { λ m. ⌜ (rangesOf (now (rows .exit)) m ≡ pushed (rangesOf (now (rows .entry)) n) (rangeOf row)) × (m ≤ n + 1) ⌝ }
 {
     if extends_last(rows, n, row) {
@@ -214,7 +215,7 @@ fn cut_above(row: Row, b: Inty) -> Row
 }
 
 fn push_below(out: &mut [u64], n: usize, row: Row, a: Inty) -> usize
-    requires { ⌜ n * 5 + 5 ≤ length (now out) ⌝ }
+    requires { ⌜ n * rosterRow + rosterRow ≤ length (now out) ⌝ }
     ensures { λ m. ⌜ (rangesOf (now (out .exit)) m ≡ pushAll (rangesOf (now (out .entry)) n) (below (valueOf a) (rangeOf row))) × (m ≤ n + 1) ⌝ }
 {
     if inty::lt(row.start, a) {
@@ -224,7 +225,7 @@ fn push_below(out: &mut [u64], n: usize, row: Row, a: Inty) -> usize
 }
 
 fn push_above(out: &mut [u64], n: usize, row: Row, b: Inty) -> usize
-    requires { ⌜ n * 5 + 5 ≤ length (now out) ⌝ }
+    requires { ⌜ n * rosterRow + rosterRow ≤ length (now out) ⌝ }
     ensures { λ m. ⌜ (rangesOf (now (out .exit)) m ≡ pushAll (rangesOf (now (out .entry)) n) (above (valueOf b) (rangeOf row))) × (m ≤ n + 1) ⌝ }
 {
     if inty::lt(b, row.end) {
@@ -246,7 +247,7 @@ fn without(row: Row, id: Replica) -> Row
 }
 
 fn push_kept(out: &mut [u64], n: usize, row: Row, cut: Cut) -> usize
-    requires { ⌜ n * 5 + 5 ≤ length (now out) ⌝ }
+    requires { ⌜ n * rosterRow + rosterRow ≤ length (now out) ⌝ }
     ensures { λ m. ⌜ (rangesOf (now (out .exit)) m ≡ pushAll (rangesOf (now (out .entry)) n) (kept cut (rangeOf row))) × (m ≤ n + 1) ⌝ }
 {
     match cut {
@@ -258,7 +259,7 @@ fn push_kept(out: &mut [u64], n: usize, row: Row, cut: Cut) -> usize
 
 // What is kept of each of `count` rows, after the n that stand in out.
 fn pass(out: &mut [u64], n: usize, rows: &[u64], count: usize, cut: Cut) -> usize
-    requires { ⌜ (count * 5 ≤ length (now rows)) × (n * 5 + count * 5 ≤ length (now out)) ⌝ }
+    requires { ⌜ (count * rosterRow ≤ length (now rows)) × (n * rosterRow + count * rosterRow ≤ length (now out)) ⌝ }
     ensures { λ m. ⌜ (rangesOf (now (out .exit)) m ≡ pushAll (rangesOf (now (out .entry)) n) (each (kept cut) (rangesOf (now (rows .entry)) count))) × (m ≤ n + count) ⌝ }
 {
     let mut m = n;
@@ -272,8 +273,8 @@ fn pass(out: &mut [u64], n: usize, rows: &[u64], count: usize, cut: Cut) -> usiz
 
 // w over the rows, into out.
 fn overwritten(out: &mut [u64], rows: &[u64], count: usize, w: Row) -> usize
-    requires { ⌜ (count ≤ 64) × (count * 5 ≤ length (now rows)) × (645 ≤ length (now out)) ⌝ }
-    ensures { λ m. ⌜ (rangesOf (now (out .exit)) m ≡ overwrite (rangesOf (now (rows .entry)) count) (rangeOf w)) × (m * 5 ≤ 645) ⌝ }
+    requires { ⌜ (count ≤ 64) × (count * rosterRow ≤ length (now rows)) × (645 ≤ length (now out)) ⌝ }
+    ensures { λ m. ⌜ (rangesOf (now (out .exit)) m ≡ overwrite (rangesOf (now (rows .entry)) count) (rangeOf w)) × (m * rosterRow ≤ 645) ⌝ }
 {
     let start = w.start;
     let end = w.end;
@@ -284,26 +285,26 @@ fn overwritten(out: &mut [u64], rows: &[u64], count: usize, w: Row) -> usize
 
 // The rows without a replica, into out.
 fn filtered(out: &mut [u64], rows: &[u64], count: usize, id: Replica) -> usize
-    requires { ⌜ (count * 5 ≤ length (now rows)) × (count * 5 ≤ length (now out)) ⌝ }
+    requires { ⌜ (count * rosterRow ≤ length (now rows)) × (count * rosterRow ≤ length (now out)) ⌝ }
     ensures { λ m. ⌜ (rangesOf (now (out .exit)) m ≡ remasked (λ k. setTo k (id .0) false) (rangesOf (now (rows .entry)) count)) × (m ≤ count) ⌝ }
 {
     pass(out, 0, rows, count, Cut::Without(id))
 }
 
 fn store(rows: &mut [u64], out: &[u64], n: usize) -> Stored
-    requires { ⌜ (n * 5 ≤ length (now out)) × (320 ≤ length (now rows)) ⌝ }
+    requires { ⌜ (n * rosterRow ≤ length (now out)) × (rosterWords ≤ length (now rows)) ⌝ }
     ensures { λ r. ⌜ Stores (rangesOf (now (out .entry)) n) (now (rows .entry)) (now (rows .exit)) r ⌝ }
 {
     if RANGES < n {
         return Stored::Full;
     }
-    words::copy_words(rows, out, n * 5);
+    words::copy_words(rows, out, n * layout::ROSTER_ROW);
     Stored::Rows(n)
 }
 
 // `set`: w over the rows.
 pub fn set(rows: &mut [u64], count: usize, w: Row) -> Stored
-    requires { ⌜ (count ≤ 64) × (320 ≤ length (now rows)) ⌝ }
+    requires { ⌜ (count ≤ 64) × (rosterWords ≤ length (now rows)) ⌝ }
     ensures { λ r. ⌜ Stores (overwrite (rangesOf (now (rows .entry)) count) (rangeOf w)) (now (rows .entry)) (now (rows .exit)) r ⌝ }
 {
     let mut out = [0u64; 645];
@@ -313,11 +314,11 @@ pub fn set(rows: &mut [u64], count: usize, w: Row) -> Stored
 
 // A replica out of each row; how many there are then.
 pub fn filter(rows: &mut [u64], count: usize, id: Replica) -> usize
-    requires { ⌜ (count ≤ 64) × (320 ≤ length (now rows)) ⌝ }
+    requires { ⌜ (count ≤ 64) × (rosterWords ≤ length (now rows)) ⌝ }
     ensures { λ n. ⌜ Stores (remasked (λ m. setTo m (id .0) false) (rangesOf (now (rows .entry)) count)) (now (rows .entry)) (now (rows .exit)) (Stored.Rows n) ⌝ }
 {
-    let mut out = [0u64; 320];
+    let mut out = [0u64; layout::ROSTER_WORDS];
     let n = filtered(&mut out, rows, count, id);
-    words::copy_words(rows, &out, n * 5);
+    words::copy_words(rows, &out, n * layout::ROSTER_ROW);
     n
 }

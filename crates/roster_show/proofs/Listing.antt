@@ -7,6 +7,7 @@ use native.Mathlib.Omega.{arith}
 use lib.ListN.{length, length-append}
 use borrow.Author.Tests.{lt-ltb, le-ltb, not-true, not-false}
 use Rattle.words.specs.Writes.{writes}
+use Rattle.layout.specs.Layout.{rosterRow}
 use Rattle.items.specs.Item.{Item, Rest, encode, places}
 use Rattle.items.specs.Area.{Put, putItem}
 use Rattle.items.proofs.Laws.{put-encoded}
@@ -43,11 +44,11 @@ module _ (rows area now after : List ℕ) (i n : ℕ) (t : Bool) (x : Item) (p :
       let room : length l < places area = rw long h in
       ap (λ (q : Put). q .area) p ∙ ap (λ (s : List ℕ). putItem s i x .area) w ∙ ap (λ (k : ℕ). putItem (writes area 0 (encode l)) k x .area) (sym long) ∙ put-encoded area l x room
 
-  pub next-span : i < n → n ≤ places area → x ≡ spanOf (rangeAt rows (i * 5)) → after ≡ writes area 0 (encode (spansOf (rangesOf rows (i + 1))))
+  pub next-span : i < n → n ≤ places area → x ≡ spanOf (rangeAt rows (i * rosterRow)) → after ≡ writes area 0 (encode (spansOf (rangesOf rows (i + 1))))
   next-span h k e =
       put-next (omega arith)
       ∙ ap (λ (l : List Item). writes area 0 (encode l))
-      (ap (λ (y : Item). spansOf (rangesOf rows i) ++ (y ∷ [])) e ∙ sym (ap spansOf (more-is rows i) ∙ spans-snoc (rangesOf rows i) (rangeAt rows (i * 5))))
+      (ap (λ (y : Item). spansOf (rangesOf rows i) ++ (y ∷ [])) e ∙ sym (ap spansOf (more-is rows i) ∙ spans-snoc (rangesOf rows i) (rangeAt rows (i * rosterRow))))
 
 pub no-span : (rows area : List ℕ) → area ≡ writes area 0 (encode (spansOf (rangesOf rows 0)))
 unfolding rangesOf spansOf encode

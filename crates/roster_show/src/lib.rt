@@ -5,6 +5,7 @@ ghost use mathlib.Core.Path.{_≡_};
 ghost use Prim.Native.Nat.{_+_, _*_, _≤_};
 ghost use lib.ListN.{length};
 ghost use Rattle.words.specs.Writes.{writes};
+ghost use Rattle.layout.specs.Layout.{rosterRow};
 ghost use Rattle.items.specs.Item.{itemOf, encode, places};
 ghost use Rattle.roster_map.specs.Rows.{rangeAt, rangesOf};
 ghost use Rattle.roster_show.specs.Show.{spanOf, spansOf, Listing, listing};
@@ -15,8 +16,8 @@ pub enum Shown {
 }
 
 fn span(rows: &[u64], i: usize) -> Item
-    requires { ⌜ i * 5 + 5 ≤ length (now rows) ⌝ }
-    ensures { λ x. ⌜ itemOf x ≡ spanOf (rangeAt (now (rows .entry)) (i * 5)) ⌝ }
+    requires { ⌜ i * rosterRow + rosterRow ≤ length (now rows) ⌝ }
+    ensures { λ x. ⌜ itemOf x ≡ spanOf (rangeAt (now (rows .entry)) (i * rosterRow)) ⌝ }
 {
     let row = roster_map::get_row(rows, i);
     let start = row.start;
@@ -29,7 +30,7 @@ fn span(rows: &[u64], i: usize) -> Item
 }
 
 fn put_spans(rows: &[u64], count: usize, area: &mut [u64])
-    requires { ⌜ (count * 5 ≤ length (now rows)) × (count ≤ places (now area)) ⌝ }
+    requires { ⌜ (count * rosterRow ≤ length (now rows)) × (count ≤ places (now area)) ⌝ }
     ensures { λ _. ⌜ now (area .exit) ≡ writes (now (area .entry)) 0 (encode (spansOf (rangesOf (now (rows .entry)) count))) ⌝ }
 {
     let mut i = 0;

@@ -13,6 +13,7 @@ use Rattle.words.specs.Tab.{run}
 use Rattle.ids.specs.declared.Leader.{Leader}
 use Rattle.ids.specs.declared.Leader.the-variants.{Some}
 use Rattle.ids.specs.declared.Replica.{Replica}
+use Rattle.layout.specs.Layout.{requestPlaces, writtenPlaces, barsAt, cellRow, requestRow, heldRow, writtenRow, rosterRow, slotPlaces, heldPlaces, batchWords, heldWords, batchesFrom, readsFrom, execsAt, rowsAt, slotsAt, writtenAt}
 use Rattle.decimal.specs.Digits.{decimal}
 use Rattle.decimal.proofs.Laws.{one-digit, more-digits}
 use Rattle.roster_conf.specs.declared.RespondersConf.{RespondersConf}
@@ -72,18 +73,18 @@ slots-begin s n m start =
     let b : start + 0 ≡ start = omega arith in
     rw (a, b)
 
-pub cell-of : (start i : ℕ) → (start % 32 + i) % 32 ≡ (start + i) % 32
+pub cell-of : (start i : ℕ) → (start % slotPlaces + i) % slotPlaces ≡ (start + i) % slotPlaces
 cell-of start i = omega arith
 
 module _ (m : List ℕ) (start n : ℕ) where
-  pub slots-turn : (R s t c i : ℕ) → i < n → c ≡ (start + i) % 32 → t ≡ plusNumbers s (slotOf m c) → plusNumbers s (slotsOf m (start + i) (n - i)) ≡ R
+  pub slots-turn : (R s t c i : ℕ) → i < n → c ≡ (start + i) % slotPlaces → t ≡ plusNumbers s (slotOf m c) → plusNumbers s (slotsOf m (start + i) (n - i)) ≡ R
       → plusNumbers t (slotsOf m (start + (i + 1)) (n - (i + 1))) ≡ R
   unfolding slotsOf
   slots-turn R s t c i h e f inv =
       let a : n - i ≡ suc (n - (i + 1)) = omega arith in
       let b : start + i + 1 ≡ start + (i + 1) = omega arith in
-      let g : plusNumbers s (slotOf m ((start + i) % 32) ++ slotsOf m (start + i + 1) (n - (i + 1))) ≡ R = rw a at inv in
-      rw (f, e, ← b) (sym (append s (slotOf m ((start + i) % 32)) (slotsOf m (start + i + 1) (n - (i + 1)))) ∙ g)
+      let g : plusNumbers s (slotOf m ((start + i) % slotPlaces) ++ slotsOf m (start + i + 1) (n - (i + 1))) ≡ R = rw a at inv in
+      rw (f, e, ← b) (sym (append s (slotOf m ((start + i) % slotPlaces)) (slotsOf m (start + i + 1) (n - (i + 1)))) ∙ g)
 
   pub slots-end : (R s i : ℕ) → n ≤ i → plusNumbers s (slotsOf m (start + i) (n - i)) ≡ R → s ≡ R
   unfolding slotsOf plusNumbers
@@ -111,10 +112,10 @@ past m i h = sym (List·getD-eq-default m 0 h)
 pub number : (sum n s r : ℕ) → s ≡ plusByte sum 44 → r ≡ plusBytes s (decimal n) → r ≡ plusNumber sum n
 number sum n s r p q = rw p at q
 
-module _ (x w n most : ℕ) (a : w < 16) (b : most ≤ 256) (e : n ≡ min x most) where
+module _ (x w n most : ℕ) (a : w < 16) (b : most ≤ writtenPlaces) (e : n ≡ min x most) where
   rows-fit : w * n ≤ 3840
   rows-fit =
-      let h : n ≤ 256 = omega arith in
+      let h : n ≤ writtenPlaces = omega arith in
       let k : w ≤ 15 = omega arith in
       le-trans (mul-le-mul-right n k) (mul-le-mul-left 15 h)
 
@@ -139,27 +140,27 @@ module _ (sum r : ℕ) (m : List ℕ) where
   unfolding cellOf
   cell at a b has v book x y v′ x′ y′ e₁ e₂ e₃ e₄ e₅ e₆ e₇ e₈ e₉ e₀ p = rw (e₆, e₈, e₀, e₁, e₂, e₃, e₄, e₅, e₇, e₉) at p
 
-  module _ (c x : ℕ) (e : x ≡ getD m (512 + 8 * c + 4) 0) where
+  module _ (c x : ℕ) (e : x ≡ getD m (slotsAt + cellRow * c + 4) 0) where
     pub reads-none : x ≡ 0 → r ≡ plusNumber sum 0 → r ≡ plusNumbers sum (readsOf m c)
     unfolding readsOf plusNumbers
-    reads-none z p = rw (eq-eqb (getD m (512 + 8 * c + 4) 0) 0 (sym e ∙ z)) p
+    reads-none z p = rw (eq-eqb (getD m (slotsAt + cellRow * c + 4) 0) 0 (sym e ∙ z)) p
 
-    pub reads-some : (x ≡ 0 → ⊥) → r ≡ plusNumbers sum (tableOf m (3616 + 145 * c) 9 16) → r ≡ plusNumbers sum (readsOf m c)
+    pub reads-some : (x ≡ 0 → ⊥) → r ≡ plusNumbers sum (tableOf m (slotsAt + readsFrom + heldWords * c) heldRow heldPlaces) → r ≡ plusNumbers sum (readsOf m c)
     unfolding readsOf
-    reads-some z p = rw (ne-eqb (getD m (512 + 8 * c + 4) 0) 0 (λ k. z (e ∙ k))) p
+    reads-some z p = rw (ne-eqb (getD m (slotsAt + cellRow * c + 4) 0) 0 (λ k. z (e ∙ k))) p
 
-  pub slot : (c a b : ℕ) → a ≡ plusNumbers sum (cellOf m (512 + 8 * c)) → b ≡ plusNumbers a (tableOf m (768 + 89 * c) 11 8) → r ≡ plusNumbers b (readsOf m c)
+  pub slot : (c a b : ℕ) → a ≡ plusNumbers sum (cellOf m (slotsAt + cellRow * c)) → b ≡ plusNumbers a (tableOf m (slotsAt + batchesFrom + batchWords * c) requestRow requestPlaces) → r ≡ plusNumbers b (readsOf m c)
       → r ≡ plusNumbers sum (slotOf m c)
   unfolding slotOf
-  slot c a b p q t = three sum a b r (cellOf m (512 + 8 * c)) (tableOf m (768 + 89 * c) 11 8) (readsOf m c) p q t
+  slot c a b p q t = three sum a b r (cellOf m (slotsAt + cellRow * c)) (tableOf m (slotsAt + batchesFrom + batchWords * c) requestRow requestPlaces) (readsOf m c) p q t
 
   -- ---- a node
 
-  pub peers : (id population a b c above : ℕ) → a ≡ plusNumbers sum (run population m 0) → b ≡ plusNumbers a (run population m 64)
-      → c ≡ plusNumbers b (run id m 128) → above ≡ population - (id + 1) → r ≡ plusNumbers c (run above m (128 + (id + 1))) → r ≡ plusNumbers sum (peersOf id population m)
+  pub peers : (id population a b c above : ℕ) → a ≡ plusNumbers sum (run population m 0) → b ≡ plusNumbers a (run population m barsAt)
+      → c ≡ plusNumbers b (run id m execsAt) → above ≡ population - (id + 1) → r ≡ plusNumbers c (run above m (execsAt + (id + 1))) → r ≡ plusNumbers sum (peersOf id population m)
   unfolding peersOf
   peers id population a b c above p q t e u =
-      four sum a b c r (run population m 0) (run population m 64) (run id m 128) (run (population - (id + 1)) m (128 + (id + 1))) p q t (rw e at u)
+      four sum a b c r (run population m 0) (run population m barsAt) (run id m execsAt) (run (population - (id + 1)) m (execsAt + (id + 1))) p q t (rw e at u)
 
 pub any-none : (has v : ℕ) → has ≡ 0 → 0 ≡ ifAny has v
 any-none has v e = rw (eq-eqb has 0 e)
@@ -173,10 +174,10 @@ pub leads : (l : Leader) (r : Replica) (w : ℕ) → l ≡ Some r → w ≡ r .0
 leads l r w e f = rw (e, f)
 
 pub roster : (r s l n : ℕ) (c : RespondersConf) (rows : List ℕ) → l ≡ leaderNumber (c .leader) → s ≡ plusNumbers 0 (l ∷ c .count ∷ c .default ∷ [])
-    → n ≡ min (c .count) 64 → r ≡ plusNumbers s (run (5 * n) rows 0) → r ≡ sumOf (rosterNumbers c rows)
+    → n ≡ min (c .count) 64 → r ≡ plusNumbers s (run (rosterRow * n) rows 0) → r ≡ sumOf (rosterNumbers c rows)
 unfolding rosterNumbers
 roster r s l n c rows e p f q =
-    two 0 s r (leaderNumber (c .leader) ∷ c .count ∷ c .default ∷ []) (run (5 * min (c .count) 64) rows 0) (rw e at p) (rw f at q)
+    two 0 s r (leaderNumber (c .leader) ∷ c .count ∷ c .default ∷ []) (run (rosterRow * min (c .count) 64) rows 0) (rw e at p) (rw f at q)
 
 pub short : (n : Node) (r a b c l : ℕ) → a ≡ n .id .0 → b ≡ n .population → c ≡ n .quorum → l ≡ leaderNumber (n .«bodega_conf» .leader)
     → r ≡ plusNumbers 0 (a ∷ b ∷ c ∷ l ∷ n .«bodega_conf» .count ∷ n .«bodega_conf» .default ∷ n .«bal_max_seen» .0 ∷ n .«bal_prep_sent» .0 ∷ n .«bal_prepared» .0
@@ -186,9 +187,9 @@ unfolding shortOf
 short n r a b c l e₁ e₂ e₃ e₄ p = rw (e₁, e₂, e₃, e₄) at p
 
 pub node : (n : Node) (m : List ℕ) (a b c d r k w : ℕ) → a ≡ sumOf (shortOf n) → b ≡ plusNumbers a (peersOf (n .id .0) (n .population) m)
-    → k ≡ min (n .«bodega_conf» .count) 64 → c ≡ plusNumbers b (run (5 * k) m 192) → w ≡ min (n .slots) 32 → d ≡ plusNumbers c (slotsOf m (n .«start_slot» .0) w)
-    → r ≡ plusNumbers d (tableOf m 8256 8 256) → r ≡ sumOf (nodeNumbers n m)
+    → k ≡ min (n .«bodega_conf» .count) 64 → c ≡ plusNumbers b (run (rosterRow * k) m rowsAt) → w ≡ min (n .slots) slotPlaces → d ≡ plusNumbers c (slotsOf m (n .«start_slot» .0) w)
+    → r ≡ plusNumbers d (tableOf m writtenAt writtenRow writtenPlaces) → r ≡ sumOf (nodeNumbers n m)
 unfolding nodeNumbers
 node n m a b c d r k w p q e t f u v =
     two 0 a r (shortOf n) _ p
-    (four a b c d r (peersOf (n .id .0) (n .population) m) (rowsOf (n .«bodega_conf» .count) m 192) (slotsOf m (n .«start_slot» .0) (min (n .slots) 32)) (tableOf m 8256 8 256) q (rw e at t) (rw f at u) v)
+    (four a b c d r (peersOf (n .id .0) (n .population) m) (rowsOf (n .«bodega_conf» .count) m rowsAt) (slotsOf m (n .«start_slot» .0) (min (n .slots) slotPlaces)) (tableOf m writtenAt writtenRow writtenPlaces) q (rw e at t) (rw f at u) v)

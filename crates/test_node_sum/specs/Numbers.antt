@@ -8,32 +8,10 @@ use Rattle.words.specs.Choice.{if_then_else_}
 use Rattle.words.specs.Tab.{run}
 use Rattle.ids.specs.declared.Leader.{Leader}
 use Rattle.ids.specs.declared.Leader.the-variants.{None, Some}
-use Rattle.ids.specs.Limits.{window, hold, keys, batch, ranges}
+use Rattle.ids.specs.Limits.{ranges}
+use Rattle.layout.specs.Layout.{requestPlaces, writtenPlaces, barsAt, cellRow, requestRow, heldRow, writtenRow, rosterRow, slotPlaces, heldPlaces, batchWords, heldWords, batchesFrom, readsFrom, execsAt, rowsAt, slotsAt, writtenAt}
 use Rattle.roster_conf.specs.declared.RespondersConf.{RespondersConf}
 use Rattle.node.specs.declared.Node.{Node}
-
--- ---- where the tables are in a node's buffer; a slot's cell, batch and held reads are the (s % 32)-th of theirs
-
-abbrev pub barsAt : ℕ
-barsAt = 64
-
-abbrev pub execsAt : ℕ
-execsAt = 128
-
-abbrev pub rowsAt : ℕ
-rowsAt = 192
-
-abbrev pub cellsAt : ℕ
-cellsAt = 512
-
-abbrev pub batchesAt : ℕ
-batchesAt = 768
-
-abbrev pub readsAt : ℕ
-readsAt = 3616
-
-abbrev pub writtenAt : ℕ
-writtenAt = 8256
 
 -- ---- a roster
 
@@ -44,7 +22,7 @@ leaderNumber (Some r) = r .0 + 1
 
 -- five words for each range
 abbrev pub rowsOf : ℕ → List ℕ → ℕ → List ℕ
-rowsOf count m at = run (5 * min count ranges) m at
+rowsOf count m at = run (rosterRow * min count ranges) m at
 
 unfoldable pub rosterNumbers : RespondersConf → List ℕ → List ℕ
 rosterNumbers c rows = leaderNumber (c .leader) ∷ c .count ∷ c .default ∷ rowsOf (c .count) rows 0
@@ -68,15 +46,15 @@ cellOf m at =
 
 -- reads are held where there is a notice book
 unfoldable pub readsOf : List ℕ → ℕ → List ℕ
-readsOf m c = if eqb (getD m (cellsAt + 8 * c + 4) 0) 0 then 0 ∷ [] else tableOf m (readsAt + 145 * c) 9 hold
+readsOf m c = if eqb (getD m (slotsAt + cellRow * c + 4) 0) 0 then 0 ∷ [] else tableOf m (slotsAt + readsFrom + heldWords * c) heldRow heldPlaces
 
 unfoldable pub slotOf : List ℕ → ℕ → List ℕ
-slotOf m c = cellOf m (cellsAt + 8 * c) ++ (tableOf m (batchesAt + 89 * c) 11 batch ++ readsOf m c)
+slotOf m c = cellOf m (slotsAt + cellRow * c) ++ (tableOf m (slotsAt + batchesFrom + batchWords * c) requestRow requestPlaces ++ readsOf m c)
 
 -- n slots from start on
 unfoldable pub slotsOf : List ℕ → ℕ → ℕ → List ℕ
 slotsOf m start zero = []
-slotsOf m start (suc n) = slotOf m (start % 32) ++ slotsOf m (start + 1) n
+slotsOf m start (suc n) = slotOf m (start % slotPlaces) ++ slotsOf m (start + 1) n
 
 -- ---- a node
 
@@ -98,5 +76,5 @@ nodeNumbers n m =
     shortOf n
     ++ (peersOf (n .id .0) (n .population) m
     ++ (rowsOf (n .«bodega_conf» .count) m rowsAt
-    ++ (slotsOf m (n .«start_slot» .0) (min (n .slots) window)
-    ++ tableOf m writtenAt 8 keys)))
+    ++ (slotsOf m (n .«start_slot» .0) (min (n .slots) slotPlaces)
+    ++ tableOf m writtenAt writtenRow writtenPlaces)))

@@ -8,25 +8,15 @@ ghost use mathlib.Core.Path.{_≡_};
 ghost use Prim.Native.Nat.{_+_, _-_, _<_, _≤_, min};
 ghost use lib.ListN.{getD};
 ghost use Rattle.words.specs.Tab.{run};
-ghost use Rattle.ids.specs.Limits.{window};
+ghost use Rattle.layout.specs.Layout.{writtenPlaces, slotPlaces};
 ghost use Rattle.decimal.specs.Digits.{decimal};
 ghost use Rattle.test_node_sum.specs.Sum.{plusByte, plusBytes, plusNumber, plusNumbers, sumOf};
 ghost use Rattle.test_node_sum.specs.Numbers.{leaderNumber, rosterNumbers, tableOf, ifAny, cellOf, readsOf, slotOf, slotsOf, shortOf, peersOf, nodeNumbers};
 
-// Where the tables of a node's buffer are.
-const BARS: usize = 64;
+// Where the batches and the held reads of a node's buffer are.
+const BATCHES_AT: usize = layout::SLOTS_AT + layout::BATCHES_FROM;
 
-const EXECS: usize = 128;
-
-const ROWS: usize = 192;
-
-const CELLS: usize = 512;
-
-const BATCHES: usize = 768;
-
-const READS: usize = 3616;
-
-const WRITTEN: usize = 8256;
+const READS_AT: usize = layout::SLOTS_AT + layout::READS_FROM;
 
 // ---- sums
 
@@ -91,7 +81,7 @@ fn least(a: usize, b: usize) -> usize
 
 // A count, and at most so many rows of w words.
 fn plus_table(sum: u32, m: &[u64], at: usize, w: usize, most: usize) -> u32
-    requires { ⌜ (at < 10000) × (w < 16) × (most ≤ 256) ⌝ }
+    requires { ⌜ (at < 10000) × (w < 16) × (most ≤ writtenPlaces) ⌝ }
     ensures { λ r. ⌜ r ≡ plusNumbers sum (tableOf (now (m .entry)) at w most) ⌝ }
 {
     let n = least(word(m, at) as usize, most);
@@ -115,7 +105,12 @@ pub fn of_roster(conf: RespondersConf, rows: &[u64]) -> u32
     let leader = conf.leader;
     let short = [leader_number(leader), conf.count as u64, conf.default];
     let s = plus_words(0, &short, 0, 3);
-    plus_words(s, rows, 0, 5 * least(conf.count, RespondersConf::RANGES))
+    plus_words(
+        s,
+        rows,
+        0,
+        layout::ROSTER_ROW * least(conf.count, RespondersConf::RANGES),
+    )
 }
 
 // ---- a slot
@@ -148,34 +143,46 @@ fn plus_cell(sum: u32, m: &[u64], at: usize) -> u32
 }
 
 fn plus_reads(sum: u32, m: &[u64], c: usize) -> u32
-    requires { ⌜ c < 32 ⌝ }
+    requires { ⌜ c < slotPlaces ⌝ }
     ensures { λ r. ⌜ r ≡ plusNumbers sum (readsOf (now (m .entry)) c) ⌝ }
 {
-    if word(m, CELLS + 8 * c + 4) == 0 {
+    if word(m, layout::SLOTS_AT + layout::CELL_ROW * c + 4) == 0 {
         return plus(sum, 0);
     }
-    plus_table(sum, m, READS + 145 * c, 9, Node::HOLD)
+    plus_table(
+        sum,
+        m,
+        READS_AT + layout::HELD_WORDS * c,
+        layout::HELD_ROW,
+        layout::HELD_PLACES,
+    )
 }
 
 fn plus_slot(sum: u32, m: &[u64], c: usize) -> u32
-    requires { ⌜ c < 32 ⌝ }
+    requires { ⌜ c < slotPlaces ⌝ }
     ensures { λ r. ⌜ r ≡ plusNumbers sum (slotOf (now (m .entry)) c) ⌝ }
 {
-    let a = plus_cell(sum, m, CELLS + 8 * c);
-    let b = plus_table(a, m, BATCHES + 89 * c, 11, inst_reqs::BATCH);
+    let a = plus_cell(sum, m, layout::SLOTS_AT + layout::CELL_ROW * c);
+    let b = plus_table(
+        a,
+        m,
+        BATCHES_AT + layout::BATCH_WORDS * c,
+        layout::REQUEST_ROW,
+        layout::REQUEST_PLACES,
+    );
     plus_reads(b, m, c)
 }
 
 fn plus_slots(sum: u32, m: &[u64], start: Slot, n: usize) -> u32
-    requires { ⌜ n ≤ window ⌝ }
+    requires { ⌜ n ≤ slotPlaces ⌝ }
     ensures { λ r. ⌜ r ≡ plusNumbers sum (slotsOf (now (m .entry)) (start .0) n) ⌝ }
 {
     let from = start.0;
-    let first = (from % 32) as usize;
+    let first = (from % layout::PLACES) as usize;
     let mut s = sum;
     let mut i = 0;
     while i < n {
-        s = plus_slot(s, m, (first + i) % 32);
+        s = plus_slot(s, m, (first + i) % layout::SLOT_PLACES);
         i += 1;
     }
     s
@@ -226,9 +233,9 @@ fn plus_peers(sum: u32, m: &[u64], id: Replica, population: u8) -> u32
     let me = id.0 as usize;
     let n = population as usize;
     let a = plus_words(sum, m, 0, n);
-    let b = plus_words(a, m, BARS, n);
-    let c = plus_words(b, m, EXECS, me);
-    plus_words(c, m, EXECS + (me + 1), above(me, n))
+    let b = plus_words(a, m, layout::BARS_AT, n);
+    let c = plus_words(b, m, layout::EXECS_AT, me);
+    plus_words(c, m, layout::EXECS_AT + (me + 1), above(me, n))
 }
 
 pub fn of_node(node: Node, mem: &[u64]) -> u32
@@ -239,9 +246,20 @@ pub fn of_node(node: Node, mem: &[u64]) -> u32
     let c = plus_words(
         b,
         mem,
-        ROWS,
-        5 * least(node.bodega_conf.count, RespondersConf::RANGES),
+        layout::ROWS_AT,
+        layout::ROSTER_ROW * least(node.bodega_conf.count, RespondersConf::RANGES),
     );
-    let d = plus_slots(c, mem, node.start_slot, least(node.slots, Node::WINDOW));
-    plus_table(d, mem, WRITTEN, 8, Node::KEYS)
+    let d = plus_slots(
+        c,
+        mem,
+        node.start_slot,
+        least(node.slots, layout::SLOT_PLACES),
+    );
+    plus_table(
+        d,
+        mem,
+        layout::WRITTEN_AT,
+        layout::WRITTEN_ROW,
+        layout::WRITTEN_PLACES,
+    )
 }

@@ -1,3 +1,4 @@
+use Rattle.layout.specs.Layout.{slotPlaces}
 use Rattle.insts.specs.Slots.{instIn}
 use Rattle.advance_commit_bar.specs.Walk.{stopsAt, markItems}
 use Rattle.advance_commit_bar.proofs.Pass as pass
@@ -57,7 +58,7 @@ loop-again : tie.Need-loop-again Inv-loop μ-loop
 loop-again c =
     let a = c .before .before .before .before .before .before .before .before .before .before .args in
     let l = c .before .before .before .before .before .loop in
-    (omega arith, omega (arith, law.at-most-one _ _ _ (c .one-if-open .ensures)), λ b e. pass.count-step (stopsAt (a .ballot .0)) law.marked markItems _ _ (b - a .start .0) (l .k) (l .count) _ _ (l .inv .2 b e) (omega arith) _ (c .before .before .stops .ensures) (c .before .if1 .left) _ (c .one-if-open .ensures ∙ law.one-item (a .start .0 + l .k) (instIn (a .s .now) ((a .start .0 + l .k) % 32))))
+    (omega arith, omega (arith, law.at-most-one _ _ _ (c .one-if-open .ensures)), λ b e. pass.count-step (stopsAt (a .ballot .0)) law.marked markItems _ _ (b - a .start .0) (l .k) (l .count) _ _ (l .inv .2 b e) (omega arith) _ (c .before .before .stops .ensures) (c .before .if1 .left) _ (c .one-if-open .ensures ∙ law.one-item (a .start .0 + l .k) (instIn (a .s .now) ((a .start .0 + l .k) % slotPlaces))))
 
 returns-2 : tie.Need-returns-2 Inv-loop μ-loop
 returns-2 c =

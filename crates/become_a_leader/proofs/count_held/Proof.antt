@@ -1,3 +1,4 @@
+use Rattle.layout.specs.Layout.{slotPlaces, heldPlaces}
 use Rattle.become_a_leader.proofs.Laws as law
 use Rattle.advance_commit_bar.proofs.Pass as pass
 use Rattle.insts.specs.Slots.{instIn, instsOf}
@@ -15,7 +16,7 @@ use Rattle.become_a_leader.proofs.count_held.Statement.{statement}
 use Rattle.become_a_leader.proofs.count_held.Tie as tie
 
 abbrev Inv-loop : tie.InvT-loop
-Inv-loop s start n from to k₀ count₀ k count = (k ≤ to) × (count ≤ k * 16) × (count + length (law.heldLeft (start .0) n to 0 none k s .items) ≡ length (releasedFrom 0 none (to - from) (drop from (instsOf (start .0) n s)) .items))
+Inv-loop s start n from to k₀ count₀ k count = (k ≤ to) × (count ≤ k * heldPlaces) × (count + length (law.heldLeft (start .0) n to 0 none k s .items) ≡ length (releasedFrom 0 none (to - from) (drop from (instsOf (start .0) n s)) .items))
 
 abbrev μ-loop : tie.MeasureT-loop
 μ-loop s start n from to k₀ count₀ k count = to - k
@@ -39,7 +40,7 @@ loop-less : tie.Need-loop-less Inv-loop μ-loop
 loop-less c = omega arith
 
 loop-again : tie.Need-loop-again Inv-loop μ-loop
-loop-again c = let a = c .before .before .before .before .before .args in let l = c .before .before .before .loop in (omega arith, omega (arith, c .holding .ensures .1), pass.count-step never emptied (answersAt 0 none) _ _ (a .to) (l .k) (l .count) _ _ (l .inv .2) (omega arith) false refl refl _ (c .holding .ensures .0 ∙ sym (length-answers 0 none (instIn (a .s .now) ((a .start .0 + l .k) % 32)))))
+loop-again c = let a = c .before .before .before .before .before .args in let l = c .before .before .before .loop in (omega arith, omega (arith, c .holding .ensures .1), pass.count-step never emptied (answersAt 0 none) _ _ (a .to) (l .k) (l .count) _ _ (l .inv .2) (omega arith) false refl refl _ (c .holding .ensures .0 ∙ sym (length-answers 0 none (instIn (a .s .now) ((a .start .0 + l .k) % slotPlaces)))))
 
 returns : tie.Need-returns Inv-loop μ-loop
 returns c = let a = c .before .before .before .args in let l = c .before .loop in (pass.count-end never emptied (answersAt 0 none) _ _ (a .to) (l .k) (l .count) _ _ (l .inv .2) (omega arith), omega arith)

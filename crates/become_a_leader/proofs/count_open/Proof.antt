@@ -1,3 +1,4 @@
+use Rattle.layout.specs.Layout.{slotPlaces}
 use Rattle.become_a_leader.proofs.Laws as law
 use Rattle.advance_commit_bar.proofs.Laws as one
 use Rattle.advance_commit_bar.proofs.Pass as pass
@@ -38,7 +39,7 @@ loop-less : tie.Need-loop-less Inv-loop μ-loop
 loop-less c = omega arith
 
 loop-again : tie.Need-loop-again Inv-loop μ-loop
-loop-again c = let a = c .before .before .before .before .before .args in let l = c .before .before .before .loop in (omega arith, omega (arith, one.at-most-one _ _ _ (c .one-if-open .ensures)), pass.count-step never (reprepared 0) prelogOf _ _ (a .n) (l .k) (l .count) _ _ (l .inv .2) (omega arith) false refl refl _ (c .one-if-open .ensures ∙ law.one-item (a .start .0 + l .k) (instIn (a .s .now) ((a .start .0 + l .k) % 32))))
+loop-again c = let a = c .before .before .before .before .before .args in let l = c .before .before .before .loop in (omega arith, omega (arith, one.at-most-one _ _ _ (c .one-if-open .ensures)), pass.count-step never (reprepared 0) prelogOf _ _ (a .n) (l .k) (l .count) _ _ (l .inv .2) (omega arith) false refl refl _ (c .one-if-open .ensures ∙ law.one-item (a .start .0 + l .k) (instIn (a .s .now) ((a .start .0 + l .k) % slotPlaces))))
 
 returns : tie.Need-returns Inv-loop μ-loop
 returns c = let a = c .before .before .before .args in let l = c .before .loop in (pass.count-end never (reprepared 0) prelogOf _ _ (a .n) (l .k) (l .count) _ _ (l .inv .2) (omega arith), omega arith)

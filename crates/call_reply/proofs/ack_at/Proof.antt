@@ -1,4 +1,4 @@
-use Prim.Native.Nat.{_+_, _*_}
+use Rattle.layout.specs.Layout.{batchWords}
 use Rattle.call_reply.proofs.Acks as law
 use Rattle.insts.proofs.Laws.{width}
 use borrow.Author.Needs.{needs}
@@ -19,11 +19,8 @@ returns c =
     let w = c .before .before in
     law.ignored _ _ _ _ _ _ (w .acks-with .result) (w .acks-with .ensures) (c .enum-told .given .1)
 
-mul-a : tie.Need-mul-a
-mul-a c = search needs
-
-add-a : tie.Need-add-a
-add-a c = search needs
+batch-at-requires : tie.Need-batch-at-requires
+batch-at-requires c κs = search needs
 
 add-e : tie.Need-add-e
 add-e c = search needs
@@ -46,18 +43,18 @@ commit-condition-requires c κs = search needs
 returns-2 : tie.Need-returns-2
 returns-2 c =
     let q = c .before in
-    let b = q .before .before .before in
+    let d = q .before .before in
+    let b = d .before .before in
     let w = b .before .before in
-    let a = w .before .before .before .args in
-    law.commits _ _ _ _ _ _ (w .acks-with .result) (w .acks-with .ensures) _ (b .acks .given .1) _ (width (256 + a .c * 89) 89) _ (q .commit-condition .ensures) (c .if1 .taken)
+    law.commits _ _ _ _ _ _ (w .acks-with .result) (w .acks-with .ensures) _ (b .acks .given .1) _ _ (d .batch-at .ensures) (width (d .batch-at .result) batchWords) _ (q .commit-condition .ensures) (c .if1 .taken)
 
 returns-3 : tie.Need-returns-3
 returns-3 c =
     let q = c .before in
-    let b = q .before .before .before in
+    let d = q .before .before in
+    let b = d .before .before in
     let w = b .before .before in
-    let a = w .before .before .before .args in
-    law.marks _ _ _ _ _ _ (w .acks-with .result) (w .acks-with .ensures) _ (b .acks .given .1) _ (width (256 + a .c * 89) 89) _ (q .commit-condition .ensures) (c .if1 .left)
+    law.marks _ _ _ _ _ _ (w .acks-with .result) (w .acks-with .ensures) _ (b .acks .given .1) _ _ (d .batch-at .ensures) (width (d .batch-at .result) batchWords) _ (q .commit-condition .ensures) (c .if1 .left)
 
 pub ack-at-spec : {M : Type 1} → statement M
 ack-at-spec =
@@ -67,8 +64,7 @@ ack-at-spec =
     enum-known-acks
     enum-told
     returns
-    mul-a
-    add-a
+    batch-at-requires
     add-e
     mul-commit-condition
     sub-commit-condition

@@ -1,4 +1,5 @@
 use Prim.Native.Nat.{_%_}
+use Rattle.layout.specs.Layout.{slotPlaces}
 use Rattle.call_reply.proofs.Replies as law
 use native.Mathlib.Omega.{arith}
 use borrow.Author.Needs.{needs}
@@ -26,7 +27,7 @@ returns c =
     let b = k .before in
     let p = b .before .before in
     let a = p .before .before .before .args in
-    law.too-full (a .s .now) (a .area .now) (a .id .0) (a .prepared .0) (a .commit .0) (a .peer .0) (a .slot .0) (a .ack) _ _ _ (p .span-of .ensures .0) (b .count-resends .ensures .0) (k .commits .ensures) (a .slot .0 % 32) (c .if1 .taken)
+    law.too-full (a .s .now) (a .area .now) (a .id .0) (a .prepared .0) (a .commit .0) (a .peer .0) (a .slot .0) (a .ack) _ _ _ (p .span-of .ensures .0) (b .count-resends .ensures .0) (k .commits .ensures) (a .slot .0 % slotPlaces) (c .if1 .taken)
 
 put-resends-requires : tie.Need-put-resends-requires
 put-resends-requires c κs = search needs

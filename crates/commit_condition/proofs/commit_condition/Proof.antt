@@ -2,6 +2,7 @@ use mathlib.Core.Path.{_≡_, sym, _∙_}
 use Prim.Native.Nat.{_≤_, _-_}
 use native.Mathlib.Omega.{arith}
 use borrow.Author.Needs.{needs}
+use Rattle.layout.specs.Layout.{requestPlaces}
 use Rattle.inst_reqs.specs.Batch.{requestsOf}
 use Rattle.bodega.specs.Localread.{commitCondition}
 use Rattle.roster_conf.specs.Edits.{view}
@@ -10,7 +11,7 @@ use Rattle.commit_condition.proofs.commit_condition.Statement.{statemen
 use Rattle.commit_condition.proofs.commit_condition.Tie as tie
 
 abbrev Inv-loop : tie.InvT-loop
-Inv-loop acks batch quorum conf rows n i₀ i = (i ≤ n) × (n ≤ 8) × (law.ackedFrom (view conf rows) acks batch i n ≡ commitCondition acks (requestsOf batch) quorum (view conf rows))
+Inv-loop acks batch quorum conf rows n i₀ i = (i ≤ n) × (n ≤ requestPlaces) × (law.ackedFrom (view conf rows) acks batch i n ≡ commitCondition acks (requestsOf batch) quorum (view conf rows))
 
 abbrev μ-loop : tie.MeasureT-loop
 μ-loop acks batch quorum conf rows n i₀ i = n - i

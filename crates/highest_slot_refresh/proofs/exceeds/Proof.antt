@@ -1,6 +1,8 @@
 use Prim.Native.Nat.{ℕ, _≤_, _+_, _-_}
 use mathlib.Core.Path.{_≡_}
 use lib.ListN.{length}
+use Rattle.ids.specs.Limits.{keys}
+use Rattle.layout.specs.Layout.{requestPlaces}
 use Rattle.highest_slot_refresh.specs.Refresh.{after}
 use Rattle.highest_slot_refresh.proofs.Laws as law
 use borrow.Author.Needs.{needs}
@@ -9,7 +11,7 @@ use Rattle.highest_slot_refresh.proofs.exceeds.Statement.{statement}
 use Rattle.highest_slot_refresh.proofs.exceeds.Tie as tie
 
 abbrev Inv-loop : tie.InvT-loop
-Inv-loop written batch m n₀ i₀ n i = (i ≤ m) × (m ≤ 8) × (n ≤ 256) × ((slot : ℕ) → n ≡ length (after slot batch written i))
+Inv-loop written batch m n₀ i₀ n i = (i ≤ m) × (m ≤ requestPlaces) × (n ≤ keys) × ((slot : ℕ) → n ≡ length (after slot batch written i))
 
 abbrev μ-loop : tie.MeasureT-loop
 μ-loop written batch m n₀ i₀ n i = m - i

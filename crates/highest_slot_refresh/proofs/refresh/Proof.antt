@@ -1,13 +1,14 @@
 use Prim.Native.Nat.{_≤_, _-_}
 use mathlib.Core.Path.{_≡_}
 use lib.ListN.{length}
+use Rattle.layout.specs.Layout.{requestPlaces}
 use Rattle.highest_slot_refresh.proofs.Laws as law
 use native.Mathlib.Omega.{arith}
 use Rattle.highest_slot_refresh.proofs.refresh.Statement.{statement}
 use Rattle.highest_slot_refresh.proofs.refresh.Tie as tie
 
 abbrev Inv-loop : tie.InvT-loop
-Inv-loop written₀ batch slot n i₀ written i = (i ≤ n) × (n ≤ 8) × law.Left (slot .0) batch written₀ n i written
+Inv-loop written₀ batch slot n i₀ written i = (i ≤ n) × (n ≤ requestPlaces) × law.Left (slot .0) batch written₀ n i written
 
 abbrev μ-loop : tie.MeasureT-loop
 μ-loop written₀ batch slot n i₀ written i = n - i

@@ -1,4 +1,5 @@
 use Prim.Native.Nat.{_*_}
+use Rattle.layout.specs.Layout.{cellRow}
 use Rattle.inst_cell.specs.Cell.{statusOf, acksOf, bookOf}
 use Rattle.inst_cell.proofs.Laws as law
 use lib.ListN.{length-set}
@@ -85,7 +86,7 @@ same-length c = simp length-set
 returns : tie.Need-returns
 returns c =
     let a = c .before .before .before .before .args in
-    law.words-are (a .cells .now) (a .c * 8) (a .cell .bal .0) _ _ _ _ _ _ (statusOf (a .cell .status)) (acksOf (a .cell .«leader_bk»)) (bookOf (a .cell .«replica_bk»)) (c .before .before .status-word .ensures) (c .before .ack-words .ensures) (c .book-words .ensures)
+    law.words-are (a .cells .now) (a .c * cellRow) (a .cell .bal .0) _ _ _ _ _ _ (statusOf (a .cell .status)) (acksOf (a .cell .«leader_bk»)) (bookOf (a .cell .«replica_bk»)) (c .before .before .status-word .ensures) (c .before .ack-words .ensures) (c .book-words .ensures)
 
 pub store-spec : {M : Type 1} → statement M
 store-spec =

@@ -1,5 +1,6 @@
 use borrow.Author.Needs.{needs}
 use Rattle.words.specs.Tab.{tab}
+use Rattle.layout.specs.Layout.{requestPlaces}
 use Rattle.inst_reqs.specs.Batch.{requestAt}
 use Rattle.bodega.specs.Localread.{lastPut}
 use Rattle.key_words.specs.Key.{bytesOf}
@@ -11,7 +12,7 @@ use Rattle.inst_reqs.proofs.last_put_among.Statement.{statement}
 use Rattle.inst_reqs.proofs.last_put_among.Tie as tie
 
 abbrev Inv-loop : tie.InvT-loop
-Inv-loop s n key i₀ i = (i ≤ 8) × (law.lastOf s i (bytesOf key) ≡ lastPut (bytesOf key) (tab (requestAt s) 0 n))
+Inv-loop s n key i₀ i = (i ≤ requestPlaces) × (law.lastOf s i (bytesOf key) ≡ lastPut (bytesOf key) (tab (requestAt s) 0 n))
 
 abbrev μ-loop : tie.MeasureT-loop
 μ-loop s n key i₀ i = i

@@ -1,3 +1,4 @@
+use Rattle.layout.specs.Layout.{batchWords, batchesFrom}
 use Rattle.insts.proofs.Laws as law
 use Prim.Native.Nat.{_+_, _*_}
 use borrow.Author.Needs.{needs}
@@ -32,7 +33,7 @@ same-length : tie.Need-same-length
 same-length c = search needs
 
 returns : tie.Need-returns
-returns c = let g = c .before .before .before .before .before in let a = g .args in law.batch-cleared (a .s .now) (a .c) (g .pre .1) (g .pre .0) _ _ (law.width (256 + a .c * 89) 89) (c .before .before .clear .ensures)
+returns c = let g = c .before .before .before .before .before in let a = g .args in law.batch-cleared (a .s .now) (a .c) (g .pre .1) (g .pre .0) _ _ (law.width (batchesFrom + a .c * batchWords) batchWords) (c .before .before .clear .ensures)
 
 pub clear-batch-spec : {M : Type 1} → statement M
 clear-batch-spec =

@@ -1,3 +1,4 @@
+use Rattle.layout.specs.Layout.{heldWords, readsFrom}
 use Rattle.insts.proofs.Laws as law
 use Prim.Native.Nat.{_+_, _*_}
 use borrow.Author.Needs.{needs}
@@ -32,7 +33,7 @@ same-length : tie.Need-same-length
 same-length c = search needs
 
 returns : tie.Need-returns
-returns c = let g = c .before .before .before .before .before in let a = g .args in law.reads-cleared (a .s .now) (a .c) (g .pre .1) (g .pre .0) _ _ (law.width (3104 + a .c * 145) 145) (c .before .before .clear .ensures)
+returns c = let g = c .before .before .before .before .before in let a = g .args in law.reads-cleared (a .s .now) (a .c) (g .pre .1) (g .pre .0) _ _ (law.width (readsFrom + a .c * heldWords) heldWords) (c .before .before .clear .ensures)
 
 pub clear-reads-spec : {M : Type 1} → statement M
 clear-reads-spec =

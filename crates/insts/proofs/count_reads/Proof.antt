@@ -1,3 +1,4 @@
+use Rattle.layout.specs.Layout.{heldWords, readsFrom}
 use Rattle.insts.proofs.Laws as law
 use Prim.Native.Nat.{_+_, _*_}
 use borrow.Author.Needs.{needs}
@@ -32,7 +33,7 @@ returns : tie.Need-returns
 returns c =
     let g = c .before .before .before in
     let a = g .args in
-    law.reads-counted (a .s .now) (a .c) (g .pre .1) (g .pre .0) _ (law.width (3104 + a .c * 145) 145) _ (c .count .ensures)
+    law.reads-counted (a .s .now) (a .c) (g .pre .1) (g .pre .0) _ (law.width (readsFrom + a .c * heldWords) heldWords) _ (c .count .ensures)
 
 pub count-reads-spec : {M : Type 1} → statement M
 count-reads-spec =

@@ -1,3 +1,4 @@
+use Rattle.layout.specs.Layout.{batchWords, batchesFrom}
 use Rattle.insts.proofs.Laws as law
 use Prim.Native.Nat.{_+_, _*_}
 use Rattle.key_words.specs.Key.{bytesOf}
@@ -32,7 +33,7 @@ last-put-requires c κs = search needs
 returns : tie.Need-returns
 returns c =
     let a = c .before .before .before .args in
-    law.last-put-at (a .s .now) (a .c) _ (bytesOf (a .key)) _ (law.width (256 + a .c * 89) 89) (c .last-put .ensures)
+    law.last-put-at (a .s .now) (a .c) _ (bytesOf (a .key)) _ (law.width (batchesFrom + a .c * batchWords) batchWords) (c .last-put .ensures)
 
 pub last-put-spec : {M : Type 1} → statement M
 last-put-spec =

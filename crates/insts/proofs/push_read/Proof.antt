@@ -1,3 +1,4 @@
+use Rattle.layout.specs.Layout.{heldWords, readsFrom}
 use Rattle.insts.proofs.Laws as law
 use Prim.Native.Nat.{_+_, _*_}
 use Rattle.inst_holding.specs.Held.{readOf}
@@ -36,7 +37,7 @@ returns : tie.Need-returns
 returns c =
     let g = c .before .before .before .before .before in
     let a = g .args in
-    law.read-pushed (a .s .now) (a .c) (g .pre .1) (g .pre .0) _ (law.width (3104 + a .c * 145) 145) _ (readOf (a .x)) _ (c .before .before .push .kept .0) (g .pre .2) (c .before .before .push .ensures)
+    law.read-pushed (a .s .now) (a .c) (g .pre .1) (g .pre .0) _ (law.width (readsFrom + a .c * heldWords) heldWords) _ (readOf (a .x)) _ (c .before .before .push .kept .0) (g .pre .2) (c .before .before .push .ensures)
 
 pub push-read-spec : {M : Type 1} → statement M
 push-read-spec =

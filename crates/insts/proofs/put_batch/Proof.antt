@@ -1,3 +1,4 @@
+use Rattle.layout.specs.Layout.{batchWords, batchesFrom}
 use Rattle.insts.proofs.Laws as law
 use Prim.Native.Nat.{_+_, _*_}
 use borrow.Author.Needs.{needs}
@@ -32,7 +33,7 @@ same-length : tie.Need-same-length
 same-length c = search needs
 
 returns : tie.Need-returns
-returns c = let g = c .before .before .before .before .before .before in let a = g .args in law.batch-copied (a .s .now) (a .c) (g .pre .1) (g .pre .0) _ _ (a .words .now) (law.width (256 + a .c * 89) 89) (g .pre .2) (c .before .before .copy-words .ensures)
+returns c = let g = c .before .before .before .before .before .before in let a = g .args in law.batch-copied (a .s .now) (a .c) (g .pre .1) (g .pre .0) _ _ (a .words .now) (law.width (batchesFrom + a .c * batchWords) batchWords) (g .pre .2) (c .before .before .copy-words .ensures)
 
 pub put-batch-spec : {M : Type 1} → statement M
 put-batch-spec =

@@ -7,12 +7,13 @@ use Prim.Native.Nat.{ℕ, _-_, _≤_, _<_}
 use lib.ListN.{length, length-set, take, getD}
 use lib.Seq.{length-take-le}
 use Rattle.words.specs.Tab.{tab}
+use Rattle.layout.specs.Layout.{replicaPlaces}
 use Rattle.rank.specs.Sort.{sort}
 use Rattle.peer_accept_bar.proofs.accept_max.Statement.{statement}
 use Rattle.peer_accept_bar.proofs.accept_max.Tie as tie
 
 abbrev Inv-loop : tie.InvT-loop
-Inv-loop pairs population quorum ballot n b₀ i₀ b i = (i ≤ n) × (length b ≡ 64) × (take i b ≡ tab (law.barAt pairs (ballot .0)) 0 i)
+Inv-loop pairs population quorum ballot n b₀ i₀ b i = (i ≤ n) × (length b ≡ replicaPlaces) × (take i b ≡ tab (law.barAt pairs (ballot .0)) 0 i)
 
 abbrev μ-loop : tie.MeasureT-loop
 μ-loop pairs population quorum ballot n b₀ i₀ b i = n - i

@@ -1,6 +1,6 @@
+use Rattle.layout.specs.Layout.{batchWords, heldWords}
 use Rattle.release_held_reads.proofs.Laws as law
 use Rattle.insts.proofs.Laws.{width}
-use Prim.Native.Nat.{_+_, _*_}
 use borrow.Author.Needs.{needs}
 use Rattle.release_held_reads.proofs.release.Statement.{statement}
 use Rattle.release_held_reads.proofs.release.Tie as tie
@@ -14,20 +14,14 @@ load-requires c κs = search needs
 is-bound-requires : tie.Need-is-bound-requires
 is-bound-requires c κs = search needs
 
-mul-a : tie.Need-mul-a
-mul-a c = search needs
-
-add-a : tie.Need-add-a
-add-a c = search needs
+batch-at-requires : tie.Need-batch-at-requires
+batch-at-requires c κs = search needs
 
 add-e : tie.Need-add-e
 add-e c = search needs
 
-mul-b : tie.Need-mul-b
-mul-b c = search needs
-
-add-b : tie.Need-add-b
-add-b c = search needs
+reads-at-requires : tie.Need-reads-at-requires
+reads-at-requires c κs = search needs
 
 add-f : tie.Need-add-f
 add-f c = search needs
@@ -69,7 +63,15 @@ same-length-2 : tie.Need-same-length-2
 same-length-2 c = search needs
 
 returns : tie.Need-returns
-returns c = let h = c .before .before .before .before .before .before .before .before .before .before .before .before .before .before in let a = h .before .before .before .before .args in let l = c .before .before .before .before .before .before .before .before .before .before .before .before in let p = c .before .before .before .before .before .before in law.released _ _ (a .s .now) (a .area .now) (a .c) (a .place) _ (l .load .result) _ (h .holding .ensures) (l .load .ensures) (c .before .before .before .before .before .before .before .before .before .before .before .is-bound .ensures) _ _ _ _ (width (256 + a .c * 89) 89) (width (3104 + a .c * 145) 145) (p .put-answers .ensures) (c .before .before .clear-reads .ensures)
+returns c =
+    let p = c .before .before .before .before .before .before in
+    let r = p .before .before .before .before .before in
+    let b = r .before in
+    let l = b .before .before in
+    let h = l .before .before in
+    let a = h .before .before .before .before .args in
+    law.released _ _ (a .s .now) (a .area .now) (a .c) (a .place) _ (l .load .result) _ (h .holding .ensures) (l .load .ensures) (b .before .is-bound .ensures) _ _ _ _ _ _
+    (b .batch-at .ensures) (r .reads-at .ensures) (width (b .batch-at .result) batchWords) (width (r .reads-at .result) heldWords) (p .put-answers .ensures) (c .before .before .clear-reads .ensures)
 
 pub release-spec : {M : Type 1} → statement M
 release-spec =
@@ -78,11 +80,9 @@ release-spec =
     holding-requires
     load-requires
     is-bound-requires
-    mul-a
-    add-a
+    batch-at-requires
     add-e
-    mul-b
-    add-b
+    reads-at-requires
     add-f
     mul-put-answers
     sub-put-answers

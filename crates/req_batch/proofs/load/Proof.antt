@@ -1,12 +1,13 @@
 use mathlib.Core.Path.{_∙_}
 use Prim.Native.Nat.{_≤_, _-_}
+use Rattle.layout.specs.Layout.{requestPlaces}
 use Rattle.req_batch.proofs.Laws as law
 use native.Mathlib.Omega.{arith}
 use Rattle.req_batch.proofs.load.Statement.{statement}
 use Rattle.req_batch.proofs.load.Tie as tie
 
 abbrev Inv-loop : tie.InvT-loop
-Inv-loop rows text out₀ n i₀ out i = (i ≤ n) × (n ≤ 8) × law.Loaded rows text out₀ out i
+Inv-loop rows text out₀ n i₀ out i = (i ≤ n) × (n ≤ requestPlaces) × law.Loaded rows text out₀ out i
 
 abbrev μ-loop : tie.MeasureT-loop
 μ-loop rows text out₀ n i₀ out i = n - i

@@ -1,3 +1,4 @@
+use Rattle.layout.specs.Layout.{rosterRow}
 use Rattle.roster_compare.proofs.Laws as law
 use mathlib.Core.List.{[], _∷_}
 use Prim.Native.Nat.{_+_, _*_}
@@ -17,7 +18,7 @@ returns : tie.Need-returns
 returns c =
     let none = law.no-range _ _ _ (c .before .before .get-row .ensures) (c .before .lt .ensures) (c .if1 .taken) in
     let a = c .before .before .before .before .args in
-    (λ h. none [], λ h. none (rangeAt (a .rows .now) ((a .i + 1) * 5) ∷ []))
+    (λ h. none [], λ h. none (rangeAt (a .rows .now) ((a .i + 1) * rosterRow) ∷ []))
 
 add-next : tie.Need-add-next
 add-next c = search needs
