@@ -31,91 +31,27 @@ use Rattle.bodega.specs.Request.{settled, readAnswer, answered, treatRead}
 use Rattle.bodega.specs.Grounds.{grounds, full, overfills}
 use Rattle.bodega.specs.Step.{effect}
 use Rattle.bodega.specs.Answers.{Answers}
-use Rattle.inspect_latest_write.specs.Seen.{seen, Lent, settledOf, answerIn}
-use Rattle.inspect_latest_write.specs.declared.Standing.{Standing}
-use Rattle.inspect_latest_write.specs.declared.Settled.{Settled}
+use Rattle.inspect_latest_write.specs.Told.{answerIn, Gets}
 use Rattle.inspect_latest_write.specs.declared.ReadAnswer.{ReadAnswer}
 use Rattle.inspect_latest_write.specs.declared.ReadAnswer.the-variants.{HeldBy}
 use Rattle.inspect_latest_write.proofs.ReadAnswer.{the-type}
-use Rattle.inspect_latest_write.proofs.Laws.{Waiting, waiting, holds-none}
+use Rattle.inspect_latest_write.proofs.Laws.{Waiting, waiting, holds-none, placed-by}
 use Rattle.node.proofs.Calls.{Ready, is-ready, refused-by, few-places, taken-with}
 use Rattle.node.proofs.Frames.{slots-back, slots-size, slots-beyond, slots-ready}
 use Rattle.node.proofs.Slots.{not-below, not-past, held-at, set-at}
 use Rattle.node.specs.View.{view, ready, lowest}
 use Rattle.node.specs.declared.Node.{Node}
 
--- ---- what a read sees of a node is what the node stands for
-
-abbrev pub standingOf : Node → Standing
-standingOf n =
-    record {
-      id = n .id;
-      quorum = n .quorum;
-      «bodega_conf» = n .«bodega_conf»;
-      «bal_max_seen» = n .«bal_max_seen»;
-      «bal_prepared» = n .«bal_prepared»;
-      «start_slot» = n .«start_slot»;
-      «commit_bar» = n .«commit_bar»;
-      «peer_accept_max» = n .«peer_accept_max»;
-      slots = n .slots;
-    }
-
-abbrev pub seenIn : Node → List ℕ → machine.Replica
-seenIn n m = seen (standingOf n) (part m 192 320) (part m 512 7744) (part m 8256 2049)
-
-module _ (n : Node) (m : List ℕ) where
-  settled-same : (leases : ℕ) (key : List ℕ) → settled (seenIn n m) leases key ≡ settled (view n m) leases key
-  unfolding settled local.isStableLeader local.inspectLatestWrite local.inspectHighestSlot machine.instAt seen view
-  settled-same leases key = refl
-
-  answer-same : (y : local.Settled) → local.answerOf (seenIn n m) y ≡ local.answerOf (view n m) y
-  unfolding machine.instAt seen view
-  answer-same local.StableLeader = refl
-  answer-same local.FewLeases = refl
-  answer-same local.UnreadKey = refl
-  answer-same local.StoredRange = refl
-  answer-same local.DefaultRoster = refl
-  answer-same local.Bar = refl
-  answer-same local.NoSlot = refl
-  answer-same (local.SlotStatus slot) = refl
-  answer-same (local.Notices slot) = refl
-  answer-same (local.FoundPut v) = refl
-  answer-same (local.MissingPut slot) = refl
-
-  fills-same : (a : local.ReadAnswer) → overfills (seenIn n m) a ≡ overfills (view n m) a
-  unfolding machine.instAt seen view
-  fills-same (local.Found v) = refl
-  fills-same local.Missing = refl
-  fills-same local.FromStore = refl
-  fills-same local.Consensus = refl
-  fills-same (local.HeldBy slot) = refl
-  fills-same local.Again = refl
-
-  items-same : (q : machine.ReadReq) (a : local.ReadAnswer) → answered (seenIn n m) q a .items ≡ answered (view n m) q a .items
-  unfolding seen view
-  items-same q (local.Found v) = refl
-  items-same q local.Missing = refl
-  items-same q local.FromStore = refl
-  items-same q local.Consensus = refl
-  items-same q (local.HeldBy slot) = refl
-  items-same q local.Again = refl
-
 -- ---- the parts lent are long enough
 
-pub place : (slot : ℕ) → slot % 32 < 32
-place slot = omega arith
+place : {c : ℕ} (slot : ℕ) → c ≡ slot % 32 → c < 32
+place slot e = omega arith
 
-module _ (n : Node) (m : List ℕ) (r : Ready n m) where
-  pub slots-long : 7744 ≤ length (part m 512 7744)
-  slots-long = rw (length-part m 512 7744 (omega (arith, r .long))) (omega arith)
+pub ready-is : (n : Node) (m : List ℕ) (t : Bool) → t ≡ ready n m → not t ≡ false → ready n m ≡ true
+ready-is n m t e f = sym e ∙ not-false t f
 
-  pub lent : Lent (standingOf n) (part m 192 320) (part m 512 7744) (part m 8256 2049)
-  lent =
-      record {
-        ranges = rw (length-part m 192 320 (omega (arith, r .long))) (omega (arith, r .ranges));
-        slots = slots-long;
-        written = rw (length-part m 8256 2049 (omega (arith, r .long))) (omega arith);
-      }
+pub slots-long : (n : Node) (m : List ℕ) → Ready n m → 7744 ≤ length (part m 512 7744)
+slots-long n m r = rw (length-part m 512 7744 (omega (arith, r .long))) (omega arith)
 
 -- ---- a key of at most 48 bytes
 
@@ -253,18 +189,11 @@ module _ (n : Node) (m area : List ℕ) (client request leases : ℕ) (key : Lis
       pub bytes-are : bytesOf k ≡ key
       bytes-are = short .0
 
-      module _ (y : Settled) (i : settledOf y ≡ settled (seenIn n m) leases key) (a : ReadAnswer) (j : answerIn a ≡ local.answerOf (seenIn n m) (settledOf y)) where
-        answer-of : answerIn a ≡ local.answerOf (view n m) (settledOf y)
-        answer-of = j ∙ answer-same n m (settledOf y)
-
+      module _ (a : ReadAnswer) (j : Gets (view n m) (part m 512 7744) (readAnswer (view n m) leases key) a) where
         answer-is : answerIn a ≡ readAnswer (view n m) leases key
-        unfolding readAnswer
-        answer-is = answer-of ∙ ap (local.answerOf (view n m)) (i ∙ settled-same n m leases key)
+        answer-is = j .0
 
-        module _ (b : Bool) (l : b ≡ overfills (seenIn n m) (answerIn a)) where
-          fills : b ≡ overfills (view n m) (answerIn a)
-          fills = l ∙ fills-same n m (answerIn a)
-
+        module _ (b : Bool) (fills : b ≡ overfills (view n m) (answerIn a)) where
           ground-19 : (if b then 19 else 0) ≡ lowest (grounds (view n m) call)
           unfolding grounds
           ground-19 = rw (short .1) (ap (λ (x : Bool). if x then 19 else 0) (fills ∙ ap (overfills (view n m)) answer-is))
@@ -272,7 +201,7 @@ module _ (n : Node) (m area : List ℕ) (client request leases : ℕ) (key : Lis
           pub full-19 : b ≡ true → Answers ready view call n m area (record { number = 19; count = 0; node = n }) m area
           full-19 u = refused-by call n m area t e f 19 (sym (rw u) ∙ ground-19) (λ z. absurd (omega arith))
 
-          module _ (u : b ≡ false) (x : code.Item) (w : answered (seenIn n m) q (answerIn a) .items ≡ itemOf x ∷ []) where
+          module _ (u : b ≡ false) (x : code.Item) (w : answered (view n m) q (answerIn a) .items ≡ itemOf x ∷ []) where
             number-0 : 0 ≡ lowest (grounds (view n m) call)
             number-0 = sym (rw u) ∙ ground-19
 
@@ -280,7 +209,7 @@ module _ (n : Node) (m area : List ℕ) (client request leases : ℕ) (key : Lis
             unfolding effect treatRead
             effect-is =
                 ap (answered (view n m) q) (sym answer-is)
-                ∙ ap (machine.done (answered (view n m) q (answerIn a) .replica)) (sym (items-same n m q (answerIn a)) ∙ w)
+                ∙ ap (machine.done (answered (view n m) q (answerIn a) .replica)) w
 
             module _ (area′ : List ℕ) (r : Bool) (z : _≡_ {A = Put} (record { taken = r; area = area′ }) (putItem area 0 (itemOf x))) where
               placed : r ≡ ltb 0 (places area)
@@ -307,20 +236,27 @@ module _ (n : Node) (m area : List ℕ) (client request leases : ℕ) (key : Lis
                 pub served : OneOf (0 ∷ 1 ∷ 2 ∷ 3 ∷ 5 ∷ []) (tagOf the-type a) → Answers ready view call n m area (record { number = 0; count = 1; node = n }) m area′
                 served o = taken m (sym (holds-none (view n m) q a o)) refl (λ j l. refl) refl
 
-                module _ (slot : Slot) (o : a ≡ HeldBy slot) where
+                module _ (slot : Slot) (d : ℕ) (o : a ≡ HeldBy slot d) where
                   waits : Waiting (view n m) (slot .0)
-                  waits = waiting (view n m) (slot .0) (settledOf y) (sym answer-of ∙ ap answerIn o)
+                  unfolding readAnswer
+                  waits = waiting (view n m) (slot .0) (settled (view n m) leases key) (sym answer-is ∙ ap answerIn o)
 
-                  pub has-room : length (readsAt (part m 512 7744) (slot .0 % 32)) < 16
-                  has-room = room n m (slot .0) waits (ap (λ (d : ReadAnswer). overfills (view n m) (answerIn d)) (sym o) ∙ sym fills ∙ u)
+                  at-place : d ≡ slot .0 % 32
+                  at-place = placed-by (view n m) (part m 512 7744) a (HeldBy slot d) o (j .1) .0
+
+                  pub place-below : d < 32
+                  place-below = place (slot .0) at-place
+
+                  pub has-room : length (readsAt (part m 512 7744) d) < 16
+                  has-room = rw at-place (room n m (slot .0) waits (ap (λ (y : ReadAnswer). overfills (view n m) (answerIn y)) (sym o) ∙ sym fills ∙ u))
 
                   pub held : (s : List ℕ)
-                      → Puts (part m 512 7744) (slot .0 % 32) (shortAt (part m 512 7744) (slot .0 % 32)) (batchAt (part m 512 7744) (slot .0 % 32))
-                      (readsAt (part m 512 7744) (slot .0 % 32) ++ (record { client = client; request = request; key = bytesOf k } ∷ [])) s
+                      → Puts (part m 512 7744) d (shortAt (part m 512 7744) d) (batchAt (part m 512 7744) d)
+                      (readsAt (part m 512 7744) d ++ (record { client = client; request = request; key = bytesOf k } ∷ [])) s
                       → Answers ready view call n m area (record { number = 0; count = 1; node = n }) (splice m 512 7744 s) area′
-                  held s d =
+                  held s p′ =
                       let d′ : Puts (part m 512 7744) (slot .0 % 32) (shortAt (part m 512 7744) (slot .0 % 32)) (batchAt (part m 512 7744) (slot .0 % 32))
-                      (readsAt (part m 512 7744) (slot .0 % 32) ++ (q ∷ [])) s = rw bytes-are at d in
+                      (readsAt (part m 512 7744) (slot .0 % 32) ++ (q ∷ [])) s = rw (at-place, bytes-are) at p′ in
                       let b′ : Ready n m = is-ready n m t e f in
                       taken (splice m 512 7744 s)
                       (hold-view n m (slot .0) waits b′ q s d′ ∙ ap (λ (y : ReadAnswer). answered (view n m) q (answerIn y) .replica) (sym o))

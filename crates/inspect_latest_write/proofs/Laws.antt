@@ -4,15 +4,16 @@ use mathlib.Core.Bool.{Bool, true, false, not, _&&_, _||_}
 use mathlib.Core.Logic.{⊎-elim}
 use mathlib.Core.List.{List, [], _∷_}
 use mathlib.Core.Option.{Option, none, some}
-use Prim.Native.Nat.{ℕ, _+_, _-_, _%_, _≤_, _<_}
+use Prim.Native.Nat.{ℕ, _+_, _-_, _*_, _%_, _≤_, _<_}
 use native.Mathlib.Decide.{decLt}
 use native.Mathlib.Omega.{arith}
 use types.Run.{OneOf}
 use denote.Enum.Declared.{tagOf}
 use borrow.Author.Tests.{lt-ltb, le-ltb, le-leb, lt-leb, eq-eqb, ne-eqb, ltb-true, ltb-false, leb-true, not-true, not-false}
 use lib.Dec.{ltb, leb, eqb}
-use lib.ListN.{length, getElem?}
+use lib.ListN.{length}
 use Rattle.words.specs.Choice.{if_then_else_, ifNone_then_else_}
+use Rattle.words.specs.Part.{part, length-part}
 use Rattle.ids.specs.declared.Slot.{Slot}
 use Rattle.bitmap.specs.Bitmap.{get}
 use Rattle.keys.specs.Read.{readKey}
@@ -28,7 +29,8 @@ use Rattle.roster_map.specs.declared.Lookup.the-variants.{Mask, Nothing}
 use Rattle.roster_conf.specs.Edits.{view as rosterOf}
 use Rattle.bodega.specs.Replica as machine
 use Rattle.bodega.specs.Localread as local
-use Rattle.bodega.specs.Request.{settled, answered}
+use Rattle.bodega.specs.Request as request
+use Rattle.bodega.specs.Request.{readAnswer, answered}
 use Rattle.bodega.specs.Grounds.{full, overfills}
 use Rattle.inst_cell.specs.Cell.{Notices, statusOf, bookOf, cellOf}
 use Rattle.inst_cell.specs.declared.Cell.{Cell}
@@ -39,13 +41,17 @@ use Rattle.inst_reqs.specs.declared.Latest.the-variants as latest
 use Rattle.highest_slot.specs.Written.{writtenOf, slotIn}
 use Rattle.highest_slot.specs.declared.LastWrite.{LastWrite}
 use Rattle.highest_slot.specs.declared.LastWrite.the-variants as last
-use Rattle.insts.specs.Slots.{shortAt, batchAt, readsAt, instOf, instIn, instsOf, bookOf as heldBook}
-use Rattle.insts.proofs.Laws.{inst-at, inst-none}
+use Rattle.insts.specs.Slots.{shortAt, batchAt, readsAt, instOf, instIn, bookOf as heldBook}
 use Rattle.release_held_reads.specs.Release.{holdingOf}
 use Rattle.words.proofs.Tests.{and-both}
-use Rattle.inspect_latest_write.specs.Seen.{seen, heldAt, settledOf, answerIn}
-use Rattle.inspect_latest_write.specs.declared.Standing.{Standing}
+use Rattle.node.specs.View.{view, ready}
+use Rattle.node.specs.declared.Node.{Node}
+use Rattle.node.proofs.Calls.{Ready, is-ready}
+use Rattle.node.proofs.Slots.{not-below, not-past, held-at}
+use Rattle.inspect_latest_write.specs.Told.{heldAt, settledOf, answerIn, Stands, Told, Settles, Places, Gets}
+use Rattle.inspect_latest_write.specs.declared.SlotAt.{SlotAt}
 use Rattle.inspect_latest_write.specs.declared.Settled.{Settled}
+use Rattle.inspect_latest_write.specs.declared.Settled.the-variants as settled
 use Rattle.inspect_latest_write.specs.declared.ReadAnswer.{ReadAnswer}
 use Rattle.inspect_latest_write.specs.declared.ReadAnswer.the-variants.{Found, Missing, FromStore, Consensus, HeldBy, Again}
 use Rattle.inspect_latest_write.proofs.ReadAnswer.{the-type}
@@ -83,11 +89,11 @@ module _ (l : Bool) (p m q n max commit : ℕ) where
         pub stable : q ≤ n → leb max commit ≡ stableBy l p m q n max commit
         stable f = sym (simp (t, lt-ltb 0 p (omega arith), eq-eqb m p e, le-leb q n f))
 
-pub stable-is : (v : Standing) (leases : ℕ) (rows s w : List ℕ)
-    → stableBy (machine.isLeader (seen v rows s w)) (v .«bal_prepared» .0) (v .«bal_max_seen» .0) (v .quorum) leases (v .«peer_accept_max» .0) (v .«commit_bar» .0)
-    ≡ local.isStableLeader (seen v rows s w) leases
-unfolding local.isStableLeader seen
-stable-is v leases rows s w = refl
+pub stable-is : (n : Node) (leases : ℕ) (m : List ℕ)
+    → stableBy (machine.isLeader (view n m)) (n .«bal_prepared» .0) (n .«bal_max_seen» .0) (n .quorum) leases (n .«peer_accept_max» .0) (n .«commit_bar» .0)
+    ≡ local.isStableLeader (view n m) leases
+unfolding local.isStableLeader view
+stable-is n leases m = refl
 
 -- ---- responders
 
@@ -97,6 +103,12 @@ module _ (d id : ℕ) (x : Lookup) (r : Bool) where
 
   pub in-default : x ≡ Nothing → r ≡ get d id → r ≡ get (ifNone maskIn x then d else λ k. k) id
   in-default e f = f ∙ ap (λ (y : Lookup). get (ifNone maskIn y then d else λ k. k) id) (sym e)
+
+pub stored-range : (x : Lookup) (k : ℕ) → x ≡ Mask k → local.StoredRange ≡ (ifNone maskIn x then local.DefaultRoster else λ m. local.StoredRange)
+stored-range x k e = sym (rw e)
+
+pub default-roster : (x : Lookup) → x ≡ Nothing → local.DefaultRoster ≡ (ifNone maskIn x then local.DefaultRoster else λ m. local.StoredRange)
+default-roster x e = sym (rw e)
 
 -- ---- a slot that is held
 
@@ -109,36 +121,32 @@ held-by start n slot h = elim (decLt slot (start + n)) [
   | no g ↦ le-ltb (slot - start) n (omega arith) ∙ sym (simp (le-leb start slot h, le-ltb slot (start + n) (omega arith)))
 ]
 
-at-place : (start n slot : ℕ) (s : List ℕ) → start ≤ slot → slot < start + n → getElem? (instsOf start n s) (slot - start) ≡ some (instIn s (slot % 32))
-at-place start n slot s h g =
-    let e : start + (slot - start) ≡ slot = omega arith in
-    inst-at start n (slot - start) s (omega arith) ∙ ap (λ (j : ℕ). some (instIn s (j % 32))) e
+pub place-below : {c : ℕ} (slot : ℕ) → c ≡ slot % 32 → c < 32
+place-below slot e = omega arith
 
-module _ (v : Standing) (rows s w : List ℕ) (slot : ℕ) (t : Bool) (e : t ≡ heldAt (v .«start_slot» .0) (v .slots) slot) where
-  pub no-slot : not t ≡ true → machine.instAt (seen v rows s w) slot ≡ none
-  unfolding machine.instAt seen
-  no-slot f = elim (decLt slot (v .«start_slot» .0)) [
-    | yes h ↦ rw (lt-ltb slot (v .«start_slot» .0) h)
+module _ (n : Node) (m s : List ℕ) (l : part m 512 7744 ≡ s) (slot : ℕ) (t : Bool) (e : t ≡ heldAt (n .«start_slot» .0) (n .slots) slot) where
+  no-slot : not t ≡ true → machine.instAt (view n m) slot ≡ none
+  no-slot f = elim (decLt slot (n .«start_slot» .0)) [
+    | yes h ↦ not-below n m slot h
     | no h ↦
-        let k : v .«start_slot» .0 ≤ slot = omega arith in
-        let g : ltb slot (v .«start_slot» .0 + v .slots) ≡ false = rw (le-leb (v .«start_slot» .0) slot k) at (sym e ∙ not-true t f) in
-        let l : v .«start_slot» .0 + v .slots ≤ slot = ltb-false slot (v .«start_slot» .0 + v .slots) g in
-        rw (le-ltb slot (v .«start_slot» .0) k) (inst-none (v .«start_slot» .0) (v .slots) (slot - v .«start_slot» .0) s (omega arith))
+        let k : n .«start_slot» .0 ≤ slot = omega arith in
+        let g : ltb slot (n .«start_slot» .0 + n .slots) ≡ false = rw (le-leb (n .«start_slot» .0) slot k) at (sym e ∙ not-true t f) in
+        not-past n m slot k (ltb-false slot (n .«start_slot» .0 + n .slots) g)
   ]
 
-  pub slot-at : not t ≡ false → machine.instAt (seen v rows s w) slot ≡ some (instIn s (slot % 32))
-  unfolding machine.instAt seen
+  slot-at : not t ≡ false → machine.instAt (view n m) slot ≡ some (instIn s (slot % 32))
   slot-at f =
-      let b = and-both (leb (v .«start_slot» .0) slot) (ltb slot (v .«start_slot» .0 + v .slots)) (sym e ∙ not-false t f) in
-      let h = leb-true (v .«start_slot» .0) slot (b .0) in
-      rw (le-ltb slot (v .«start_slot» .0) h) (at-place (v .«start_slot» .0) (v .slots) slot s h (ltb-true slot (v .«start_slot» .0 + v .slots) (b .1)))
+      let b = and-both (leb (n .«start_slot» .0) slot) (ltb slot (n .«start_slot» .0 + n .slots)) (sym e ∙ not-false t f) in
+      held-at n m slot (leb-true (n .«start_slot» .0) slot (b .0)) (ltb-true slot (n .«start_slot» .0 + n .slots) (b .1))
+      ∙ ap (λ (y : List ℕ). some (instIn y (slot % 32))) l
 
-  -- the slot's short part as it is loaded
-  pub loaded : not t ≡ false → (c : ℕ) (x : Cell) → c ≡ slot % 32 → cellOf x ≡ shortAt s c
-      → machine.instAt (seen v rows s w) slot ≡ some (instOf (cellOf x) (batchAt s c) (readsAt s c))
-  unfolding instIn
-  loaded f c x k l =
-      slot-at f ∙ ap (λ (j : ℕ). some (instOf (shortAt s j) (batchAt s j) (readsAt s j))) (sym k) ∙ ap (λ (y : _). some (instOf y (batchAt s c) (readsAt s c))) (sym l)
+  slot-in : not t ≡ false → (c : ℕ) → c ≡ slot % 32 → machine.instAt (view n m) slot ≡ some (instIn s c)
+  slot-in f c k = slot-at f ∙ ap (λ (j : ℕ). some (instIn s j)) (sym k)
+
+-- the slot's short part as it is loaded
+loaded : (s : List ℕ) (c : ℕ) (x : Cell) → cellOf x ≡ shortAt s c → instIn s c ≡ instOf (cellOf x) (batchAt s c) (readsAt s c)
+unfolding instIn
+loaded s c x l = ap (λ (y : _). instOf y (batchAt s c) (readsAt s c)) (sym l)
 
 -- ---- a slot's book
 
@@ -173,83 +181,91 @@ waited slot o = ifNone o then local.Again else λ i. if local.waits i then local
 abbrev filled : Option machine.Instance → Bool
 filled o = ifNone o then false else λ i. ifNone i .replicaBk then false else λ b. leb 16 (length (b .holding))
 
-module _ (v : Standing) (rows s w : List ℕ) (slot : ℕ) (t : Bool) (e : t ≡ heldAt (v .«start_slot» .0) (v .slots) slot) where
-  inspect-by : (key : List ℕ) (o : Option machine.Instance) → machine.instAt (seen v rows s w) slot ≡ o
-      → inspected (v .quorum) key slot o ≡ local.inspectHighestSlot (seen v rows s w) key slot
-  unfolding local.inspectHighestSlot seen
-  inspect-by key o f = ap (inspected (v .quorum) key slot) (sym f)
+module _ (n : Node) (m s : List ℕ) (d : part m 512 7744 ≡ s) (slot : Slot) (t : Bool) (e : t ≡ heldAt (n .«start_slot» .0) (n .slots) (slot .0)) (key : List ℕ) where
+  abbrev Inspects : Settled → Type 0
+  Inspects x = Settles (view n m) s (local.inspectHighestSlot (view n m) key (slot .0)) x
 
-  pub inspect-none : (key : List ℕ) → not t ≡ true → local.SlotStatus slot ≡ local.inspectHighestSlot (seen v rows s w) key slot
-  inspect-none key f = inspect-by key none (no-slot v rows s w slot t e f)
+  inspect-by : (o : Option machine.Instance) → machine.instAt (view n m) (slot .0) ≡ o
+      → inspected (n .quorum) key (slot .0) o ≡ local.inspectHighestSlot (view n m) key (slot .0)
+  unfolding local.inspectHighestSlot view
+  inspect-by o f = ap (inspected (n .quorum) key (slot .0)) (sym f)
 
-  pub wait-none : not t ≡ true → local.Again ≡ local.waitsAt (seen v rows s w) slot
-  wait-none f = ap (waited slot) (sym (no-slot v rows s w slot t e f))
+  pub inspect-none : not t ≡ true → Inspects (settled.SlotStatus slot)
+  inspect-none f = (inspect-by none (no-slot n m s d (slot .0) t e f), tt)
 
-  pub full-none : not t ≡ true → false ≡ full (seen v rows s w) slot
-  full-none f = ap filled (sym (no-slot v rows s w slot t e f))
-
-  pub full-counted : not t ≡ false → (c n : ℕ) → c ≡ slot % 32 → (n ≡ length (holdingOf (instIn s c))) × (n ≤ 16) → leb 16 n ≡ full (seen v rows s w) slot
-  full-counted f c n k j =
-      ap (leb 16) (j .0) ∙ ap (λ (y : ℕ). leb 16 (length (holdingOf (instIn s y)))) k ∙ full-book (instIn s (slot % 32) .replicaBk)
-      ∙ ap filled (sym (slot-at v rows s w slot t e f))
-
-  module _ (f : not t ≡ false) (c : ℕ) (x : Cell) (k : c ≡ slot % 32) (l : cellOf x ≡ shortAt s c) where
+  module _ (f : not t ≡ false) (c : ℕ) (x : Cell) (k : c ≡ slot .0 % 32) (l : cellOf x ≡ shortAt s c) where
     abbrev here : machine.Instance
     here = instOf (cellOf x) (batchAt s c) (readsAt s c)
 
-    found-here : machine.instAt (seen v rows s w) slot ≡ some here
-    found-here = loaded v rows s w slot t e f c x k l
+    found-here : machine.instAt (view n m) (slot .0) ≡ some here
+    found-here = slot-in n m s d (slot .0) t e f c k ∙ ap (λ (i : machine.Instance). some i) (loaded s c x l)
 
-    module _ (key : List ℕ) (u : Bool) (g : u ≡ ltb (machine.order (statusOf (x .status))) 2) where
-      pub inspect-early : u ≡ true → local.SlotStatus slot ≡ local.inspectHighestSlot (seen v rows s w) key slot
-      inspect-early h = sym (rw (sym g ∙ h)) ∙ inspect-by key (some here) found-here
+    stands : (w : Bool) → w ≡ local.waits here → Stands (view n m) s (record { slot = slot; place = c; waits = w })
+    stands w z =
+        record { place = k; found = slot-in n m s d (slot .0) t e f c k; waits = z ∙ ap (λ (i : machine.Instance). local.waits i) (sym (loaded s c x l)) }
 
-      module _ (h : u ≡ false) (b : Bool) (y : b ≡ local.isBound (v .quorum) here) where
-        pub inspect-unbound : not b ≡ true → local.Notices slot ≡ local.inspectHighestSlot (seen v rows s w) key slot
-        inspect-unbound z = sym (rw (sym g ∙ h, sym y ∙ not-true b z)) ∙ inspect-by key (some here) found-here
+    module _ (u : Bool) (g : u ≡ ltb (machine.order (statusOf (x .status))) 2) where
+      pub inspect-early : u ≡ true → Inspects (settled.SlotStatus slot)
+      inspect-early h = (sym (rw (sym g ∙ h)) ∙ inspect-by (some here) found-here, tt)
+
+      module _ (h : u ≡ false) (b : Bool) (y : b ≡ local.isBound (n .quorum) here) where
+        pub inspect-unbound : not b ≡ true → (w : Bool) → w ≡ local.waits here → Inspects (settled.Notices (record { slot = slot; place = c; waits = w }))
+        inspect-unbound z w v = (sym (rw (sym g ∙ h, sym y ∙ not-true b z)) ∙ inspect-by (some here) found-here, stands w v)
 
         module _ (z : not b ≡ false) (p : Latest) (q : valueIn p ≡ local.lastPut key (batchAt s c)) where
-          bound : (if not (local.isBound (v .quorum) here) then local.Notices slot else ifNone valueIn p then local.MissingPut slot else local.FoundPut)
-              ≡ local.inspectHighestSlot (seen v rows s w) key slot
-          bound = rw q (sym (rw (sym g ∙ h)) ∙ inspect-by key (some here) found-here)
+          bound : (if not (local.isBound (n .quorum) here) then local.Notices (slot .0) else ifNone valueIn p then local.MissingPut (slot .0) else local.FoundPut)
+              ≡ local.inspectHighestSlot (view n m) key (slot .0)
+          bound = rw q (sym (rw (sym g ∙ h)) ∙ inspect-by (some here) found-here)
 
-          pub inspect-found : (k : ℕ) → p ≡ latest.Value k → local.FoundPut k ≡ local.inspectHighestSlot (seen v rows s w) key slot
-          inspect-found k r = sym (rw (sym y ∙ not-false b z, r)) ∙ bound
+          pub inspect-found : (k : ℕ) → p ≡ latest.Value k → Inspects (settled.FoundPut k)
+          inspect-found k r = (sym (rw (sym y ∙ not-false b z, r)) ∙ bound, tt)
 
-          pub inspect-missing : p ≡ latest.Nothing → local.MissingPut slot ≡ local.inspectHighestSlot (seen v rows s w) key slot
-          inspect-missing r = sym (rw (sym y ∙ not-false b z, r)) ∙ bound
+          pub inspect-missing : p ≡ latest.Nothing → (w : Bool) → w ≡ local.waits here → Inspects (settled.MissingPut (record { slot = slot; place = c; waits = w }))
+          inspect-missing r w v = (sym (rw (sym y ∙ not-false b z, r)) ∙ bound, stands w v)
 
-    module _ (u : Bool) (g : u ≡ local.waits here) where
-      pub wait-held : u ≡ true → local.HeldBy slot ≡ local.waitsAt (seen v rows s w) slot
-      wait-held h = sym (rw (sym g ∙ h)) ∙ ap (waited slot) (sym found-here)
+-- where a read waits
+module _ (r : machine.Replica) (s : List ℕ) (x : SlotAt) (y : Stands r s x) where
+  wait-by : (if x .waits then local.HeldBy (x .slot .0) else local.Again) ≡ local.waitsAt r (x .slot .0)
+  wait-by = ap (λ (b : Bool). if b then local.HeldBy (x .slot .0) else local.Again) (y .waits) ∙ ap (waited (x .slot .0)) (sym (y .found))
 
-      pub wait-again : u ≡ false → local.Again ≡ local.waitsAt (seen v rows s w) slot
-      wait-again h = sym (rw (sym g ∙ h)) ∙ ap (waited slot) (sym found-here)
+  pub wait-held : x .waits ≡ true → Gets r s (local.waitsAt r (x .slot .0)) (HeldBy (x .slot) (x .place))
+  wait-held h = (sym (rw h) ∙ wait-by, (y .place, y .found))
+
+  pub wait-again : x .waits ≡ false → Gets r s (local.waitsAt r (x .slot .0)) Again
+  wait-again h = (sym (rw h) ∙ wait-by, tt)
+
+-- whether its slot is full
+pub full-counted : (r : machine.Replica) (s : List ℕ) (slot c n : ℕ) → machine.instAt r slot ≡ some (instIn s c)
+    → (n ≡ length (holdingOf (instIn s c))) × (n ≤ 16) → leb 16 n ≡ full r slot
+full-counted r s slot c n f j = ap (leb 16) (j .0) ∙ full-book (instIn s c .replicaBk) ∙ ap filled (sym f)
 
 -- ---- `inspect_latest_write`
 
-module _ (v : Standing) (rows s w key : List ℕ) (o : LastWrite) (e : slotIn o ≡ local.highestOf key (writtenOf w)) where
+module _ (n : Node) (m s w : List ℕ) (l : part m 8256 2049 ≡ w) (key : List ℕ) (o : LastWrite) (e : slotIn o ≡ local.highestOf key (writtenOf w)) where
+  abbrev Latest′ : Settled → Type 0
+  Latest′ x = Settles (view n m) s (local.inspectLatestWrite (view n m) key) x
+
   abbrev latestOf : Option ℕ → local.Settled
   latestOf q =
-      ifNone (ifNone q then none else λ slot. if ltb slot (v .«start_slot» .0) then none else some slot) then local.NoSlot
-      else local.inspectHighestSlot (seen v rows s w) key
+      ifNone (ifNone q then none else λ slot. if ltb slot (n .«start_slot» .0) then none else some slot) then local.NoSlot
+      else local.inspectHighestSlot (view n m) key
 
-  latest-by : latestOf (slotIn o) ≡ local.inspectLatestWrite (seen v rows s w) key
-  unfolding local.inspectLatestWrite seen
-  latest-by = ap latestOf e
+  latest-by : latestOf (slotIn o) ≡ local.inspectLatestWrite (view n m) key
+  unfolding local.inspectLatestWrite view
+  latest-by = ap latestOf (e ∙ ap (λ (y : List ℕ). local.highestOf key (writtenOf y)) (sym l))
 
-  pub latest-none : o ≡ last.Nothing → local.NoSlot ≡ local.inspectLatestWrite (seen v rows s w) key
-  latest-none f = ap (λ (x : LastWrite). latestOf (slotIn x)) (sym f) ∙ latest-by
+  pub latest-none : o ≡ last.Nothing → Latest′ settled.NoSlot
+  latest-none f = (ap (λ (x : LastWrite). latestOf (slotIn x)) (sym f) ∙ latest-by, tt)
 
   module _ (slot : Slot) (f : o ≡ last.At slot) where
-    here-by : latestOf (some (slot .0)) ≡ local.inspectLatestWrite (seen v rows s w) key
+    here-by : latestOf (some (slot .0)) ≡ local.inspectLatestWrite (view n m) key
     here-by = ap (λ (x : LastWrite). latestOf (slotIn x)) (sym f) ∙ latest-by
 
-    pub latest-low : slot .0 < v .«start_slot» .0 → local.NoSlot ≡ local.inspectLatestWrite (seen v rows s w) key
-    latest-low h = sym (rw (lt-ltb (slot .0) (v .«start_slot» .0) h)) ∙ here-by
+    pub latest-low : slot .0 < n .«start_slot» .0 → Latest′ settled.NoSlot
+    latest-low h = (sym (rw (lt-ltb (slot .0) (n .«start_slot» .0) h)) ∙ here-by, tt)
 
-    pub latest-at : v .«start_slot» .0 ≤ slot .0 → (y : local.Settled) → y ≡ local.inspectHighestSlot (seen v rows s w) key (slot .0) → y ≡ local.inspectLatestWrite (seen v rows s w) key
-    latest-at h y g = g ∙ sym (rw (le-ltb (slot .0) (v .«start_slot» .0) h)) ∙ here-by
+    pub latest-at : n .«start_slot» .0 ≤ slot .0 → (y : Settled) → Settles (view n m) s (local.inspectHighestSlot (view n m) key (slot .0)) y → Latest′ y
+    latest-at h y g = (g .0 ∙ sym (rw (le-ltb (slot .0) (n .«start_slot» .0) h)) ∙ here-by, g .1)
 
 -- ---- `settled`
 
@@ -257,73 +273,79 @@ module _ (v : Standing) (rows s w key : List ℕ) (o : LastWrite) (e : slotIn o 
 abbrev responds : ℕ → ℕ → Option ℕ → local.Settled → local.Settled
 responds default id o y = if not (get (ifNone o then default else λ m. m) id) then (ifNone o then local.DefaultRoster else λ m. local.StoredRange) else y
 
-module _ (v : Standing) (rows s w : List ℕ) (leases : ℕ) (key : List ℕ) where
+module _ (n : Node) (m : List ℕ) (leases : ℕ) (key : List ℕ) where
   abbrev stored : ℕ → Option ℕ
-  stored n = at (rangesOf rows (v .«bodega_conf» .count)) n
+  stored k = at (rangesOf (part m 192 320) (n .«bodega_conf» .count)) k
 
   abbrev whole : local.Settled
-  whole = settled (seen v rows s w) leases key
+  whole = request.settled (view n m) leases key
 
   abbrev barred : local.Settled
-  barred = if ltb (v .«commit_bar» .0) (v .«peer_accept_max» .0) then local.Bar else local.inspectLatestWrite (seen v rows s w) key
+  barred = if ltb (n .«commit_bar» .0) (n .«peer_accept_max» .0) then local.Bar else local.inspectLatestWrite (view n m) key
 
   abbrev settledBy : Bool → Option ℕ → local.Settled
   settledBy t o =
       if t then local.StableLeader else
-      if ltb leases (v .quorum) then local.FewLeases else
-      ifNone o then local.UnreadKey else λ n. responds (v .«bodega_conf» .default) (v .id .0) (stored n) barred
+      if ltb leases (n .quorum) then local.FewLeases else
+      ifNone o then local.UnreadKey else λ j. responds (n .«bodega_conf» .default) (n .id .0) (stored j) barred
 
-  settled-is : settledBy (local.isStableLeader (seen v rows s w) leases) (readKey key) ≡ whole
-  unfolding settled seen rosterOf
+  abbrev Whole : Settled → Type 0
+  Whole x = Settles (view n m) (part m 512 7744) whole x
+
+  settled-is : settledBy (local.isStableLeader (view n m) leases) (readKey key) ≡ whole
+  unfolding request.settled view rosterOf
   settled-is = refl
 
-  module _ (t : Bool) (e : t ≡ local.isStableLeader (seen v rows s w) leases) where
-    pub settled-stable : t ≡ true → local.StableLeader ≡ whole
-    settled-stable f = ap (λ (b : Bool). settledBy b (readKey key)) (sym f ∙ e) ∙ settled-is
+  module _ (t : Bool) (e : t ≡ local.isStableLeader (view n m) leases) where
+    pub settled-stable : t ≡ true → Whole settled.StableLeader
+    settled-stable f = (ap (λ (b : Bool). settledBy b (readKey key)) (sym f ∙ e) ∙ settled-is, tt)
 
     module _ (f : t ≡ false) where
       unstable : settledBy false (readKey key) ≡ whole
       unstable = ap (λ (b : Bool). settledBy b (readKey key)) (sym f ∙ e) ∙ settled-is
 
-      pub settled-leases : leases < v .quorum → local.FewLeases ≡ whole
-      settled-leases h = first ∙ unstable
+      pub settled-leases : leases < n .quorum → Whole settled.FewLeases
+      settled-leases h = (first ∙ unstable, tt)
         where
           first : local.FewLeases ≡ settledBy false (readKey key)
-          first = rw (lt-ltb leases (v .quorum) h)
+          first = rw (lt-ltb leases (n .quorum) h)
 
-      module _ (h : v .quorum ≤ leases) (k : KeyRead) (g : shown k ≡ readKey key) where
-        read-by : (o : Option ℕ) → shown k ≡ o → (ifNone o then local.UnreadKey else λ n. responds (v .«bodega_conf» .default) (v .id .0) (stored n) barred) ≡ whole
+      module _ (h : n .quorum ≤ leases) (k : KeyRead) (g : shown k ≡ readKey key) where
+        read-by : (o : Option ℕ) → shown k ≡ o → (ifNone o then local.UnreadKey else λ j. responds (n .«bodega_conf» .default) (n .id .0) (stored j) barred) ≡ whole
         read-by o q = first ∙ ap (settledBy false) (sym q ∙ g) ∙ unstable
           where
-            first : (ifNone o then local.UnreadKey else λ n. responds (v .«bodega_conf» .default) (v .id .0) (stored n) barred) ≡ settledBy false o
-            first = rw (le-ltb leases (v .quorum) h)
+            first : (ifNone o then local.UnreadKey else λ j. responds (n .«bodega_conf» .default) (n .id .0) (stored j) barred) ≡ settledBy false o
+            first = rw (le-ltb leases (n .quorum) h)
 
-        pub settled-unread : k ≡ Unread → local.UnreadKey ≡ whole
-        settled-unread q = read-by none (ap shown q)
+        pub settled-unread : k ≡ Unread → Whole settled.UnreadKey
+        settled-unread q = (read-by none (ap shown q), tt)
 
-        module _ (n : Inty) (q : k ≡ Number n) (r : Lookup) (l : maskIn r ≡ stored (valueOf n)) where
-          looked : responds (v .«bodega_conf» .default) (v .id .0) (maskIn r) barred ≡ whole
-          looked = ap (λ (o : Option ℕ). responds (v .«bodega_conf» .default) (v .id .0) o barred) l ∙ read-by (some (valueOf n)) (ap shown q)
+        module _ (i : Inty) (q : k ≡ Number i) (r : Lookup) (l : maskIn r ≡ stored (valueOf i)) where
+          looked : responds (n .«bodega_conf» .default) (n .id .0) (maskIn r) barred ≡ whole
+          looked = ap (λ (o : Option ℕ). responds (n .«bodega_conf» .default) (n .id .0) o barred) l ∙ read-by (some (valueOf i)) (ap shown q)
 
-          module _ (u : Bool) (m : u ≡ get (ifNone maskIn r then v .«bodega_conf» .default else λ j. j) (v .id .0)) where
+          module _ (u : Bool) (d : u ≡ get (ifNone maskIn r then n .«bodega_conf» .default else λ j. j) (n .id .0)) where
             answers : (b : Bool) → u ≡ b → (if not b then (ifNone maskIn r then local.DefaultRoster else λ j. local.StoredRange) else barred) ≡ whole
-            answers b x = ap (λ (y : Bool). if not y then (ifNone maskIn r then local.DefaultRoster else λ j. local.StoredRange) else barred) (sym x ∙ m) ∙ looked
+            answers b x = ap (λ (y : Bool). if not y then (ifNone maskIn r then local.DefaultRoster else λ j. local.StoredRange) else barred) (sym x ∙ d) ∙ looked
 
-            pub settled-roster : not u ≡ true → (y : local.Settled) → y ≡ (ifNone maskIn r then local.DefaultRoster else λ j. local.StoredRange) → y ≡ whole
-            settled-roster x y z = z ∙ answers false (not-true u x)
+            pub settled-roster : not u ≡ true → (y : Settled) → Settles (view n m) (part m 512 7744) (ifNone maskIn r then local.DefaultRoster else λ j. local.StoredRange) y → Whole y
+            settled-roster x y z = (z .0 ∙ answers false (not-true u x), z .1)
 
             module _ (x : not u ≡ false) where
-              pub settled-bar : v .«commit_bar» .0 < v .«peer_accept_max» .0 → local.Bar ≡ whole
-              settled-bar b = first ∙ answers true (not-false u x)
+              pub settled-bar : n .«commit_bar» .0 < n .«peer_accept_max» .0 → Whole settled.Bar
+              settled-bar b = (first ∙ answers true (not-false u x), tt)
                 where
                   first : local.Bar ≡ barred
-                  first = rw (lt-ltb (v .«commit_bar» .0) (v .«peer_accept_max» .0) b)
+                  first = rw (lt-ltb (n .«commit_bar» .0) (n .«peer_accept_max» .0) b)
 
-              pub settled-latest : v .«peer_accept_max» .0 ≤ v .«commit_bar» .0 → (y : local.Settled) → y ≡ local.inspectLatestWrite (seen v rows s w) key → y ≡ whole
-              settled-latest b y z = z ∙ first ∙ answers true (not-false u x)
+              pub settled-latest : n .«peer_accept_max» .0 ≤ n .«commit_bar» .0 → (y : Settled) → Settles (view n m) (part m 512 7744) (local.inspectLatestWrite (view n m) key) y → Whole y
+              settled-latest b y z = (z .0 ∙ first ∙ answers true (not-false u x), z .1)
                 where
-                  first : local.inspectLatestWrite (seen v rows s w) key ≡ barred
-                  first = rw (le-ltb (v .«commit_bar» .0) (v .«peer_accept_max» .0) b)
+                  first : local.inspectLatestWrite (view n m) key ≡ barred
+                  first = rw (le-ltb (n .«commit_bar» .0) (n .«peer_accept_max» .0) b)
+
+pub packed-as : (r : machine.Replica) (s k key : List ℕ) (x : Settled) → k ≡ key → Settles r s (local.inspectLatestWrite r k) x → Settles r s (local.inspectLatestWrite r key) x
+packed-as r s k key x e f = (f .0 ∙ ap (local.inspectLatestWrite r) e, f .1)
 
 -- ---- the answer
 
@@ -340,22 +362,32 @@ module _ (l : Bool) (p : ℕ) where
   pub consensus : l ≡ true → (p ≡ 0 → ⊥) → local.Consensus ≡ improperBy l p
   consensus f h = sym (simp (f, ne-eqb p 0 h))
 
-pub improper-is : (v : Standing) (rows s w : List ℕ) → improperBy (machine.isLeader (seen v rows s w)) (v .«bal_prepared» .0) ≡ local.improper (seen v rows s w)
-unfolding seen
-improper-is v rows s w = refl
+pub improper-is : (n : Node) (m : List ℕ) → improperBy (machine.isLeader (view n m)) (n .«bal_prepared» .0) ≡ local.improper (view n m)
+unfolding view
+improper-is n m = refl
 
-module _ (v : Standing) (rows s w : List ℕ) where
-  pub never-written : v .«start_slot» .0 ≡ 0 → local.Missing ≡ local.answerOf (seen v rows s w) local.NoSlot
-  unfolding seen
-  never-written h = rw (eq-eqb (v .«start_slot» .0) 0 h)
+module _ (start : ℕ) (r : machine.Replica) (s : List ℕ) (e : start ≡ r .bar .start) where
+  pub never-written : start ≡ 0 → Gets r s (local.answerOf r local.NoSlot) Missing
+  never-written h = (sym (rw (eq-eqb (r .bar .start) 0 (sym e ∙ h))), tt)
 
-  pub in-store : (v .«start_slot» .0 ≡ 0 → ⊥) → local.FromStore ≡ local.answerOf (seen v rows s w) local.NoSlot
-  unfolding seen
-  in-store h = rw (ne-eqb (v .«start_slot» .0) 0 h)
+  pub in-store : (start ≡ 0 → ⊥) → Gets r s (local.answerOf r local.NoSlot) FromStore
+  in-store h = (sym (rw (ne-eqb (r .bar .start) 0 (λ z. h (e ∙ z)))), tt)
 
 -- what settled the read, as the match told it
-pub answer-by : (r : machine.Replica) (x y : Settled) (a : local.ReadAnswer) → x ≡ y → a ≡ local.answerOf r (settledOf y) → a ≡ local.answerOf r (settledOf x)
-answer-by r x y a e f = f ∙ ap (λ (z : Settled). local.answerOf r (settledOf z)) (sym e)
+pub told-by : (r : machine.Replica) (s : List ℕ) (x y : Settled) → x ≡ y → Told r s x → Told r s y
+told-by r s x y e p = rw e at p
+
+pub answer-by : (r : machine.Replica) (s : List ℕ) (x y : Settled) (a : ReadAnswer) → x ≡ y → Gets r s (local.answerOf r (settledOf y)) a → Gets r s (local.answerOf r (settledOf x)) a
+answer-by r s x y a e f = (f .0 ∙ ap (λ (z : Settled). local.answerOf r (settledOf z)) (sym e), f .1)
+
+pub start-is : (n : Node) (m : List ℕ) → n .«start_slot» .0 ≡ view n m .bar .start
+unfolding view
+start-is n m = refl
+
+pub answers-read : (r : machine.Replica) (s : List ℕ) (leases : ℕ) (key : List ℕ) (x : Settled) (a : ReadAnswer) → Settles r s (request.settled r leases key) x
+    → (Told r s x → Gets r s (local.answerOf r (settledOf x)) a) → Gets r s (readAnswer r leases key) a
+unfolding readAnswer
+answers-read r s leases key x a e f = let g = f (e .1) in (g .0 ∙ ap (local.answerOf r) (e .0), g .1)
 
 -- ---- an answer that holds nothing
 
@@ -368,7 +400,7 @@ module _ (r : machine.Replica) where
   fills-none Missing o = refl
   fills-none FromStore o = refl
   fills-none Consensus o = refl
-  fills-none (HeldBy slot) o = absurd (four o)
+  fills-none (HeldBy slot c) o = absurd (four o)
   fills-none Again o = refl
 
   pub holds-none : (q : machine.ReadReq) (a : ReadAnswer) → OneOf (0 ∷ 1 ∷ 2 ∷ 3 ∷ 5 ∷ []) (tagOf the-type a) → answered r q (answerIn a) .replica ≡ r
@@ -376,17 +408,43 @@ module _ (r : machine.Replica) where
   holds-none q Missing o = refl
   holds-none q FromStore o = refl
   holds-none q Consensus o = refl
-  holds-none q (HeldBy slot) o = absurd (four o)
+  holds-none q (HeldBy slot c) o = absurd (four o)
   holds-none q Again o = refl
 
-pub fills-slot : (r : machine.Replica) (a : ReadAnswer) (slot : Slot) (b : Bool) → a ≡ HeldBy slot → b ≡ full r (slot .0) → b ≡ overfills r (answerIn a)
-fills-slot r a slot b e f = f ∙ ap (λ (x : ReadAnswer). overfills r (answerIn x)) (sym e)
+pub placed-by : (r : machine.Replica) (s : List ℕ) (x y : ReadAnswer) → x ≡ y → Places r s x → Places r s y
+placed-by r s x y e p = rw e at p
+
+pub held-below : (r : machine.Replica) (s : List ℕ) (a : ReadAnswer) (slot : Slot) (c : ℕ) → a ≡ HeldBy slot c → Places r s a → c < 32
+held-below r s a slot c e p = place-below (slot .0) (placed-by r s a (HeldBy slot c) e p .0)
+
+pub fills-slot : (r : machine.Replica) (s : List ℕ) (a : ReadAnswer) (slot : Slot) (c n : ℕ) → a ≡ HeldBy slot c → Places r s a
+    → (n ≡ length (holdingOf (instIn s c))) × (n ≤ 16) → leb 16 n ≡ overfills r (answerIn a)
+fills-slot r s a slot c n e p j =
+    full-counted r s (slot .0) c n (placed-by r s a (HeldBy slot c) e p .1) j ∙ ap (λ (x : ReadAnswer). overfills r (answerIn x)) (sym e)
 
 -- ---- its item
 
-pub item-by : (v : Standing) (rows s w : List ℕ) (q : machine.ReadReq) (x y : ReadAnswer) → x ≡ y
-    → answered (seen v rows s w) q (answerIn x) .items ≡ answered (seen v rows s w) q (answerIn y) .items
-item-by v rows s w q x y e = ap (λ (z : ReadAnswer). answered (seen v rows s w) q (answerIn z) .items) e
+pub item-by : (n : Node) (m : List ℕ) (q : machine.ReadReq) (x y : ReadAnswer) → x ≡ y
+    → answered (view n m) q (answerIn x) .items ≡ answered (view n m) q (answerIn y) .items
+item-by n m q x y e = ap (λ (z : ReadAnswer). answered (view n m) q (answerIn z) .items) e
+
+-- ---- the parts lent are long enough
+
+module _ (n : Node) (m : List ℕ) (e : ready n m ≡ true) where
+  abbrev readied : Ready n m
+  readied = is-ready n m true (sym e) refl
+
+  pub words-long : 10305 ≤ length m
+  words-long = readied .long
+
+  pub rows-long : n .«bodega_conf» .count * 5 ≤ length (part m 192 320)
+  rows-long = rw (length-part m 192 320 (omega (arith, words-long))) (omega (arith, readied .ranges))
+
+  pub slots-long : 7744 ≤ length (part m 512 7744)
+  slots-long = rw (length-part m 512 7744 (omega (arith, words-long))) (omega arith)
+
+  pub written-long : 2049 ≤ length (part m 8256 2049)
+  written-long = rw (length-part m 8256 2049 (omega (arith, words-long))) (omega arith)
 
 -- ---- a read that is held waits in the notice book of a slot that is held
 

@@ -1,6 +1,5 @@
 // request.rs and localread.rs: which condition settles a read at a replica, and the answer that follows from it.
 use highest_slot::LastWrite;
-use ids::Ballot;
 use ids::Replica;
 use ids::Slot;
 use inst_cell::Cell;
@@ -11,40 +10,35 @@ use items::Item;
 use key_words::Key;
 use keys::KeyRead;
 use node::Node;
-use roster_conf::RespondersConf;
+use node::is_leader;
 use roster_map::Lookup;
 use words::wide;
 ghost use mathlib.Core.Path.{_≡_};
 ghost use mathlib.Core.Bool.{true, false};
 ghost use mathlib.Core.List.{List, [], _∷_};
 ghost use Prim.Native.Nat.{ℕ, _%_, _≤_};
-ghost use lib.Dec.{ltb};
 ghost use lib.ListN.{length};
 ghost use Rattle.words.specs.Choice.{ifNone_then_else_};
+ghost use Rattle.words.specs.Part.{part};
 ghost use Rattle.bitmap.specs.Bitmap.{get};
 ghost use Rattle.roster_map.specs.Rows.{maskIn};
 ghost use Rattle.key_words.specs.Key.{bytesOf};
 ghost use Rattle.items.specs.Item.{itemOf};
-ghost use Rattle.inst_cell.specs.Cell.{statusOf, bookOf, cellOf};
+ghost use Rattle.inst_cell.specs.Cell.{bookOf, cellOf};
 ghost use Rattle.insts.specs.Slots.{instOf};
-ghost use Rattle.bodega.specs.Replica.{Request, ReadReq, order, isLeader};
+ghost use Rattle.bodega.specs.Replica.{Replica as Machine, Request, ReadReq};
 ghost use Rattle.bodega.specs.Localread as local;
 ghost use Rattle.bodega.specs.Localread.{isStableLeader, inspectHighestSlot, inspectLatestWrite, waits, waitsAt, improper, answerOf};
-ghost use Rattle.bodega.specs.Request.{settled, answered};
-ghost use Rattle.bodega.specs.Grounds.{full, overfills};
-ghost use Rattle.inspect_latest_write.specs.Seen.{seen, Lent, heldAt, settledOf, answerIn};
+ghost use Rattle.bodega.specs.Request.{settled, readAnswer, answered};
+ghost use Rattle.bodega.specs.Grounds.{overfills};
+ghost use Rattle.node.specs.View.{view, ready};
+ghost use Rattle.inspect_latest_write.specs.Told.{heldAt, settledOf, answerIn, Stands, Told, Settles, Places, Gets};
 
-// What a read looks at of a replica, but for the roster's ranges, the slots and the written keys, which are lent.
-pub struct Standing {
-    pub id: Replica,
-    pub quorum: u8,
-    pub bodega_conf: RespondersConf,
-    pub bal_max_seen: Ballot,
-    pub bal_prepared: Ballot,
-    pub start_slot: Slot,
-    pub commit_bar: Slot,
-    pub peer_accept_max: Slot,
-    pub slots: usize,
+// A slot that settles a read: its place, and whether a read waits there.
+pub struct SlotAt {
+    pub slot: Slot,
+    pub place: usize,
+    pub waits: bool,
 }
 
 // The condition that settles a read, in the order in which the Rust comes to them.
@@ -57,40 +51,31 @@ pub enum Settled {
     Bar,
     NoSlot,
     SlotStatus(Slot),
-    Notices(Slot),
+    Notices(SlotAt),
     FoundPut(u64),
-    MissingPut(Slot),
+    MissingPut(SlotAt),
 }
 
-// What a read gets: value, absent, store, pass, hold, retry.
+// What a read gets: value, absent, store, pass, hold (with the slot's place), retry.
 pub enum ReadAnswer {
     Found(u64),
     Missing,
     FromStore,
     Consensus,
-    HeldBy(Slot),
+    HeldBy(Slot, usize),
     Again,
 }
 
 // ---- leaders and responders
 
-fn is_leader(v: Standing) -> bool
-    ensures { λ r. ⌜ ((rows s w : List ℕ) → r ≡ isLeader (seen v rows s w)) ⌝ }
+fn is_stable_leader(node: Node, leases: u64) -> bool
+    ensures { λ r. ⌜ ((m : List ℕ) → r ≡ isStableLeader (view node m) leases) ⌝ }
 {
-    let conf = v.bodega_conf;
-    let leader = conf.leader;
-    let id = v.id;
-    node::leads(leader, id)
-}
-
-fn is_stable_leader(v: Standing, leases: u64) -> bool
-    ensures { λ r. ⌜ ((rows s w : List ℕ) → r ≡ isStableLeader (seen v rows s w) leases) ⌝ }
-{
-    let prepared = v.bal_prepared;
-    let seen = v.bal_max_seen;
-    let max = v.peer_accept_max;
-    let commit = v.commit_bar;
-    if !is_leader(v) {
+    let prepared = node.bal_prepared;
+    let seen = node.bal_max_seen;
+    let max = node.peer_accept_max;
+    let commit = node.commit_bar;
+    if !is_leader(node) {
         return false;
     }
     if prepared.0 == 0 {
@@ -99,7 +84,7 @@ fn is_stable_leader(v: Standing, leases: u64) -> bool
     if seen.0 != prepared.0 {
         return false;
     }
-    if leases < wide(v.quorum) {
+    if leases < wide(node.quorum) {
         return false;
     }
     max.0 <= commit.0
@@ -116,7 +101,7 @@ fn is_responder(default: u64, id: Replica, stored: Lookup) -> bool
 }
 
 fn not_responder(stored: Lookup) -> Settled
-    ensures { λ r. ⌜ settledOf r ≡ (ifNone maskIn stored then local.DefaultRoster else λ m. local.StoredRange) ⌝ }
+    ensures { λ r. ⌜ ((x : Machine) (s : List ℕ) → Settles x s (ifNone maskIn stored then local.DefaultRoster else λ m. local.StoredRange) r) ⌝ }
 {
     match stored {
         Lookup::Mask(_mask) => Settled::StoredRange,
@@ -140,19 +125,6 @@ fn place_of(slot: Slot) -> usize
     ensures { λ r. ⌜ r ≡ slot .0 % 32 ⌝ }
 {
     (slot.0 % 32) as usize
-}
-
-// `status < Accepting`.
-fn is_early(status: Status) -> bool
-    ensures { λ r. ⌜ r ≡ ltb (order (statusOf status)) 2 ⌝ }
-{
-    match status {
-        Status::Null => true,
-        Status::Preparing => true,
-        Status::Accepting => false,
-        Status::Committed => false,
-        Status::Executed => false,
-    }
 }
 
 fn has_book(book: ReplicaBk) -> bool
@@ -181,88 +153,90 @@ fn waits(cell: Cell) -> bool
 
 // ---- what settles a read
 
-fn inspect_highest_slot(v: Standing, s: &[u64], key: Key, slot: Slot) -> Settled
+fn inspect_highest_slot(node: Node, s: &[u64], key: Key, slot: Slot) -> Settled
     requires { ⌜ 7744 ≤ length (now s) ⌝ }
-    ensures { λ r. ⌜ ((rows w : List ℕ) → settledOf r ≡ inspectHighestSlot (seen v rows (now (s .entry)) w) (bytesOf key) (slot .0)) ⌝ }
+    ensures { λ r. ⌜ ((m : List ℕ) → part m 512 7744 ≡ now (s .entry) → Settles (view node m) (now (s .entry)) (inspectHighestSlot (view node m) (bytesOf key) (slot .0)) r) ⌝ }
 {
-    let start = v.start_slot;
-    if !is_held(start, v.slots, slot) {
+    let start = node.start_slot;
+    if !is_held(start, node.slots, slot) {
         return Settled::SlotStatus(slot);
     }
     let c = place_of(slot);
     let cell = insts::load(s, c);
     let status = cell.status;
-    if is_early(status) {
+    if inst_cell::is_below_accepting(status) {
         return Settled::SlotStatus(slot);
     }
-    if !release_held_reads::is_bound(cell, v.quorum) {
-        return Settled::Notices(slot);
+    if !release_held_reads::is_bound(cell, node.quorum) {
+        let waiting = waits(cell);
+        return Settled::Notices(SlotAt {
+            slot,
+            place: c,
+            waits: waiting,
+        });
     }
     let put = insts::last_put(s, c, key);
-    match put {
-        Latest::Value(value) => Settled::FoundPut(value),
-        Latest::Nothing => Settled::MissingPut(slot),
-    }
+    let Latest::Value(value) = put else {
+        let waiting = waits(cell);
+        return Settled::MissingPut(SlotAt {
+            slot,
+            place: c,
+            waits: waiting,
+        });
+    };
+    Settled::FoundPut(value)
 }
 
-fn inspect_latest_write(v: Standing, s: &[u64], w: &[u64], key: Key) -> Settled
+fn inspect_latest_write(node: Node, s: &[u64], w: &[u64], key: Key) -> Settled
     requires { ⌜ (7744 ≤ length (now s)) × (2049 ≤ length (now w)) ⌝ }
-    ensures { λ r. ⌜ ((rows : List ℕ) → settledOf r ≡ inspectLatestWrite (seen v rows (now (s .entry)) (now (w .entry))) (bytesOf key)) ⌝ }
+    ensures { λ r. ⌜ ((m : List ℕ) → part m 512 7744 ≡ now (s .entry) → part m 8256 2049 ≡ now (w .entry) → Settles (view node m) (now (s .entry)) (inspectLatestWrite (view node m) (bytesOf key)) r) ⌝ }
 {
     let LastWrite::At(slot) = highest_slot::highest(w, key) else {
         return Settled::NoSlot;
     };
-    let start = v.start_slot;
+    let start = node.start_slot;
     if slot.0 < start.0 {
         return Settled::NoSlot;
     }
-    inspect_highest_slot(v, s, key, slot)
+    inspect_highest_slot(node, s, key, slot)
 }
 
-// What settles a read of a key: its bytes, and the same packed. `rows` are the roster's, `s` the slots, `w` the written keys.
-pub fn settled_by(
-    v: Standing,
-    rows: &[u64],
-    s: &[u64],
-    w: &[u64],
-    leases: u64,
-    key: &[u8],
-    packed: Key,
-) -> Settled
-    requires { ⌜ Lent v (now rows) (now s) (now w) × (bytesOf packed ≡ now key) ⌝ }
-    ensures { λ r. ⌜ settledOf r ≡ settled (seen v (now (rows .entry)) (now (s .entry)) (now (w .entry))) leases (now (key .entry)) ⌝ }
+// What settles a read of a key: its bytes, and the same packed.
+pub fn settled_by(node: Node, mem: &[u64], leases: u64, key: &[u8], packed: Key) -> Settled
+    requires { ⌜ (ready node (now mem) ≡ true) × (bytesOf packed ≡ now key) ⌝ }
+    ensures { λ r. ⌜ Settles (view node (now (mem .entry))) (part (now (mem .entry)) 512 7744) (settled (view node (now (mem .entry))) leases (now (key .entry))) r ⌝ }
 {
-    if is_stable_leader(v, leases) {
+    if is_stable_leader(node, leases) {
         return Settled::StableLeader;
     }
-    let quorum = wide(v.quorum);
+    let quorum = wide(node.quorum);
     if leases < quorum {
         return Settled::FewLeases;
     }
     let KeyRead::Number(n) = keys::key_to_inty(key) else {
         return Settled::UnreadKey;
     };
-    let conf = v.bodega_conf;
-    let id = v.id;
-    let stored = roster_map::at(rows, conf.count, n);
+    let conf = node.bodega_conf;
+    let id = node.id;
+    let stored = roster_map::at(&mem[192..512], conf.count, n);
     if !is_responder(conf.default, id, stored) {
         return not_responder(stored);
     }
-    let commit = v.commit_bar;
-    let max = v.peer_accept_max;
+    let commit = node.commit_bar;
+    let max = node.peer_accept_max;
     if commit.0 < max.0 {
         return Settled::Bar;
     }
-    inspect_latest_write(v, s, w, packed)
+    inspect_latest_write(node, &mem[512..8256], &mem[8256..10305], packed)
 }
 
 // ---- the answer
 
-fn improper(v: Standing) -> ReadAnswer
-    ensures { λ r. ⌜ ((rows s w : List ℕ) → answerIn r ≡ improper (seen v rows s w)) ⌝ }
+fn improper(node: Node) -> ReadAnswer
+    ensures { λ r. ⌜ ((m s : List ℕ) → Gets (view node m) s (improper (view node m)) r) ⌝ }
 {
-    let prepared = v.bal_prepared;
-    if !is_leader(v) {
+    let prepared = node.bal_prepared;
+    if !is_leader(node) {
         return ReadAnswer::Again;
     }
     if prepared.0 == 0 {
@@ -272,79 +246,69 @@ fn improper(v: Standing) -> ReadAnswer
 }
 
 // A key that no slot at start or above wrote.
-fn unwritten(v: Standing) -> ReadAnswer
-    ensures { λ r. ⌜ ((rows s w : List ℕ) → answerIn r ≡ answerOf (seen v rows s w) local.NoSlot) ⌝ }
+fn unwritten(start: Slot) -> ReadAnswer
+    ensures { λ r. ⌜ ((x : Machine) (s : List ℕ) → start .0 ≡ x .bar .start → Gets x s (answerOf x local.NoSlot) r) ⌝ }
 {
-    let start = v.start_slot;
     if start.0 == 0 {
         return ReadAnswer::Missing;
     }
     ReadAnswer::FromStore
 }
 
-fn waits_at(v: Standing, s: &[u64], slot: Slot) -> ReadAnswer
-    requires { ⌜ 7744 ≤ length (now s) ⌝ }
-    ensures { λ r. ⌜ ((rows w : List ℕ) → answerIn r ≡ waitsAt (seen v rows (now (s .entry)) w) (slot .0)) ⌝ }
+fn waits_at(x: SlotAt) -> ReadAnswer
+    ensures { λ r. ⌜ ((y : Machine) (s : List ℕ) → Stands y s x → Gets y s (waitsAt y (x .slot .0)) r) ⌝ }
 {
-    let start = v.start_slot;
-    if !is_held(start, v.slots, slot) {
-        return ReadAnswer::Again;
-    }
-    let cell = insts::load(s, place_of(slot));
-    if waits(cell) {
-        return ReadAnswer::HeldBy(slot);
+    if x.waits {
+        let slot = x.slot;
+        return ReadAnswer::HeldBy(slot, x.place);
     }
     ReadAnswer::Again
 }
 
 // What the read gets that this settled.
-pub fn answer_of(v: Standing, s: &[u64], settled: Settled) -> ReadAnswer
-    requires { ⌜ 7744 ≤ length (now s) ⌝ }
-    ensures { λ r. ⌜ ((rows w : List ℕ) → answerIn r ≡ answerOf (seen v rows (now (s .entry)) w) (settledOf settled)) ⌝ }
+pub fn answer_of(node: Node, settled: Settled) -> ReadAnswer
+    ensures { λ r. ⌜ ((m : List ℕ) → Told (view node m) (part m 512 7744) settled → Gets (view node m) (part m 512 7744) (answerOf (view node m) (settledOf settled)) r) ⌝ }
 {
     match settled {
         Settled::StableLeader => ReadAnswer::FromStore,
-        Settled::FewLeases => improper(v),
-        Settled::UnreadKey => improper(v),
-        Settled::StoredRange => improper(v),
-        Settled::DefaultRoster => improper(v),
-        Settled::Bar => improper(v),
-        Settled::NoSlot => unwritten(v),
+        Settled::FewLeases => improper(node),
+        Settled::UnreadKey => improper(node),
+        Settled::StoredRange => improper(node),
+        Settled::DefaultRoster => improper(node),
+        Settled::Bar => improper(node),
+        Settled::NoSlot => unwritten(node.start_slot),
         Settled::SlotStatus(_slot) => ReadAnswer::Again,
-        Settled::Notices(slot) => waits_at(v, s, slot),
+        Settled::Notices(x) => waits_at(x),
         Settled::FoundPut(value) => ReadAnswer::Found(value),
-        Settled::MissingPut(slot) => waits_at(v, s, slot),
+        Settled::MissingPut(x) => waits_at(x),
     }
 }
 
-// The slot is held and its notice book holds 16 reads.
-fn is_full(v: Standing, s: &[u64], slot: Slot) -> bool
-    requires { ⌜ 7744 ≤ length (now s) ⌝ }
-    ensures { λ r. ⌜ ((rows w : List ℕ) → r ≡ full (seen v rows (now (s .entry)) w) (slot .0)) ⌝ }
+// What a read of a key gets: its bytes, and the same packed.
+pub fn read_answer(node: Node, mem: &[u64], leases: u64, key: &[u8], packed: Key) -> ReadAnswer
+    requires { ⌜ (ready node (now mem) ≡ true) × (bytesOf packed ≡ now key) ⌝ }
+    ensures { λ r. ⌜ Gets (view node (now (mem .entry))) (part (now (mem .entry)) 512 7744) (readAnswer (view node (now (mem .entry))) leases (now (key .entry))) r ⌝ }
 {
-    let start = v.start_slot;
-    if !is_held(start, v.slots, slot) {
-        return false;
-    }
-    Node::HOLD <= release_held_reads::holding(s, place_of(slot))
+    let settled = settled_by(node, mem, leases, key, packed);
+    answer_of(node, settled)
 }
 
 // A read would be held by a slot that holds 16.
-pub fn overfills(v: Standing, s: &[u64], answer: ReadAnswer) -> bool
-    requires { ⌜ 7744 ≤ length (now s) ⌝ }
-    ensures { λ r. ⌜ ((rows w : List ℕ) → r ≡ overfills (seen v rows (now (s .entry)) w) (answerIn answer)) ⌝ }
+pub fn overfills(node: Node, mem: &[u64], answer: ReadAnswer) -> bool
+    requires { ⌜ (ready node (now mem) ≡ true) × Places (view node (now mem)) (part (now mem) 512 7744) answer ⌝ }
+    ensures { λ r. ⌜ r ≡ overfills (view node (now (mem .entry))) (answerIn answer) ⌝ }
 {
-    let ReadAnswer::HeldBy(slot) = answer else {
+    let ReadAnswer::HeldBy(_slot, c) = answer else {
         return false;
     };
-    is_full(v, s, slot)
+    Node::HOLD <= release_held_reads::holding(&mem[512..8256], c)
 }
 
 // The item that answers a read.
-pub fn item_of(v: Standing, client: u64, request: u64, answer: ReadAnswer) -> Item
-    ensures { λ r. ⌜ ((rows s w key : List ℕ) → answered (seen v rows s w) (record { client = client; request = request; key = key }) (answerIn answer) .items ≡ itemOf r ∷ []) ⌝ }
+pub fn item_of(node: Node, client: u64, request: u64, answer: ReadAnswer) -> Item
+    ensures { λ r. ⌜ ((m key : List ℕ) → answered (view node m) (record { client = client; request = request; key = key }) (answerIn answer) .items ≡ itemOf r ∷ []) ⌝ }
 {
-    let conf = v.bodega_conf;
+    let conf = node.bodega_conf;
     let leader = conf.leader;
     match answer {
         ReadAnswer::Found(value) => Item::Value {
@@ -355,7 +319,7 @@ pub fn item_of(v: Standing, client: u64, request: u64, answer: ReadAnswer) -> It
         ReadAnswer::Missing => Item::Absent { client, request },
         ReadAnswer::FromStore => Item::Store { client, request },
         ReadAnswer::Consensus => Item::Pass { client, request },
-        ReadAnswer::HeldBy(slot) => Item::Hold {
+        ReadAnswer::HeldBy(slot, _c) => Item::Hold {
             client,
             request,
             slot,

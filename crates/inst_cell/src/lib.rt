@@ -2,6 +2,7 @@
 use ids::Ballot;
 ghost use mathlib.Core.Path.{_≡_};
 ghost use Prim.Native.Nat.{ℕ, _+_, _*_, _≤_};
+ghost use lib.Dec.{ltb};
 ghost use lib.ListN.{length, set};
 ghost use Rattle.words.specs.Writes.{writes};
 ghost use Rattle.layout.specs.Layout.{cellRow};
@@ -164,6 +165,19 @@ pub fn store(cells: &mut [u64], c: usize, cell: Cell)
     cells[p4] = b.0;
     cells[p5] = b.1;
     cells[p6] = b.2;
+}
+
+// `status < Accepting`.
+pub fn is_below_accepting(status: Status) -> bool
+    ensures { λ r. ⌜ r ≡ ltb (order (statusOf status)) 2 ⌝ }
+{
+    match status {
+        Status::Null => true,
+        Status::Preparing => true,
+        Status::Accepting => false,
+        Status::Committed => false,
+        Status::Executed => false,
+    }
 }
 
 // `status < Committed`.

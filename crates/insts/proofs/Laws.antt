@@ -25,7 +25,7 @@ use Rattle.inst_cell.specs.Cell.{Notices, Short, cellAt, cellWords, withStatus,
 use Rattle.inst_cell.proofs.Laws.{cell-same, cell-other, cell-near, status-same, status-other}
 use Rattle.inst_reqs.specs.Batch.{requestsOf}
 use Rattle.inst_holding.specs.Held.{readsOf, capped, Pushes}
-use Rattle.insts.specs.Slots.{shortAt, batchAt, readsAt, instOf, instIn, instsOf, nullShort, SamePlace, Puts, bookOf}
+use Rattle.insts.specs.Slots.{shortAt, batchAt, readsAt, seenReads, instOf, instIn, instsOf, nullShort, SamePlace, Puts, bookOf}
 
 -- how long a part is that is lent from a to a + k
 pub width : (a k : ℕ) → a + k - a ≡ k
@@ -299,6 +299,37 @@ module _ (s : List ℕ) (c : ℕ) (t : Bool) (e : t ≡ hasBook (shortAt s c)) w
 
   pub reads-wait : not t ≡ false → (n : ℕ) → n ≡ length (readsAt s c) → ltb 0 n ≡ holds (instIn s c)
   reads-wait f n g = ap (ltb 0) g ∙ sym (holds-by s c ∙ ap (λ (b : Bool). if b then ltb 0 (length (readsAt s c)) else false) (sym e ∙ not-false t f))
+
+-- ---- reads without a notice book
+
+seen-some : (o : Option Notices) (l : List machine.ReadReq) → (ifNone o then false else λ b. true) ≡ true → seenReads o l ≡ l
+seen-some none l e = let z : _≡_ {A = ℕ} 0 1 = cc in absurd (omega arith)
+seen-some (some b) l e = refl
+
+seen-none : (o : Option Notices) (l : List machine.ReadReq) → (ifNone o then false else λ b. true) ≡ false → seenReads o l ≡ []
+seen-none none l e = refl
+seen-none (some b) l e = let z : _≡_ {A = ℕ} 0 1 = cc in absurd (omega arith)
+
+module _ (s : List ℕ) (c : ℕ) (t : Bool) (e : t ≡ hasBook (shortAt s c)) where
+  pub book-there : t ≡ true → Puts s c (shortAt s c) (batchAt s c) (seenReads (shortAt s c .replicaBk) (readsAt s c)) s
+  book-there f =
+      record {
+        short = refl;
+        batch = refl;
+        held = sym (seen-some (shortAt s c .replicaBk) (readsAt s c) (sym e ∙ f));
+        others = λ d g h. record { short = refl; batch = refl; reads = refl };
+        size = refl;
+      }
+
+  pub book-missing : {u : List ℕ} → t ≡ false → Puts s c (shortAt s c) (batchAt s c) [] u → Puts s c (shortAt s c) (batchAt s c) (seenReads (shortAt s c .replicaBk) (readsAt s c)) u
+  book-missing f p =
+      record {
+        short = p .short;
+        batch = p .batch;
+        held = p .held ∙ sym (seen-none (shortAt s c .replicaBk) (readsAt s c) (sym e ∙ f));
+        others = p .others;
+        size = p .size;
+      }
 
 -- ---- one slot after another: whether one of those from the i-th on is such
 

@@ -1,7 +1,7 @@
 -- The slots that a replica holds, in lent words: cells, batches and held reads; slot s has those of number s % slotPlaces. Assumes nothing: these are definitions.
 use mathlib.Core.Path.{_≡_}
 use mathlib.Core.Logic.{_≢_}
-use mathlib.Core.List.{List}
+use mathlib.Core.List.{List, []}
 use mathlib.Core.Option.{Option, none, some}
 use Prim.Native.Nat.{ℕ, _+_, _*_, _%_, _<_}
 use lib.ListN.{length}
@@ -35,6 +35,10 @@ readsAt s c = readsOf (part s (readsStart c) heldWords)
 -- reads are held where there is a notice book
 abbrev pub bookOf : Option Notices → List machine.ReadReq → Option machine.Book
 bookOf o l = ifNone o then none else λ b. some (record { bal = b .bal; notices = b .notices; holding = l })
+
+-- reads that no notice book has are no reads
+abbrev pub seenReads : Option Notices → List machine.ReadReq → List machine.ReadReq
+seenReads o l = ifNone o then [] else λ b. l
 
 abbrev pub instOf : Short → List machine.Request → List machine.ReadReq → machine.Instance
 instOf x reqs reads = record { bal = x .bal; status = x .status; reqs = reqs; leaderBk = x .leaderBk; replicaBk = bookOf (x .replicaBk) reads }

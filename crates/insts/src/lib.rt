@@ -20,7 +20,7 @@ ghost use Rattle.key_words.specs.Key.{bytesOf};
 ghost use Rattle.inst_cell.specs.Cell.{cellOf, statusOf, withStatus};
 ghost use Rattle.inst_reqs.specs.Batch.{requestsOf, valueIn};
 ghost use Rattle.inst_holding.specs.Held.{readOf};
-ghost use Rattle.insts.specs.Slots.{batchStart, readsStart, shortAt, batchAt, readsAt, instsOf, nullShort, Puts, instIn};
+ghost use Rattle.insts.specs.Slots.{batchStart, readsStart, shortAt, batchAt, readsAt, seenReads, instsOf, nullShort, Puts, instIn};
 ghost use Rattle.bodega.specs.Grounds.{any, holds};
 
 // Where the batch and the held reads of place c stand.
@@ -79,6 +79,17 @@ pub fn clear_reads(s: &mut [u64], c: usize)
     let a = layout::READS_FROM + c * layout::HELD_WORDS;
     let e = a + layout::HELD_WORDS;
     inst_holding::clear(&mut s[a..e]);
+}
+
+// No reads wait where there is no notice book.
+pub fn clear_unseen(s: &mut [u64], c: usize)
+    requires { ⌜ (c < 32) × (7744 ≤ length (now s)) ⌝ }
+    ensures { λ _. ⌜ Puts (now (s .entry)) c (shortAt (now (s .entry)) c) (batchAt (now (s .entry)) c) (seenReads (shortAt (now (s .entry)) c .replicaBk) (readsAt (now (s .entry)) c)) (now (s .exit)) ⌝ }
+{
+    if inst_cell::has_book(s, c) {
+        return;
+    }
+    clear_reads(s, c);
 }
 
 // How many reads the slot at place c holds.

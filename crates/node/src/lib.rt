@@ -6,12 +6,14 @@ use ids::Slot;
 use roster_conf::RespondersConf;
 ghost use mathlib.Core.Path.{_≡_};
 ghost use mathlib.Core.Bool.{_&&_};
-ghost use Prim.Native.Nat.{_≤_};
+ghost use mathlib.Core.List.{List};
+ghost use Prim.Native.Nat.{ℕ, _≤_};
 ghost use lib.Dec.{leb};
 ghost use lib.ListN.{length, replicate};
-ghost use Rattle.node.specs.View.{size, inRange, barsInRange, sound, ready, leadsIt};
+ghost use Rattle.node.specs.View.{size, inRange, barsInRange, sound, view, ready, leadsIt};
 ghost use Rattle.ids.specs.Leader.{leaderOf};
 ghost use Rattle.layout.specs.Layout.{nodeWords};
+ghost use Rattle.bodega.specs.Replica.{isLeader};
 ghost use Rattle.node.specs.Begins.{Reset, Begins};
 
 pub struct Node {
@@ -36,6 +38,28 @@ pub struct Answered {
     pub number: u64,
     pub count: usize,
     pub node: Node,
+}
+
+impl Answered {
+    pub fn refused(node: Node, number: u64) -> Answered
+        ensures { λ r. ⌜ r ≡ record { number = number; count = 0; node = node } ⌝ }
+    {
+        Answered {
+            number,
+            count: 0,
+            node,
+        }
+    }
+
+    pub fn taken(node: Node, count: usize) -> Answered
+        ensures { λ r. ⌜ r ≡ record { number = 0; count = count; node = node } ⌝ }
+    {
+        Answered {
+            number: 0,
+            count,
+            node,
+        }
+    }
 }
 
 pub enum Fresh {
@@ -124,7 +148,7 @@ pub fn is_ready(node: Node, mem: &[u64]) -> bool
     )
 }
 
-// `is_leader`.
+// Whether a roster's leader is this replica.
 pub fn leads(leader: Leader, id: Replica) -> bool
     ensures { λ r. ⌜ r ≡ leadsIt (leaderOf leader) (id .0) ⌝ }
 {
@@ -132,6 +156,16 @@ pub fn leads(leader: Leader, id: Replica) -> bool
         return false;
     };
     l.0 == id.0
+}
+
+// `is_leader`.
+pub fn is_leader(node: Node) -> bool
+    ensures { λ r. ⌜ ((m : List ℕ) → r ≡ isLeader (view node m)) ⌝ }
+{
+    let conf = node.bodega_conf;
+    let leader = conf.leader;
+    let id = node.id;
+    leads(leader, id)
 }
 
 fn fill(words: &mut [u64], v: u64)

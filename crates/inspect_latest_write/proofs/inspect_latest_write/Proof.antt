@@ -17,14 +17,14 @@ returns : tie.Need-returns
 returns c =
     let h = c .before .before in
     let a = h .before .before .before .args in
-    λ rows. law.latest-none (a .v) rows (a .s .now) (a .w .now) (bytesOf (a .key)) _ (h .highest .ensures) (c .enum-told .given .1)
+    λ m d l. law.latest-none (a .node) m (a .s .now) (a .w .now) l (bytesOf (a .key)) _ (h .highest .ensures) (c .enum-told .given .1)
 
 returns-2 : tie.Need-returns-2
 returns-2 c =
     let k = c .before .before .before .before .before in
     let h = k .before .before in
     let a = h .before .before .before .args in
-    λ rows. law.latest-low (a .v) rows (a .s .now) (a .w .now) (bytesOf (a .key)) _ (h .highest .ensures) _ (k .slot .given .1) (c .if1 .taken)
+    λ m d l. law.latest-low (a .node) m (a .s .now) (a .w .now) l (bytesOf (a .key)) _ (h .highest .ensures) _ (k .slot .given .1) (c .if1 .taken)
 
 inspect-highest-slot-requires : tie.Need-inspect-highest-slot-requires
 inspect-highest-slot-requires c κs = search needs
@@ -35,7 +35,7 @@ returns-3 c =
     let k = i .before .before .before .before .before in
     let h = k .before .before in
     let a = h .before .before .before .args in
-    λ rows. law.latest-at (a .v) rows (a .s .now) (a .w .now) (bytesOf (a .key)) _ (h .highest .ensures) _ (k .slot .given .1) (i .if1 .left) _ (c .inspect-highest-slot .ensures rows (a .w .now))
+    λ m d l. law.latest-at (a .node) m (a .s .now) (a .w .now) l (bytesOf (a .key)) _ (h .highest .ensures) _ (k .slot .given .1) (i .if1 .left) (c .inspect-highest-slot .result) (c .inspect-highest-slot .ensures m d)
 
 pub inspect-latest-write-spec : {M : Type 1} → statement M
 inspect-latest-write-spec =

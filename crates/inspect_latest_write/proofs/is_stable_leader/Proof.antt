@@ -12,27 +12,27 @@ returns : tie.Need-returns
 returns c =
     let g = c .before in
     let a = g .before .before .before .before .before .args in
-    let v = a .v in
+    let n = a .node in
     let leases = a .leases in
-    λ rows s w. law.follower _ (v .«bal_prepared» .0) (v .«bal_max_seen» .0) (v .quorum) leases (v .«peer_accept_max» .0) (v .«commit_bar» .0) (sym (g .is-leader .ensures rows s w) ∙ not-true _ (c .if1 .taken)) ∙ law.stable-is v leases rows s w
+    λ m. law.follower _ (n .«bal_prepared» .0) (n .«bal_max_seen» .0) (n .quorum) leases (n .«peer_accept_max» .0) (n .«commit_bar» .0) (sym (g .is-leader .ensures m) ∙ not-true _ (c .if1 .taken)) ∙ law.stable-is n leases m
 
 returns-2 : tie.Need-returns-2
 returns-2 c =
     let i = c .before .before in
     let g = i .before in
     let a = g .before .before .before .before .before .args in
-    let v = a .v in
+    let n = a .node in
     let leases = a .leases in
-    λ rows s w. law.unprepared _ (v .«bal_prepared» .0) (v .«bal_max_seen» .0) (v .quorum) leases (v .«peer_accept_max» .0) (v .«commit_bar» .0) (sym (g .is-leader .ensures rows s w) ∙ not-false _ (i .if1 .left)) (c .if2 .taken) ∙ law.stable-is v leases rows s w
+    λ m. law.unprepared _ (n .«bal_prepared» .0) (n .«bal_max_seen» .0) (n .quorum) leases (n .«peer_accept_max» .0) (n .«commit_bar» .0) (sym (g .is-leader .ensures m) ∙ not-false _ (i .if1 .left)) (c .if2 .taken) ∙ law.stable-is n leases m
 
 returns-3 : tie.Need-returns-3
 returns-3 c =
     let i = c .before .before .before .before .before in
     let g = i .before in
     let a = g .before .before .before .before .before .args in
-    let v = a .v in
+    let n = a .node in
     let leases = a .leases in
-    λ rows s w. law.outdated _ (v .«bal_prepared» .0) (v .«bal_max_seen» .0) (v .quorum) leases (v .«peer_accept_max» .0) (v .«commit_bar» .0) (sym (g .is-leader .ensures rows s w) ∙ not-false _ (i .if1 .left)) (c .before .before .before .if2 .left) (c .if3 .taken) ∙ law.stable-is v leases rows s w
+    λ m. law.outdated _ (n .«bal_prepared» .0) (n .«bal_max_seen» .0) (n .quorum) leases (n .«peer_accept_max» .0) (n .«commit_bar» .0) (sym (g .is-leader .ensures m) ∙ not-false _ (i .if1 .left)) (c .before .before .before .if2 .left) (c .if3 .taken) ∙ law.stable-is n leases m
 
 wide-requires : tie.Need-wide-requires
 wide-requires c κs = search needs
@@ -44,9 +44,9 @@ returns-4 c =
     let i = z .before .before in
     let g = i .before in
     let a = g .before .before .before .before .before .args in
-    let v = a .v in
+    let n = a .node in
     let leases = a .leases in
-    λ rows s w. law.unleased _ (v .«bal_prepared» .0) (v .«bal_max_seen» .0) (v .quorum) leases (v .«peer_accept_max» .0) (v .«commit_bar» .0) (sym (g .is-leader .ensures rows s w) ∙ not-false _ (i .if1 .left)) (z .if2 .left) (k .if3 .left) (law.few (c .before .wide .ensures) (c .if4 .taken)) ∙ law.stable-is v leases rows s w
+    λ m. law.unleased _ (n .«bal_prepared» .0) (n .«bal_max_seen» .0) (n .quorum) leases (n .«peer_accept_max» .0) (n .«commit_bar» .0) (sym (g .is-leader .ensures m) ∙ not-false _ (i .if1 .left)) (z .if2 .left) (k .if3 .left) (law.few (c .before .wide .ensures) (c .if4 .taken)) ∙ law.stable-is n leases m
 
 returns-5 : tie.Need-returns-5
 returns-5 c =
@@ -56,9 +56,9 @@ returns-5 c =
     let i = z .before .before in
     let g = i .before in
     let a = g .before .before .before .before .before .args in
-    let v = a .v in
+    let n = a .node in
     let leases = a .leases in
-    λ rows s w. law.stable _ (v .«bal_prepared» .0) (v .«bal_max_seen» .0) (v .quorum) leases (v .«peer_accept_max» .0) (v .«commit_bar» .0) (sym (g .is-leader .ensures rows s w) ∙ not-false _ (i .if1 .left)) (z .if2 .left) (k .if3 .left) (law.enough (y .before .wide .ensures) (y .if4 .left)) ∙ law.stable-is v leases rows s w
+    λ m. law.stable _ (n .«bal_prepared» .0) (n .«bal_max_seen» .0) (n .quorum) leases (n .«peer_accept_max» .0) (n .«commit_bar» .0) (sym (g .is-leader .ensures m) ∙ not-false _ (i .if1 .left)) (z .if2 .left) (k .if3 .left) (law.enough (y .before .wide .ensures) (y .if4 .left)) ∙ law.stable-is n leases m
 
 pub is-stable-leader-spec : {M : Type 1} → statement M
 is-stable-leader-spec =

@@ -1,6 +1,6 @@
 use Rattle.inspect_latest_write.proofs.Laws as law
-use Rattle.inspect_latest_write.specs.Seen.{seen}
-use Rattle.roster_conf.specs.Edits.{view}
+use Rattle.node.specs.View.{view}
+use Rattle.roster_conf.specs.Edits.{view as rosterOf}
 use borrow.Author.Needs.{needs}
 use Rattle.inspect_latest_write.proofs.item_of.Statement.{statement}
 use Rattle.inspect_latest_write.proofs.item_of.Tie as tie
@@ -26,33 +26,33 @@ enum-told-4 c = search needs
 returns : tie.Need-returns
 returns c =
     let a = c .before .before .before .before .args in
-    λ rows s w key. law.item-by (a .v) rows s w (record { client = a .client; request = a .request; key = key }) _ _ (c .before .answer .given .1)
+    λ m key. law.item-by (a .node) m (record { client = a .client; request = a .request; key = key }) _ _ (c .before .answer .given .1)
 
 returns-2 : tie.Need-returns-2
 returns-2 c =
     let a = c .before .before .before .args in
-    λ rows s w key. law.item-by (a .v) rows s w (record { client = a .client; request = a .request; key = key }) _ _ (c .enum-told .given .1)
+    λ m key. law.item-by (a .node) m (record { client = a .client; request = a .request; key = key }) _ _ (c .enum-told .given .1)
 
 returns-3 : tie.Need-returns-3
 returns-3 c =
     let a = c .before .before .before .args in
-    λ rows s w key. law.item-by (a .v) rows s w (record { client = a .client; request = a .request; key = key }) _ _ (c .enum-told2 .given .1)
+    λ m key. law.item-by (a .node) m (record { client = a .client; request = a .request; key = key }) _ _ (c .enum-told2 .given .1)
 
 returns-4 : tie.Need-returns-4
 returns-4 c =
     let a = c .before .before .before .args in
-    λ rows s w key. law.item-by (a .v) rows s w (record { client = a .client; request = a .request; key = key }) _ _ (c .enum-told3 .given .1)
+    λ m key. law.item-by (a .node) m (record { client = a .client; request = a .request; key = key }) _ _ (c .enum-told3 .given .1)
 
 returns-5 : tie.Need-returns-5
 returns-5 c =
     let a = c .before .before .before .before .args in
-    λ rows s w key. law.item-by (a .v) rows s w (record { client = a .client; request = a .request; key = key }) _ _ (c .before .answer2 .given .1)
+    λ m key. law.item-by (a .node) m (record { client = a .client; request = a .request; key = key }) _ _ (c .before .answer2 .given .1)
 
 returns-6 : tie.Need-returns-6
-unfolding seen view
+unfolding view rosterOf
 returns-6 c =
     let a = c .before .before .before .args in
-    λ rows s w key. law.item-by (a .v) rows s w (record { client = a .client; request = a .request; key = key }) _ _ (c .enum-told4 .given .1)
+    λ m key. law.item-by (a .node) m (record { client = a .client; request = a .request; key = key }) _ _ (c .enum-told4 .given .1)
 
 pub item-of-spec : {M : Type 1} → statement M
 item-of-spec =
