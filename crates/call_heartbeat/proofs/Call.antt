@@ -11,6 +11,7 @@ use borrow.Author.Tests.{lt-ltb, le-ltb, le-leb, leb-false, not-true, not-false}
 use Rattle.words.specs.Writes.{length-writes}
 use Rattle.words.specs.Part.{part}
 use Rattle.ids.specs.Leader.{leaderOf}
+use Rattle.words.specs.Choice.{if_then_else_}
 use Rattle.items.specs.Item.{encode, places}
 use Rattle.roster_conf.specs.Conf.{Conf, leads}
 use Rattle.roster_conf.specs.Edits.{view as rosterOf}
@@ -30,9 +31,9 @@ use Rattle.words.proofs.Tests.{and-both}
 use Rattle.node.proofs.Calls.{is-ready, refused-by, few-places, taken-with, taken-by, none-applies}
 use Rattle.become_a_leader.specs.StepUp.{slotsAfter}
 use Rattle.heard_new_conf.specs.Does.{Does, whole}
-use Rattle.call_heartbeat.proofs.Refusals.{whole-if}
+use Rattle.call_heartbeat.proofs.Refusals.{whole-if, before-15, number-15}
 use Rattle.call_heartbeat.proofs.Machine.{effect-is, me-same, none-count, leading-count, following-count, both-count}
-use Rattle.call_heartbeat.specs.Heartbeat.{fitting, carried, confBy, heardBy, Installable}
+use Rattle.call_heartbeat.specs.Heartbeat.{fitting, carried, early, appending, confBy, heardBy, Installable}
 
 -- ---- the items counted
 
@@ -200,69 +201,84 @@ module _ (n : Node) (m area : List ℕ) (peer ballot : ℕ) (b : Bool) (c : Resp
       pub both-ready : (ready n m ≡ true) × (fits ≡ true)
       both-ready = (y, fine)
 
-      module _ (i : Bool) (j : i ≡ b && installs (view n m) peer ballot (rosterOf c rows)) (k : ℕ) (g : k ≡ lowest (grounds (view n m) beat)) where
+      module _ (k : ℕ) (g : k ≡ lowest (early (n .population) (n .«bal_max_seen» .0) peer ballot b (rosterOf c rows) commit exec snap)) where
         pub beat-refused : (k ≡ 0 → ⊥) → Gives (record { number = k; count = 0; node = n }) m area
-        beat-refused h = answers-both beat n m area fits fine (record { number = k; count = 0; node = n }) m area (refused-by beat n m area t e f k g h)
+        beat-refused h =
+            answers-both beat n m area fits fine (record { number = k; count = 0; node = n }) m area
+            (refused-by beat n m area t e f k (before-15 n m peer ballot b c rows commit exec snap k g h) h)
 
-        module _ (z : k ≡ 0) where
-          pub lower-taken : ballot < n .«bal_max_seen» .0 → Gives (record { number = 0; count = 0; node = n }) m area
-          unfolding view
-          lower-taken h =
-              answers-both beat n m area fits fine (record { number = 0; count = 0; node = n }) m area
-              (taken-by beat n m area t e f k g z (view n m) n m (effect-is (view n m) peer ballot b (rosterOf c rows) commit exec snap ∙ rw (lt-ltb ballot (n .«bal_max_seen» .0) h)) refl refl (λ j l. refl) y)
+        module _ (z : k ≡ 0) (i : Bool) (j : i ≡ b && installs (view n m) peer ballot (rosterOf c rows)) (s : Bool)
+            (a : s ≡ appending (view n m) ballot i (leaderOf (c .leader)) && noRoom (view n m)) where
+          told : (if s then 15 else 0) ≡ lowest (grounds (view n m) beat)
+          told = number-15 n m peer ballot b c rows commit exec snap k g z i j s a
 
-          module _ (h : n .«bal_max_seen» .0 ≤ ballot) where
-            abbrev heard : machine.Done
-            heard = heardBy i (rosterOf c rows) peer ballot commit exec snap (view n m)
+          pub beat-15 : s ≡ true → Gives (record { number = 15; count = 0; node = n }) m area
+          beat-15 x =
+              answers-both beat n m area fits fine (record { number = 15; count = 0; node = n }) m area
+              (refused-by beat n m area t e f 15 (sym (rw x) ∙ told) (λ l. absurd (omega arith)))
 
-            heard-is : effect (view n m) beat ≡ heard
+          module _ (x : s ≡ false) where
+            allowed : 0 ≡ lowest (grounds (view n m) beat)
+            allowed = sym (rw x) ∙ told
+
+            pub lower-taken : ballot < n .«bal_max_seen» .0 → Gives (record { number = 0; count = 0; node = n }) m area
             unfolding view
-            heard-is = effect-is (view n m) peer ballot b (rosterOf c rows) commit exec snap ∙ rw (le-ltb ballot (n .«bal_max_seen» .0) h, j)
+            lower-taken h =
+                answers-both beat n m area fits fine (record { number = 0; count = 0; node = n }) m area
+                (taken-by beat n m area t e f 0 allowed refl (view n m) n m (effect-is (view n m) peer ballot b (rosterOf c rows) commit exec snap ∙ rw (lt-ltb ballot (n .«bal_max_seen» .0) h)) refl refl (λ j l. refl) y)
 
-            pub below : peer < n .population
-            unfolding grounds view
-            below = leb-false (n .population) peer (or-left (leb (n .population) peer) (foreignLeader (n .population) (carried b (rosterOf c rows))) (none-applies beat n m k g z .1 .0))
+            module _ (h : n .«bal_max_seen» .0 ≤ ballot) where
+              abbrev heard : machine.Done
+              heard = heardBy i (rosterOf c rows) peer ballot commit exec snap (view n m)
 
-            not-15 : appends (view n m) peer ballot (carried b (rosterOf c rows)) && noRoom (view n m) ≡ false
-            unfolding grounds
-            not-15 = none-applies beat n m k g z .1 .1 .1 .1 .1 .0
+              heard-is : effect (view n m) beat ≡ heard
+              unfolding view
+              heard-is = effect-is (view n m) peer ballot b (rosterOf c rows) commit exec snap ∙ rw (le-ltb ballot (n .«bal_max_seen» .0) h, j)
 
-            held : length (view n m .insts) ≡ n .slots
-            unfolding view
-            held = length-insts (n .«start_slot» .0) (n .slots) (part m 512 7744)
+              pub below : peer < n .population
+              unfolding grounds view
+              below = leb-false (n .population) peer (or-left (leb (n .population) peer) (foreignLeader (n .population) (carried b (rosterOf c rows))) (none-applies beat n m 0 allowed refl .1 .0))
 
-            seen-is : view n m .bal .maxSeen ≤ ballot
-            unfolding view
-            seen-is = h
+              not-15 : appends (view n m) peer ballot (carried b (rosterOf c rows)) && noRoom (view n m) ≡ false
+              unfolding grounds
+              not-15 = none-applies beat n m 0 allowed refl .1 .1 .1 .1 .1 .0
 
-            own-leads : leads (rosterOf c rows) (n .id .0) ≡ true → leads (rosterOf c rows) (view n m .me .id) ≡ true
-            unfolding view
-            own-leads l = l
+              held : length (view n m .insts) ≡ n .slots
+              unfolding view
+              held = length-insts (n .«start_slot» .0) (n .slots) (part m 512 7744)
 
-            pub installable : Installable i n m c rows
-            installable =
-                record {
-                  roster = λ x. whole-if b (c .count) rows fine (ap not (each x .0));
-                  room = λ x l. slots-left (view n m) peer ballot (rosterOf c rows) (n .slots) held (is-ready n m t e f .window) seen-is (each x .1) (own-leads l)
-                      (sym (ap (λ (a : Bool). appends (view n m) peer ballot (carried a (rosterOf c rows)) && noRoom (view n m)) (each x .0)) ∙ not-15);
-                }
-              where
-                each : i ≡ true → (b ≡ true) × (installs (view n m) peer ballot (rosterOf c rows) ≡ true)
-                each x = and-both b (installs (view n m) peer ballot (rosterOf c rows)) (sym j ∙ x)
+              seen-is : view n m .bal .maxSeen ≤ ballot
+              unfolding view
+              seen-is = h
 
-            module _ (q : ℕ) (x : (p s : ℕ) (l : List ℕ) → q ≡ length (heardBy i (rosterOf c l) p ballot commit exec s (view n m) .items)) where
-              counted : q ≡ length (heard .items)
-              counted = x peer snap rows
+              own-leads : leads (rosterOf c rows) (n .id .0) ≡ true → leads (rosterOf c rows) (view n m .me .id) ≡ true
+              unfolding view
+              own-leads l = l
 
-              pub beat-20 : places area < q → Gives (record { number = 20; count = 0; node = n }) m area
-              beat-20 o = answers-both beat n m area fits fine (record { number = 20; count = 0; node = n }) m area (few-places beat n m area t e f k g z (rw (heard-is, ← counted) o))
+              pub installable : Installable i n m c rows
+              installable =
+                  record {
+                    roster = λ x. whole-if b (c .count) rows fine (ap not (each x .0));
+                    room = λ x l. slots-left (view n m) peer ballot (rosterOf c rows) (n .slots) held (is-ready n m t e f .window) seen-is (each x .1) (own-leads l)
+                        (sym (ap (λ (a : Bool). appends (view n m) peer ballot (carried a (rosterOf c rows)) && noRoom (view n m)) (each x .0)) ∙ not-15);
+                  }
+                where
+                  each : i ≡ true → (b ≡ true) × (installs (view n m) peer ballot (rosterOf c rows) ≡ true)
+                  each x = and-both b (installs (view n m) peer ballot (rosterOf c rows)) (sym j ∙ x)
 
-              module _ (o : q ≤ places area) where
-                pub heard-room : (ready n m ≡ true) × (peer < n .population) × Installable i n m c rows × (length (heard .items) ≤ places area)
-                heard-room = (y, below, installable, rw (← counted) o)
+              module _ (q : ℕ) (o : (p r : ℕ) (l : List ℕ) → q ≡ length (heardBy i (rosterOf c l) p ballot commit exec r (view n m) .items)) where
+                counted : q ≡ length (heard .items)
+                counted = o peer snap rows
 
-                pub beat-taken : (r : Given Node) (m′ area′ : List ℕ) → Does heard 0 m area r m′ area′ → Gives r m′ area′
-                beat-taken r m′ area′ d =
-                    answers-both beat n m area fits fine r m′ area′
-                    (rw (d .number, d .count)
-                    (taken-with beat n m area t e f k g z (heard .replica) (heard .items) (r .node) m′ area′ heard-is (rw (← counted) o) (d .next) (d .items) (d .size) (d .beyond) (d .readyAgain)))
+                pub beat-20 : places area < q → Gives (record { number = 20; count = 0; node = n }) m area
+                beat-20 l = answers-both beat n m area fits fine (record { number = 20; count = 0; node = n }) m area (few-places beat n m area t e f 0 allowed refl (rw (heard-is, ← counted) l))
+
+                module _ (l : q ≤ places area) where
+                  pub heard-room : (ready n m ≡ true) × (peer < n .population) × Installable i n m c rows × (length (heard .items) ≤ places area)
+                  heard-room = (y, below, installable, rw (← counted) l)
+
+                  pub beat-taken : (r : Given Node) (m′ area′ : List ℕ) → Does heard 0 m area r m′ area′ → Gives r m′ area′
+                  beat-taken r m′ area′ d =
+                      answers-both beat n m area fits fine r m′ area′
+                      (rw (d .number, d .count)
+                      (taken-with beat n m area t e f 0 allowed refl (heard .replica) (heard .items) (r .node) m′ area′ heard-is (rw (← counted) l) (d .next) (d .items) (d .size) (d .beyond) (d .readyAgain)))

@@ -8,7 +8,7 @@ use native.Mathlib.Omega.{arith}
 use lib.Dec.{ltb, leb}
 use lib.ListN.{length, take, drop}
 use borrow.Author.Tests.{lt-ltb, le-ltb, le-leb, lt-leb, not-true, not-false}
-use Rattle.words.specs.Choice.{ifNone_then_else_}
+use Rattle.words.specs.Choice.{if_then_else_, ifNone_then_else_}
 use Rattle.words.specs.Part.{part, length-part}
 use Rattle.ids.specs.Leader.{leaderOf}
 use Rattle.roster_conf.specs.Conf.{Conf, same}
@@ -26,7 +26,7 @@ use Rattle.node.specs.View.{view, ready, lowest, leadsIt}
 use Rattle.become_a_leader.proofs.Open.{any-is}
 use Rattle.heard_new_conf.specs.Does.{whole}
 use Rattle.heard_new_conf.proofs.Laws.{readied, few-ranges, rows-long}
-use Rattle.call_heartbeat.specs.Heartbeat.{fitting, carried, lacksRoster, appending}
+use Rattle.call_heartbeat.specs.Heartbeat.{fitting, carried, lacksRoster, early, appending}
 
 -- ---- the roster
 
@@ -174,6 +174,53 @@ appends-is r peer ballot false c = go (leb (r .bal .maxSeen) ballot)
     go true = refl
     go false = refl
 
+-- the tests before 15, one after the other
+module _ (population seen peer ballot : ℕ) (t : Bool) (c : Conf) (commit exec snap : ℕ) where
+  abbrev First : ℕ → Type 0
+  First k = k ≡ lowest (early population seen peer ballot t c commit exec snap)
+
+  module _ (a : Bool) (p : a ≡ unformed (carried t c)) where
+    pub first-2 : a ≡ true → First 2
+    first-2 x = sym (rw (sym p ∙ x))
+
+    module _ (x : a ≡ false) (b : Bool) (q : b ≡ leb population peer || foreignLeader population (carried t c)) where
+      pub first-3 : b ≡ true → First 3
+      first-3 y = sym (rw (sym p ∙ x, sym q ∙ y))
+
+      module _ (y : b ≡ false) (d : Bool) (r : d ≡ foreignMask population (carried t c)) where
+        pub first-4 : d ≡ true → First 4
+        first-4 z = sym (rw (sym p ∙ x, sym q ∙ y, sym r ∙ z))
+
+        module _ (z : d ≡ false) (f : Bool) (s : f ≡ far commit || far exec || far snap) where
+          pub first-8 : f ≡ true → First 8
+          first-8 u = sym (rw (sym p ∙ x, sym q ∙ y, sym r ∙ z, sym s ∙ u))
+
+          module _ (u : f ≡ false) (g : Bool) (v : g ≡ lacksRoster seen ballot t) where
+            pub first-12 : g ≡ true → First 12
+            first-12 w = sym (rw (sym p ∙ x, sym q ∙ y, sym r ∙ z, sym s ∙ u, sym v ∙ w))
+
+            pub first-0 : g ≡ false → First 0
+            first-0 w = sym (rw (sym p ∙ x, sym q ∙ y, sym r ∙ z, sym s ∙ u, sym v ∙ w))
+
+-- 2 to 12 alone, and with 15
+some-first : (a b d f h g : Bool) (k : ℕ) → k ≡ lowest (2 when a or 3 when b or 4 when d or 8 when f or 12 when h or []) → (k ≡ 0 → ⊥)
+    → k ≡ lowest (2 when a or 3 when b or 4 when d or 8 when f or 12 when h or 15 when g or [])
+some-first true b d f h g k e z = e
+some-first false true d f h g k e z = e
+some-first false false true f h g k e z = e
+some-first false false false true h g k e z = e
+some-first false false false false true g k e z = e
+some-first false false false false false g k e z = absurd (z e)
+
+none-first : (a b d f h g : Bool) (k : ℕ) → k ≡ lowest (2 when a or 3 when b or 4 when d or 8 when f or 12 when h or []) → k ≡ 0
+    → (if g then 15 else 0) ≡ lowest (2 when a or 3 when b or 4 when d or 8 when f or 12 when h or 15 when g or [])
+none-first true b d f h g k e z = absurd (omega arith)
+none-first false true d f h g k e z = absurd (omega arith)
+none-first false false true f h g k e z = absurd (omega arith)
+none-first false false false true h g k e z = absurd (omega arith)
+none-first false false false false true g k e z = absurd (omega arith)
+none-first false false false false false g k e z = refl
+
 module _ (n : Node) (m : List ℕ) (peer ballot : ℕ) (t i : Bool) (c : RespondersConf) (rows : List ℕ) (commit exec snap : ℕ)
     (e : i ≡ t && installs (view n m) peer ballot (rosterOf c rows)) where
   slot-is : (g : Bool) → g ≡ appending (view n m) ballot i (leaderOf (c .leader)) && noRoom (view n m)
@@ -183,20 +230,37 @@ module _ (n : Node) (m : List ℕ) (peer ballot : ℕ) (t i : Bool) (c : Respond
       u ∙ ap (λ (b : Bool). appending (view n m) ballot b (leaderOf (c .leader)) && noRoom (view n m)) e
       ∙ ap (λ (b : Bool). b && noRoom (view n m)) (appends-is (view n m) peer ballot t (rosterOf c rows))
 
-  module _ (w : Bool) (y : w ≡ unformed (carried t (rosterOf c rows))) where
-    pub number-2 : w ≡ true → 2 ≡ lowest (grounds (view n m) (machine.Heartbeat peer ballot (carried t (rosterOf c rows)) commit exec snap))
-    unfolding grounds
-    number-2 z = sym (rw (sym y ∙ z))
+-- 2 to 12 are told by k
+module _ (n : Node) (m : List ℕ) (peer ballot : ℕ) (t : Bool) (c : RespondersConf) (rows : List ℕ) (commit exec snap k : ℕ)
+    (v : k ≡ lowest (early (n .population) (n .«bal_max_seen» .0) peer ballot t (rosterOf c rows) commit exec snap)) where
+  abbrev beat : machine.Call
+  beat = machine.Heartbeat peer ballot (carried t (rosterOf c rows)) commit exec snap
 
-    pub number-is : w ≡ false → (a b d f g : Bool)
-        → ((x : List ℕ) → a ≡ leb (n .population) peer || foreignLeader (n .population) (carried t (rosterOf c x)))
-        → b ≡ foreignMask (n .population) (carried t (rosterOf c rows))
-        → d ≡ far commit || far exec || far snap
-        → f ≡ lacksRoster (n .«bal_max_seen» .0) ballot t
-        → g ≡ appending (view n m) ballot i (leaderOf (c .leader)) && noRoom (view n m)
-        → (k : ℕ) → k ≡ lowest (3 when a or 4 when b or 8 when d or 12 when f or 15 when g or [])
-        → k ≡ lowest (grounds (view n m) (machine.Heartbeat peer ballot (carried t (rosterOf c rows)) commit exec snap))
-    unfolding grounds view
-    number-is z a b d f g p q r s u k v =
-        v ∙ ap (λ (z : Bool). lowest (3 when z or 4 when b or 8 when d or 12 when f or 15 when g or [])) (p rows)
-        ∙ rw (sym y ∙ z, q, r, s ∙ lacks-is (n .«bal_max_seen» .0) ballot t (rosterOf c rows), slot-is g u)
+  abbrev conf : Option Conf
+  conf = carried t (rosterOf c rows)
+
+  abbrev appended : Bool
+  appended = appends (view n m) peer ballot conf && noRoom (view n m)
+
+  abbrev all : Bool → Bool → ℕ
+  all x g =
+      lowest
+      (2 when unformed conf or 3 when leb (n .population) peer || foreignLeader (n .population) conf or 4 when foreignMask (n .population) conf or 8 when far commit || far exec || far snap or
+      12 when x or 15 when g or [])
+
+  all-is : all (lacksRoster (n .«bal_max_seen» .0) ballot t) appended ≡ lowest (grounds (view n m) beat)
+  unfolding grounds view
+  all-is = ap (λ (x : Bool). all x appended) (lacks-is (n .«bal_max_seen» .0) ballot t (rosterOf c rows))
+
+  pub before-15 : (k ≡ 0 → ⊥) → k ≡ lowest (grounds (view n m) beat)
+  before-15 z =
+      some-first (unformed conf) (leb (n .population) peer || foreignLeader (n .population) conf) (foreignMask (n .population) conf) (far commit || far exec || far snap)
+      (lacksRoster (n .«bal_max_seen» .0) ballot t) appended k v z ∙ all-is
+
+  -- and 15 by g
+  pub number-15 : k ≡ 0 → (i : Bool) → i ≡ t && installs (view n m) peer ballot (rosterOf c rows)
+      → (g : Bool) → g ≡ appending (view n m) ballot i (leaderOf (c .leader)) && noRoom (view n m) → (if g then 15 else 0) ≡ lowest (grounds (view n m) beat)
+  number-15 z i e g u =
+      none-first (unformed conf) (leb (n .population) peer || foreignLeader (n .population) conf) (foreignMask (n .population) conf) (far commit || far exec || far snap)
+      (lacksRoster (n .«bal_max_seen» .0) ballot t) g k v z
+      ∙ ap (λ (x : Bool). all (lacksRoster (n .«bal_max_seen» .0) ballot t) x) (slot-is n m peer ballot t i c rows commit exec snap e g u) ∙ all-is

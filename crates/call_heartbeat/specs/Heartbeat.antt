@@ -8,10 +8,12 @@ use lib.Dec.{ltb, leb}
 use Rattle.words.specs.Choice.{if_then_else_}
 use Rattle.roster_conf.specs.Conf.{Conf, leads}
 use Rattle.roster_conf.specs.Edits.{view as rosterOf}
+use Rattle.roster_conf.specs.Ground.{Ground, _when_or_}
 use Rattle.roster_conf.specs.declared.RespondersConf.{RespondersConf}
 use Rattle.bodega.specs.Replica.{Replica, Done, done, _andThen_}
 use Rattle.bodega.specs.Conflease.{anyOpen, heardNewConf}
 use Rattle.bodega.specs.Heartbeat.{heardBars}
+use Rattle.bodega.specs.Grounds.{far, unformed, foreignLeader, foreignMask}
 use Rattle.node.specs.declared.Node.{Node}
 use Rattle.node.specs.View.{view, leadsIt}
 use Rattle.become_a_leader.specs.StepUp.{slotsAfter}
@@ -28,6 +30,16 @@ carried attached c = if attached then some c else none
 -- "12. A heartbeat has a higher ballot and no roster"
 abbrev pub lacksRoster : ℕ → ℕ → Bool → Bool
 lacksRoster seen ballot attached = ltb seen ballot && not attached
+
+-- the grounds before 15
+abbrev pub early : ℕ → ℕ → ℕ → ℕ → Bool → Conf → ℕ → ℕ → ℕ → List Ground
+early population seen peer ballot attached c commit exec snap =
+    2 when unformed (carried attached c) or
+    3 when leb population peer || foreignLeader population (carried attached c) or
+    4 when foreignMask population (carried attached c) or
+    8 when far commit || far exec || far snap or
+    12 when lacksRoster seen ballot attached or
+    []
 
 -- 15: `appends`, where it is known whether the roster is installed
 abbrev pub appending : Replica → ℕ → Bool → Option ℕ → Bool

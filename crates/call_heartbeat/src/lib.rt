@@ -7,21 +7,20 @@ use node::Node;
 use roster_conf::RespondersConf;
 ghost use mathlib.Core.Path.{_≡_};
 ghost use mathlib.Core.Bool.{true, _&&_, _||_};
-ghost use mathlib.Core.List.{List, []};
+ghost use mathlib.Core.List.{List};
 ghost use Prim.Native.Nat.{ℕ, _+_, _≤_, _<_};
 ghost use lib.Dec.{leb};
 ghost use lib.ListN.{length};
 ghost use Rattle.ids.specs.Leader.{leaderOf};
 ghost use Rattle.items.specs.Item.{places};
-ghost use Rattle.roster_conf.specs.Ground.{_when_or_};
 ghost use Rattle.roster_conf.specs.Edits.{view as rosterOf};
 ghost use Rattle.bodega.specs.Replica.{Heartbeat};
 ghost use Rattle.bodega.specs.Answers.{Answers};
 ghost use Rattle.bodega.specs.Heartbeat.{installs, heardBars};
-ghost use Rattle.bodega.specs.Grounds.{far, unformed, foreignLeader, foreignMask, noRoom, grounds};
+ghost use Rattle.bodega.specs.Grounds.{far, unformed, foreignLeader, foreignMask, noRoom};
 ghost use Rattle.node.specs.View.{view, ready, givenOf, lowest};
 ghost use Rattle.heard_new_conf.specs.Does.{Does, whole};
-ghost use Rattle.call_heartbeat.specs.Heartbeat.{fitting, carried, lacksRoster, appending, confBy, heardBy, Installable};
+ghost use Rattle.call_heartbeat.specs.Heartbeat.{fitting, carried, lacksRoster, early, appending, confBy, heardBy, Installable};
 
 // ---- the bars
 
@@ -242,55 +241,38 @@ fn lacks_slot(
     Slot::TOP < start.0 + node.slots as u64
 }
 
-// The lowest that applies.
-fn first_of(three: bool, four: bool, eight: bool, twelve: bool, fifteen: bool) -> u64
-    ensures { λ r. ⌜ r ≡ lowest (3 when three or 4 when four or 8 when eight or 12 when twelve or 15 when fifteen or []) ⌝ }
-{
-    if three {
-        return 3;
-    }
-    if four {
-        return 4;
-    }
-    if eight {
-        return 8;
-    }
-    if twelve {
-        return 12;
-    }
-    if fifteen {
-        return 15;
-    }
-    0
-}
-
-// The number of the refusal, 0 where there is none; 20 and what 2 says of buffers are not among them.
-fn heartbeat_refusal(
-    node: Node,
-    mem: &[u64],
+// The number of the first refusal before 15, 0 where there is none; what 2 says of buffers is not among them.
+fn early_refusal(
+    population: u8,
+    seen: Ballot,
     peer: Replica,
     ballot: Ballot,
     attached: bool,
-    installing: bool,
     conf: RespondersConf,
     rows: &[u64],
     commit: Slot,
     exec: Slot,
     snap: Slot,
 ) -> u64
-    requires { ⌜ (ready node (now mem) ≡ true) × (fitting attached (conf .count) (now rows) ≡ true) × (installing ≡ attached && installs (view node (now mem)) (peer .0) (ballot .0) (rosterOf conf (now rows))) ⌝ }
-    ensures { λ r. ⌜ r ≡ lowest (grounds (view node (now (mem .entry))) (Heartbeat (peer .0) (ballot .0) (carried attached (rosterOf conf (now (rows .entry)))) (commit .0) (exec .0) (snap .0))) ⌝ }
+    requires { ⌜ fitting attached (conf .count) (now rows) ≡ true ⌝ }
+    ensures { λ r. ⌜ r ≡ lowest (early population (seen .0) (peer .0) (ballot .0) attached (rosterOf conf (now (rows .entry))) (commit .0) (exec .0) (snap .0)) ⌝ }
 {
     if is_unformed(attached, conf, rows) {
         return 2;
     }
-    let three = is_foreign(node.population, peer, attached, conf);
-    let four = is_misfit(node.population, attached, conf, rows);
-    let eight = is_far(commit, exec, snap);
-    let seen = node.bal_max_seen;
-    let twelve = lacks_roster(seen, ballot, attached);
-    let fifteen = lacks_slot(node, mem, ballot, installing, conf);
-    first_of(three, four, eight, twelve, fifteen)
+    if is_foreign(population, peer, attached, conf) {
+        return 3;
+    }
+    if is_misfit(population, attached, conf, rows) {
+        return 4;
+    }
+    if is_far(commit, exec, snap) {
+        return 8;
+    }
+    if lacks_roster(seen, ballot, attached) {
+        return 12;
+    }
+    0
 }
 
 // ---- `heard_heartbeat`
@@ -409,14 +391,13 @@ pub fn heartbeat(
             node,
         };
     }
-    let installing = is_installing(node, mem, peer, ballot, attached, conf, rows);
-    let refusal = heartbeat_refusal(
-        node,
-        mem,
+    let seen = node.bal_max_seen;
+    let refusal = early_refusal(
+        node.population,
+        seen,
         peer,
         ballot,
         attached,
-        installing,
         conf,
         rows,
         commit,
@@ -426,6 +407,14 @@ pub fn heartbeat(
     if refusal != 0 {
         return Answered {
             number: refusal,
+            count: 0,
+            node,
+        };
+    }
+    let installing = is_installing(node, mem, peer, ballot, attached, conf, rows);
+    if lacks_slot(node, mem, ballot, installing, conf) {
+        return Answered {
+            number: 15,
             count: 0,
             node,
         };

@@ -22,63 +22,177 @@ same-length-2 c = search needs
 
 returns-2 : tie.Need-returns-2
 returns-2 c =
-    let a = c .before .before .before .before .before .before .before .before .args in
-    law.not-fitting (a .node) (a .mem .now) (a .area .now) (a .peer .0) (a .ballot .0) (a .attached) (a .conf) (a .rows .now) (a .commit .0) (a .exec .0) (a .snap .0) _ (c .before .before .before .is-ready .ensures) (c .before .before .if1 .left) _ (c .before .is-fitting .ensures) (c .if2 .taken)
+    let fit = c .before in
+    let i = fit .before in
+    let a = i .before .before .before .before .before .before .args in
+    law.not-fitting (a .node) (a .mem .now) (a .area .now) (a .peer .0) (a .ballot .0) (a .attached) (a .conf) (a .rows .now) (a .commit .0) (a .exec .0) (a .snap .0) _ (i .before .is-ready .ensures) (i .if1 .left) _ (fit .is-fitting .ensures) (c .if2 .taken)
 
-is-installing-requires : tie.Need-is-installing-requires
-is-installing-requires c κs =
-    let a = c .before .before .before .before .before .before .before .before .before .args in
-    law.both-ready (a .node) (a .mem .now) (a .area .now) (a .peer .0) (a .ballot .0) (a .attached) (a .conf) (a .rows .now) (a .commit .0) (a .exec .0) (a .snap .0) _ (c .before .before .before .before .is-ready .ensures) (c .before .before .before .if1 .left) _ (c .before .before .is-fitting .ensures) (c .before .if2 .left)
-
-heartbeat-refusal-requires : tie.Need-heartbeat-refusal-requires
-heartbeat-refusal-requires c κs =
-    let a = c .before .before .before .before .before .before .before .before .before .before .before .args in
-    let w = law.both-ready (a .node) (a .mem .now) (a .area .now) (a .peer .0) (a .ballot .0) (a .attached) (a .conf) (a .rows .now) (a .commit .0) (a .exec .0) (a .snap .0) _ (c .before .before .before .before .before .before .is-ready .ensures) (c .before .before .before .before .before .if1 .left) _ (c .before .before .before .before .is-fitting .ensures) (c .before .before .before .if2 .left) in (w .0, w .1, c .before .is-installing .ensures)
+early-refusal-requires : tie.Need-early-refusal-requires
+early-refusal-requires c κs =
+    let q = c .before in
+    let fit = q .before in
+    let i = fit .before in
+    let a = i .before .before .before .before .before .before .args in
+    law.both-ready (a .node) (a .mem .now) (a .area .now) (a .peer .0) (a .ballot .0) (a .attached) (a .conf) (a .rows .now) (a .commit .0) (a .exec .0) (a .snap .0) _ (i .before .is-ready .ensures) (i .if1 .left) _ (fit .is-fitting .ensures) (q .if2 .left) .1
 
 same-length-3 : tie.Need-same-length-3
 same-length-3 c = search needs
 
 returns-3 : tie.Need-returns-3
 returns-3 c =
-    let a = c .before .before .before .before .before .before .before .before .before .before .before .before .before .args in
-    law.beat-refused (a .node) (a .mem .now) (a .area .now) (a .peer .0) (a .ballot .0) (a .attached) (a .conf) (a .rows .now) (a .commit .0) (a .exec .0) (a .snap .0) _ (c .before .before .before .before .before .before .before .before .is-ready .ensures) (c .before .before .before .before .before .before .before .if1 .left) _ (c .before .before .before .before .before .before .is-fitting .ensures) (c .before .before .before .before .before .if2 .left) _ (c .before .before .before .is-installing .ensures) _ (c .before .heartbeat-refusal .ensures) (c .if3 .taken)
+    let y = c .before in
+    let q = y .before .before in
+    let fit = q .before in
+    let i = fit .before in
+    let a = i .before .before .before .before .before .before .args in
+    law.beat-refused (a .node) (a .mem .now) (a .area .now) (a .peer .0) (a .ballot .0) (a .attached) (a .conf) (a .rows .now) (a .commit .0) (a .exec .0) (a .snap .0) _ (i .before .is-ready .ensures) (i .if1 .left) _ (fit .is-fitting .ensures) (q .if2 .left) _ (y .early-refusal .ensures) (c .if3 .taken)
+
+is-installing-requires : tie.Need-is-installing-requires
+is-installing-requires c κs =
+    let r = c .before in
+    let y = r .before in
+    let q = y .before .before in
+    let fit = q .before in
+    let i = fit .before in
+    let a = i .before .before .before .before .before .before .args in
+    law.both-ready (a .node) (a .mem .now) (a .area .now) (a .peer .0) (a .ballot .0) (a .attached) (a .conf) (a .rows .now) (a .commit .0) (a .exec .0) (a .snap .0) _ (i .before .is-ready .ensures) (i .if1 .left) _ (fit .is-fitting .ensures) (q .if2 .left)
+
+lacks-slot-requires : tie.Need-lacks-slot-requires
+lacks-slot-requires c κs =
+    let w = c .before in
+    let r = w .before .before in
+    let y = r .before in
+    let q = y .before .before in
+    let fit = q .before in
+    let i = fit .before in
+    let a = i .before .before .before .before .before .before .args in
+    law.both-ready (a .node) (a .mem .now) (a .area .now) (a .peer .0) (a .ballot .0) (a .attached) (a .conf) (a .rows .now) (a .commit .0) (a .exec .0) (a .snap .0) _ (i .before .is-ready .ensures) (i .if1 .left) _ (fit .is-fitting .ensures) (q .if2 .left) .0
 
 same-length-4 : tie.Need-same-length-4
 same-length-4 c = search needs
 
 returns-4 : tie.Need-returns-4
 returns-4 c =
-    let a = c .before .before .before .before .before .before .before .before .before .before .before .before .before .before .before .before .args in
-    law.lower-taken (a .node) (a .mem .now) (a .area .now) (a .peer .0) (a .ballot .0) (a .attached) (a .conf) (a .rows .now) (a .commit .0) (a .exec .0) (a .snap .0) _ (c .before .before .before .before .before .before .before .before .before .before .before .is-ready .ensures) (c .before .before .before .before .before .before .before .before .before .before .if1 .left) _ (c .before .before .before .before .before .before .before .before .before .is-fitting .ensures) (c .before .before .before .before .before .before .before .before .if2 .left) _ (c .before .before .before .before .before .before .is-installing .ensures) _ (c .before .before .before .before .heartbeat-refusal .ensures) (c .before .before .before .if3 .left) (c .if4 .taken)
-
-count-items-requires : tie.Need-count-items-requires
-count-items-requires c κs =
-    let a = c .before .before .before .before .before .before .before .before .before .before .before .before .before .before .before .before .before .args in
-    law.both-ready (a .node) (a .mem .now) (a .area .now) (a .peer .0) (a .ballot .0) (a .attached) (a .conf) (a .rows .now) (a .commit .0) (a .exec .0) (a .snap .0) _ (c .before .before .before .before .before .before .before .before .before .before .before .before .is-ready .ensures) (c .before .before .before .before .before .before .before .before .before .before .before .if1 .left) _ (c .before .before .before .before .before .before .before .before .before .before .is-fitting .ensures) (c .before .before .before .before .before .before .before .before .before .if2 .left) .0
+    let l = c .before in
+    let w = l .before .before in
+    let r = w .before .before in
+    let y = r .before in
+    let q = y .before .before in
+    let fit = q .before in
+    let i = fit .before in
+    let a = i .before .before .before .before .before .before .args in
+    law.beat-15 (a .node) (a .mem .now) (a .area .now) (a .peer .0) (a .ballot .0) (a .attached) (a .conf) (a .rows .now) (a .commit .0) (a .exec .0) (a .snap .0) _ (i .before .is-ready .ensures) (i .if1 .left) _ (fit .is-fitting .ensures) (q .if2 .left) _ (y .early-refusal .ensures) (r .if3 .left) _ (w .is-installing .ensures) _ (l .lacks-slot .ensures) (c .if4 .taken)
 
 same-length-5 : tie.Need-same-length-5
 same-length-5 c = search needs
 
 returns-5 : tie.Need-returns-5
 returns-5 c =
-    let a = c .before .before .before .before .before .before .before .before .before .before .before .before .before .before .before .before .before .before .before .args in
-    law.beat-20 (a .node) (a .mem .now) (a .area .now) (a .peer .0) (a .ballot .0) (a .attached) (a .conf) (a .rows .now) (a .commit .0) (a .exec .0) (a .snap .0) _ (c .before .before .before .before .before .before .before .before .before .before .before .before .before .before .is-ready .ensures) (c .before .before .before .before .before .before .before .before .before .before .before .before .before .if1 .left) _ (c .before .before .before .before .before .before .before .before .before .before .before .before .is-fitting .ensures) (c .before .before .before .before .before .before .before .before .before .before .before .if2 .left) _ (c .before .before .before .before .before .before .before .before .before .is-installing .ensures) _ (c .before .before .before .before .before .before .before .heartbeat-refusal .ensures) (c .before .before .before .before .before .before .if3 .left) (c .before .before .before .if4 .left) _ (c .before .count-items .ensures) (c .if5 .taken)
+    let e = c .before .before .before in
+    let l = e .before in
+    let w = l .before .before in
+    let r = w .before .before in
+    let y = r .before in
+    let q = y .before .before in
+    let fit = q .before in
+    let i = fit .before in
+    let a = i .before .before .before .before .before .before .args in
+    law.lower-taken (a .node) (a .mem .now) (a .area .now) (a .peer .0) (a .ballot .0) (a .attached) (a .conf) (a .rows .now) (a .commit .0) (a .exec .0) (a .snap .0) _ (i .before .is-ready .ensures) (i .if1 .left) _ (fit .is-fitting .ensures) (q .if2 .left) _ (y .early-refusal .ensures) (r .if3 .left) _ (w .is-installing .ensures) _ (l .lacks-slot .ensures) (e .if4 .left) (c .if5 .taken)
 
-heard-requires : tie.Need-heard-requires
-heard-requires c κs =
-    let a = c .before .before .before .before .before .before .before .before .before .before .before .before .before .before .before .before .before .before .before .before .before .args in
-    law.heard-room (a .node) (a .mem .now) (a .area .now) (a .peer .0) (a .ballot .0) (a .attached) (a .conf) (a .rows .now) (a .commit .0) (a .exec .0) (a .snap .0) _ (c .before .before .before .before .before .before .before .before .before .before .before .before .before .before .before .before .is-ready .ensures) (c .before .before .before .before .before .before .before .before .before .before .before .before .before .before .before .if1 .left) _ (c .before .before .before .before .before .before .before .before .before .before .before .before .before .before .is-fitting .ensures) (c .before .before .before .before .before .before .before .before .before .before .before .before .before .if2 .left) _ (c .before .before .before .before .before .before .before .before .before .before .before .is-installing .ensures) _ (c .before .before .before .before .before .before .before .before .before .heartbeat-refusal .ensures) (c .before .before .before .before .before .before .before .before .if3 .left) (c .before .before .before .before .before .if4 .left) _ (c .before .before .before .count-items .ensures) (c .before .before .if5 .left)
+count-items-requires : tie.Need-count-items-requires
+count-items-requires c κs =
+    let g = c .before in
+    let e = g .before .before .before in
+    let l = e .before in
+    let w = l .before .before in
+    let r = w .before .before in
+    let y = r .before in
+    let q = y .before .before in
+    let fit = q .before in
+    let i = fit .before in
+    let a = i .before .before .before .before .before .before .args in
+    law.both-ready (a .node) (a .mem .now) (a .area .now) (a .peer .0) (a .ballot .0) (a .attached) (a .conf) (a .rows .now) (a .commit .0) (a .exec .0) (a .snap .0) _ (i .before .is-ready .ensures) (i .if1 .left) _ (fit .is-fitting .ensures) (q .if2 .left) .0
 
 same-length-6 : tie.Need-same-length-6
 same-length-6 c = search needs
 
+returns-6 : tie.Need-returns-6
+returns-6 c =
+    let k = c .before in
+    let g = k .before .before in
+    let e = g .before .before .before in
+    let l = e .before in
+    let w = l .before .before in
+    let r = w .before .before in
+    let y = r .before in
+    let q = y .before .before in
+    let fit = q .before in
+    let i = fit .before in
+    let a = i .before .before .before .before .before .before .args in
+    law.beat-20 (a .node) (a .mem .now) (a .area .now) (a .peer .0) (a .ballot .0) (a .attached) (a .conf) (a .rows .now) (a .commit .0) (a .exec .0) (a .snap .0) _ (i .before .is-ready .ensures) (i .if1 .left) _ (fit .is-fitting .ensures) (q .if2 .left) _ (y .early-refusal .ensures) (r .if3 .left) _ (w .is-installing .ensures) _ (l .lacks-slot .ensures) (e .if4 .left) (g .if5 .left) _ (k .count-items .ensures) (c .if6 .taken)
+
+heard-requires : tie.Need-heard-requires
+heard-requires c κs =
+    let h = c .before .before in
+    let k = h .before in
+    let g = k .before .before in
+    let e = g .before .before .before in
+    let l = e .before in
+    let w = l .before .before in
+    let r = w .before .before in
+    let y = r .before in
+    let q = y .before .before in
+    let fit = q .before in
+    let i = fit .before in
+    let a = i .before .before .before .before .before .before .args in
+    law.heard-room (a .node) (a .mem .now) (a .area .now) (a .peer .0) (a .ballot .0) (a .attached) (a .conf) (a .rows .now) (a .commit .0) (a .exec .0) (a .snap .0) _ (i .before .is-ready .ensures) (i .if1 .left) _ (fit .is-fitting .ensures) (q .if2 .left) _ (y .early-refusal .ensures) (r .if3 .left) _ (w .is-installing .ensures) _ (l .lacks-slot .ensures) (e .if4 .left) (g .if5 .left) _ (k .count-items .ensures) (h .if6 .left)
+
 same-length-7 : tie.Need-same-length-7
 same-length-7 c = search needs
 
-returns-6 : tie.Need-returns-6
-returns-6 c =
-    let a = c .before .before .before .before .before .before .before .before .before .before .before .before .before .before .before .before .before .before .before .before .before .before .before .before .before .before .args in
-    law.beat-taken (a .node) (a .mem .now) (a .area .now) (a .peer .0) (a .ballot .0) (a .attached) (a .conf) (a .rows .now) (a .commit .0) (a .exec .0) (a .snap .0) _ (c .before .before .before .before .before .before .before .before .before .before .before .before .before .before .before .before .before .before .before .before .before .is-ready .ensures) (c .before .before .before .before .before .before .before .before .before .before .before .before .before .before .before .before .before .before .before .before .if1 .left) _ (c .before .before .before .before .before .before .before .before .before .before .before .before .before .before .before .before .before .before .before .is-fitting .ensures) (c .before .before .before .before .before .before .before .before .before .before .before .before .before .before .before .before .before .before .if2 .left) _ (c .before .before .before .before .before .before .before .before .before .before .before .before .before .before .before .before .is-installing .ensures) _ (c .before .before .before .before .before .before .before .before .before .before .before .before .before .before .heartbeat-refusal .ensures) (c .before .before .before .before .before .before .before .before .before .before .before .before .before .if3 .left) (c .before .before .before .before .before .before .before .before .before .before .if4 .left) _ (c .before .before .before .before .before .before .before .before .count-items .ensures) (c .before .before .before .before .before .before .before .if5 .left) _ _ _ (c .before .before .before .before .heard .ensures)
+same-length-8 : tie.Need-same-length-8
+same-length-8 c = search needs
+
+returns-7 : tie.Need-returns-7
+returns-7 c =
+    let z = c .before .before .before .before in
+    let h = z .before .before .before in
+    let k = h .before in
+    let g = k .before .before in
+    let e = g .before .before .before in
+    let l = e .before in
+    let w = l .before .before in
+    let r = w .before .before in
+    let y = r .before in
+    let q = y .before .before in
+    let fit = q .before in
+    let i = fit .before in
+    let a = i .before .before .before .before .before .before .args in
+    law.beat-taken (a .node) (a .mem .now) (a .area .now) (a .peer .0) (a .ballot .0) (a .attached) (a .conf) (a .rows .now) (a .commit .0) (a .exec .0) (a .snap .0) _ (i .before .is-ready .ensures) (i .if1 .left) _ (fit .is-fitting .ensures) (q .if2 .left) _ (y .early-refusal .ensures) (r .if3 .left) _ (w .is-installing .ensures) _ (l .lacks-slot .ensures) (e .if4 .left) (g .if5 .left) _ (k .count-items .ensures) (h .if6 .left) _ _ _ (z .heard .ensures)
 
 pub heartbeat-spec : {M : Type 1} → statement M
-heartbeat-spec = tie.close (tie.spec is-ready-requires same-length returns is-fitting-requires same-length-2 returns-2 is-installing-requires heartbeat-refusal-requires same-length-3 returns-3 same-length-4 returns-4 count-items-requires same-length-5 returns-5 heard-requires same-length-6 same-length-7 returns-6)
+heartbeat-spec =
+    tie.close
+    (tie.spec
+    is-ready-requires
+    same-length
+    returns
+    is-fitting-requires
+    same-length-2
+    returns-2
+    early-refusal-requires
+    same-length-3
+    returns-3
+    is-installing-requires
+    lacks-slot-requires
+    same-length-4
+    returns-4
+    same-length-5
+    returns-5
+    count-items-requires
+    same-length-6
+    returns-6
+    heard-requires
+    same-length-7
+    same-length-8
+    returns-7)
