@@ -23,18 +23,18 @@ use Rattle.inst_cell.specs.declared.NoticeBook.{NoticeBook}
 use Rattle.inst_cell.specs.declared.ReplicaBk.{ReplicaBk}
 use Rattle.inst_cell.specs.declared.ReplicaBk.the-variants as replica
 use Rattle.accept_notices.specs.Book.{bookWith, fresh, Takes}
-use Rattle.insts.specs.Slots.{shortAt, batchAt, readsAt, bookOf as slotBook, instOf, instIn, instsOf, Puts}
+use Rattle.insts.specs.Slots.{shortAt, batchAt, readsAt, seenReads, bookOf as slotBook, instOf, instIn, instsOf, Puts}
 use Rattle.insts.proofs.Laws.{puts-then, short-after, here-is, moved, inst-at, length-insts}
 use Rattle.release_held_reads.specs.Release.{holdingOf, answersOf, emptied, Releases}
 use Rattle.release_held_reads.proofs.Laws.{length-answers}
 use Rattle.release_held_reads.proofs.Machine.{emptied-is}
-use Rattle.accept_notice_at.specs.Notices.{seenBy, noticedBook, withNotice, applies, quorate, noticedInst, noticedItems, padded, Noticed, noticedAt, after, Sets, Notes, NotesAt}
+use Rattle.accept_notice_at.specs.Notices.{noticedBook, withNotice, applies, quorate, noticedInst, noticedItems, padded, Noticed, noticedAt, after, Sets, Notes, NotesAt}
 
 -- ---- one book
 
 module _ (bk : ReplicaBk) (r : NoticeBook) (peer ballot : ℕ) where
   abbrev Noted : Type 0
-  Noted = (held : List machine.ReadReq) → bookWith r (seenBy (bookOf bk) held) ≡ noticedBook peer ballot (slotBook (bookOf bk) held)
+  Noted = (held : List machine.ReadReq) → bookWith r (seenReads (bookOf bk) held) ≡ noticedBook peer ballot (slotBook (bookOf bk) held)
 
   pub new-book : (b : NoticeBook) → bk ≡ replica.None → b ≡ fresh → Takes peer ballot b r → Noted
   new-book b e g f held = rw e (f [] ∙ ap (λ (k : NoticeBook). takeNotice peer ballot (bookWith k [])) g)
@@ -62,14 +62,6 @@ module _ (bal ballot : ℕ) (last : Bool) where
 
 pub puts-same : (s : List ℕ) (c : ℕ) → Puts s c (shortAt s c) (batchAt s c) (readsAt s c) s
 puts-same s c = record { short = refl; batch = refl; held = refl; others = λ d g f. record { short = refl; batch = refl; reads = refl }; size = refl }
-
-pub seen-none : (s t : List ℕ) (c : ℕ) (bk : ReplicaBk) → bk ≡ replica.None → Puts s c (shortAt s c) (batchAt s c) [] t
-    → Puts s c (shortAt s c) (batchAt s c) (seenBy (bookOf bk) (readsAt s c)) t
-seen-none s t c bk e p = rw e p
-
-pub seen-some : (s : List ℕ) (c : ℕ) (bk : ReplicaBk) (b : NoticeBook) → bk ≡ replica.Some b
-    → Puts s c (shortAt s c) (batchAt s c) (seenBy (bookOf bk) (readsAt s c)) s
-seen-some s c bk b e = rw e (puts-same s c)
 
 sets-by : {s t : List ℕ} {c : ℕ} {x : Short} {a : List machine.Request} {l : List machine.ReadReq} (i : machine.Instance) → Puts s c x a l t → instOf x a l ≡ i → Sets s c i t
 sets-by i p e =
@@ -110,20 +102,22 @@ module _ (s : List ℕ) (c : ℕ) (cell : Cell) (e : cellOf cell ≡ shortAt s c
   noted = withNotice peer ballot here
 
   module _ (book : NoticeBook)
-      (b : (held : List machine.ReadReq) → bookWith book (seenBy (bookOf (cell .«replica_bk»)) held) ≡ noticedBook peer ballot (slotBook (bookOf (cell .«replica_bk»)) held)) where
+      (b : (held : List machine.ReadReq) → bookWith book (seenReads (bookOf (cell .«replica_bk»)) held) ≡ noticedBook peer ballot (slotBook (bookOf (cell .«replica_bk»)) held)) where
     -- the book that takes the notice
-    book-is : bookWith book (seenBy (bookOf (cell .«replica_bk»)) (readsAt s c)) ≡ noticedBook peer ballot (here .replicaBk)
+    book-is : bookWith book (seenReads (bookOf (cell .«replica_bk»)) (readsAt s c)) ≡ noticedBook peer ballot (here .replicaBk)
     unfolding instIn
     book-is = b (readsAt s c) ∙ ap (λ (x : Short). noticedBook peer ballot (slotBook (x .replicaBk) (readsAt s c))) e
 
     abbrev next : Cell
     next = record { bal = cell .bal; status = cell .status; «leader_bk» = cell .«leader_bk»; «replica_bk» = replica.Some book }
 
-    pub notice-put : (s₁ t : List ℕ) → Puts s c (shortAt s c) (batchAt s c) (seenBy (bookOf (cell .«replica_bk»)) (readsAt s c)) s₁
+    pub notice-put : (s₁ t : List ℕ) → Puts s c (shortAt s c) (batchAt s c) (seenReads (shortAt s c .replicaBk) (readsAt s c)) s₁
         → Puts s₁ c (cellOf next) (batchAt s₁ c) (readsAt s₁ c) t → Sets s c noted t
     unfolding instIn
     notice-put s₁ t p q =
-        sets-by noted (short-after p q)
+        let k : seenReads (shortAt s c .replicaBk) (readsAt s c) ≡ seenReads (bookOf (cell .«replica_bk»)) (readsAt s c) =
+        ap (λ (x : Short). seenReads (x .replicaBk) (readsAt s c)) (sym e) in
+        sets-by noted (short-after (rw k at p) q)
         (ap (λ (k : machine.Book). record { bal = cell .bal .0; status = statusOf (cell .status); reqs = batchAt s c; leaderBk = acksOf (cell .«leader_bk»); replicaBk = some k }) book-is
         ∙ ap (λ (x : Short). record { bal = x .bal; status = x .status; reqs = batchAt s c; leaderBk = x .leaderBk; replicaBk = some (noticedBook peer ballot (here .replicaBk)) }) e)
 
@@ -161,7 +155,7 @@ module _ (s : List ℕ) (c : ℕ) (cell : Cell) (e : cellOf cell ≡ shortAt s c
     module _ (h : not t ≡ false) where
       -- the number of items, before the notice is taken
       module _ (book : NoticeBook)
-          (b : (held : List machine.ReadReq) → bookWith book (seenBy (bookOf (cell .«replica_bk»)) held) ≡ noticedBook peer ballot (slotBook (bookOf (cell .«replica_bk»)) held))
+          (b : (held : List machine.ReadReq) → bookWith book (seenReads (bookOf (cell .«replica_bk»)) held) ≡ noticedBook peer ballot (slotBook (bookOf (cell .«replica_bk»)) held))
           (u : Bool) (g : u ≡ (ifNone bookOf (replica.Some book) then false else λ x. leb quorum (count (x .notices)))) where
         pub due-open : not u ≡ true → 0 ≡ length items
         due-open k = rw (is-for, h, quorum-of book b quorum u g, not-true u k)

@@ -10,17 +10,12 @@ use Rattle.words.specs.Choice.{if_then_else_, ifNone_then_else_}
 use Rattle.words.specs.Writes.{writes}
 use Rattle.bitmap.specs.Bitmap.{count}
 use Rattle.items.specs.Item.{Item, encode}
-use Rattle.bodega.specs.Replica.{ReadReq, Book, newBook, Instance, nullInstance, withReplicaBk}
+use Rattle.bodega.specs.Replica.{Book, newBook, Instance, nullInstance, withReplicaBk}
 use Rattle.bodega.specs.Messages.{takeNotice}
-use Rattle.inst_cell.specs.Cell.{Notices}
 use Rattle.insts.specs.Slots.{shortAt, batchAt, readsAt, instIn, instsOf, Puts}
 use Rattle.release_held_reads.specs.Release.{answersOf, emptied}
 
 -- ---- one instance
-
--- reads are held where there is a book
-abbrev pub seenBy : Option Notices → List ReadReq → List ReadReq
-seenBy o held = ifNone o then [] else λ b. held
 
 -- the instance's book takes the notice, a new book where there is none
 abbrev pub noticedBook : ℕ → ℕ → Option Book → Book

@@ -20,12 +20,12 @@ ghost use Rattle.items.specs.Item.{places};
 ghost use Rattle.bodega.specs.Replica.{ReadReq};
 ghost use Rattle.inst_cell.specs.Cell.{bookOf};
 ghost use Rattle.accept_notices.specs.Book.{bookWith};
-ghost use Rattle.insts.specs.Slots.{shortAt, batchAt, readsAt, bookOf as slotBook, instIn, instsOf, Puts};
-ghost use Rattle.accept_notice_at.specs.Notices.{seenBy, noticedBook, applies, withNotice, noticedItems, noticedAt, after, Sets, Notes, NotesAt};
+ghost use Rattle.insts.specs.Slots.{seenReads, bookOf as slotBook, instIn, instsOf};
+ghost use Rattle.accept_notice_at.specs.Notices.{noticedBook, applies, withNotice, noticedItems, noticedAt, after, Sets, Notes, NotesAt};
 
 // A slot's book takes a notice, a new one where there is none.
 fn noticed_book(book: ReplicaBk, peer: Replica, ballot: Ballot) -> NoticeBook
-    ensures { λ r. ⌜ ((held : List ReadReq) → bookWith r (seenBy (bookOf book) held) ≡ noticedBook (peer .0) (ballot .0) (slotBook (bookOf book) held)) ⌝ }
+    ensures { λ r. ⌜ ((held : List ReadReq) → bookWith r (seenReads (bookOf book) held) ≡ noticedBook (peer .0) (ballot .0) (slotBook (bookOf book) held)) ⌝ }
 {
     let ReplicaBk::Some(b) = book else {
         let fresh = accept_notices::fresh();
@@ -47,17 +47,6 @@ fn is_for(bal: Ballot, ballot: Ballot, last: bool) -> bool
     last
 }
 
-// Reads that stand at place c without a notice book are none of the slot's.
-fn clear_unseen(s: &mut [u64], c: usize, book: ReplicaBk)
-    requires { ⌜ (c < slotPlaces) × (slotWords ≤ length (now s)) ⌝ }
-    ensures { λ _. ⌜ Puts (now (s .entry)) c (shortAt (now (s .entry)) c) (batchAt (now (s .entry)) c) (seenBy (bookOf book) (readsAt (now (s .entry)) c)) (now (s .exit)) ⌝ }
-{
-    let ReplicaBk::Some(_b) = book else {
-        insts::clear_reads(s, c);
-        return;
-    };
-}
-
 // The slot at place c with the notice.
 fn put_notice(s: &mut [u64], c: usize, peer: Replica, ballot: Ballot)
     requires { ⌜ (c < slotPlaces) × (slotWords ≤ length (now s)) ⌝ }
@@ -66,7 +55,7 @@ fn put_notice(s: &mut [u64], c: usize, peer: Replica, ballot: Ballot)
     let cell = insts::load(s, c);
     let old = cell.replica_bk;
     let book = noticed_book(old, peer, ballot);
-    clear_unseen(s, c, old);
+    insts::clear_unseen(s, c);
     let bal = cell.bal;
     let status = cell.status;
     let leader_bk = cell.leader_bk;

@@ -5,28 +5,12 @@ use inst_cell::Status;
 use items::Item;
 ghost use mathlib.Core.Path.{_≡_};
 ghost use Prim.Native.Nat.{_+_, _-_, _≤_, _<_, min};
-ghost use lib.Dec.{ltb};
 ghost use lib.ListN.{length};
 ghost use Rattle.ids.specs.Limits.{top};
 ghost use Rattle.layout.specs.Layout.{slotPlaces, slotWords};
 ghost use Rattle.items.specs.Item.{places};
-ghost use Rattle.bodega.specs.Replica.{order};
-ghost use Rattle.inst_cell.specs.Cell.{statusOf};
 ghost use Rattle.insts.specs.Slots.{instIn};
 ghost use Rattle.advance_commit_bar.specs.Walk.{stopsAt, oneIfOpen, Marks, walked, Advances};
-
-// `status < Accepting`.
-fn is_below_accepting(status: Status) -> bool
-    ensures { λ r. ⌜ r ≡ ltb (order (statusOf status)) 2 ⌝ }
-{
-    match status {
-        Status::Null => true,
-        Status::Preparing => true,
-        Status::Accepting => false,
-        Status::Committed => false,
-        Status::Executed => false,
-    }
-}
 
 // Whether the walk ends before the slot at place c.
 fn stops(s: &[u64], c: usize, ballot: Ballot) -> bool
@@ -38,7 +22,7 @@ fn stops(s: &[u64], c: usize, ballot: Ballot) -> bool
         return true;
     }
     let status = cell.status;
-    is_below_accepting(status)
+    inst_cell::is_below_accepting(status)
 }
 
 // How many items an open slot gives.

@@ -1,6 +1,5 @@
 // The call *notice*: a peer has accepted a slot. One of a higher ballot makes the replica give up its roles.
 use ids::Ballot;
-use ids::Leader;
 use ids::Replica;
 use ids::Slot;
 use items::Item;
@@ -24,13 +23,13 @@ ghost use Rattle.node.specs.View.{view, ready, givenOf, leadsIt};
 ghost use Rattle.call_notice.specs.Notice.{noticeRefusal, stepDown, StepsDown};
 
 // Whether a notice is of the ballot of a replica that does not lead.
-fn is_current(leader: Leader, id: Replica, seen: Ballot, ballot: Ballot) -> bool
-    ensures { λ r. ⌜ r ≡ not (leadsIt (leaderOf leader) (id .0)) && eqb (ballot .0) (seen .0) ⌝ }
+fn is_current(node: Node, ballot: Ballot) -> bool
+    ensures { λ r. ⌜ r ≡ not (leadsIt (leaderOf (node .«bodega_conf» .leader)) (node .id .0)) && eqb (ballot .0) (node .«bal_max_seen» .0) ⌝ }
 {
-    if node::leads(leader, id) {
+    if node::is_leader(node) {
         return false;
     }
-    ballot.0 == seen.0
+    ballot.0 == node.bal_max_seen.0
 }
 
 // The number of a notice's refusal but 20, 0 where there is none.
@@ -106,7 +105,7 @@ pub fn notice(
     let id = node.id;
     let seen = node.bal_max_seen;
     let start = node.start_slot;
-    let current = is_current(leader, id, seen, ballot);
+    let current = is_current(node, ballot);
     let refusal = notice_refusal(node.population, current, start, peer, slot);
     if refusal != 0 {
         return Answered {
@@ -123,7 +122,7 @@ pub fn notice(
         };
     }
     if seen.0 < ballot.0 {
-        let led = node::leads(leader, id);
+        let led = node::is_leader(node);
         if !put_lead(area, led) {
             return Answered {
                 number: 20,

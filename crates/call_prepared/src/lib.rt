@@ -1,7 +1,5 @@
 // The call *prepared*: the ballot is prepared.
 use ids::Ballot;
-use ids::Leader;
-use ids::Replica;
 use node::Answered;
 use node::Node;
 ghost use mathlib.Core.Path.{_≡_};
@@ -11,10 +9,11 @@ ghost use Rattle.bodega.specs.Answers.{Answers};
 ghost use Rattle.node.specs.View.{view, ready, givenOf};
 ghost use Rattle.call_prepared.specs.Prepared.{mayPrepare};
 
-fn may_prepare(leader: Leader, id: Replica, sent: Ballot, ballot: Ballot) -> bool
-    ensures { λ r. ⌜ r ≡ mayPrepare (leaderOf leader) (id .0) (sent .0) (ballot .0) ⌝ }
+fn may_prepare(node: Node, ballot: Ballot) -> bool
+    ensures { λ r. ⌜ r ≡ mayPrepare (leaderOf (node .«bodega_conf» .leader)) (node .id .0) (node .«bal_prep_sent» .0) (ballot .0) ⌝ }
 {
-    if !node::leads(leader, id) {
+    let sent = node.bal_prep_sent;
+    if !node::is_leader(node) {
         return false;
     }
     if ballot.0 == 0 {
@@ -33,11 +32,7 @@ pub fn prepared(node: Node, mem: &[u64], area: &[u64], ballot: Ballot) -> Answer
             node,
         };
     }
-    let conf = node.bodega_conf;
-    let leader = conf.leader;
-    let id = node.id;
-    let sent = node.bal_prep_sent;
-    if !may_prepare(leader, id, sent, ballot) {
+    if !may_prepare(node, ballot) {
         return Answered {
             number: 13,
             count: 0,

@@ -14,7 +14,7 @@ use Rattle.ids.specs.Leader.{leaderOf}
 use Rattle.ids.specs.Limits.{keys, window, batch}
 use Rattle.layout.specs.Layout.{cellRow, slotPlaces, batchWords, slotWords, writtenWords, slotsAt, writtenAt, nodeWords}
 use Rattle.roster_conf.specs.Edits.{view as rosterOf}
-use Rattle.inst_cell.specs.Cell.{Notices, Short, cellAt, hasBook, bookOf as noticesOf}
+use Rattle.inst_cell.specs.Cell.{Notices, Short, bookOf as noticesOf}
 use Rattle.inst_cell.specs.declared.NoticeBook.{NoticeBook}
 use Rattle.accept_notices.specs.Book.{fresh}
 use Rattle.inst_cell.specs.declared.ReplicaBk.{ReplicaBk}
@@ -29,14 +29,14 @@ use Rattle.bodega.specs.Step.{effect}
 use Rattle.bodega.specs.Answers.{Answers}
 use Rattle.req_batch.specs.Given.{given, anyLong}
 use Rattle.highest_slot_refresh.specs.Refresh.{Refreshes}
-use Rattle.insts.specs.Slots.{shortAt, batchAt, readsAt, bookOf, instOf, instIn, instsOf, Puts}
+use Rattle.insts.specs.Slots.{shortAt, batchAt, readsAt, seenReads, bookOf, instOf, instIn, instsOf, Puts}
 use Rattle.insts.proofs.Laws.{batch-after, short-after, moved, inst-at, inst-none, length-insts}
 use Rattle.node.specs.declared.Node.{Node}
 use Rattle.node.specs.declared.Answered.{Answered}
 use Rattle.node.specs.View.{view, ready, givenOf, lowest, leadsIt}
 use Rattle.node.proofs.Calls.{Ready, is-ready, made-ready, gives-2, refused-by, taken-by}
 use Rattle.node.proofs.Frames.{slots-back, slots-size, slots-beyond, written-back, written-size, written-beyond}
-use Rattle.call_record.specs.Records.{batchRefusal, slotRefusal, lateRefusal, ended, freshAcks, keptBook, acceptingShort, seenReads, Pads, acceptingBy, Records, Recorded}
+use Rattle.call_record.specs.Records.{batchRefusal, slotRefusal, lateRefusal, ended, freshAcks, keptBook, acceptingShort, Pads, acceptingBy, Records, Recorded}
 
 -- ---- 5, 8, 9, and the others after them
 
@@ -186,43 +186,12 @@ padded-to start n k s h g e = record { insts = e .0; size = e .1; within = omega
 
 -- ---- the slot's place
 
-seen-some : (o : Option Notices) (l : List ReadReq) → (ifNone o then false else λ b. true) ≡ true → seenReads o l ≡ l
-seen-some none l e = let z : _≡_ {A = ℕ} 0 1 = cc in absurd (omega arith)
-seen-some (some b) l e = refl
-
-seen-none : (o : Option Notices) (l : List ReadReq) → (ifNone o then false else λ b. true) ≡ false → seenReads o l ≡ []
-seen-none none l e = refl
-seen-none (some b) l e = let z : _≡_ {A = ℕ} 0 1 = cc in absurd (omega arith)
-
 module _ (leader : Bool) (o : ReplicaBk) (f : leader ≡ false) where
   pub new-book : (b : NoticeBook) → o ≡ None → b ≡ fresh → some (record { bal = b .bal .0; notices = b .notices }) ≡ keptBook leader (noticesOf o)
   new-book b e g = rw g (sym (rw (f, e)))
 
   pub old-book : (b : NoticeBook) → o ≡ Some b → some (record { bal = b .bal .0; notices = b .notices }) ≡ keptBook leader (noticesOf o)
   old-book b e = sym (rw (f, e))
-
-module _ (s : List ℕ) (c : ℕ) (t : Bool) (e : t ≡ hasBook (cellAt s (c * cellRow))) where
-  pub book-there : t ≡ true → Puts s c (shortAt s c) (batchAt s c) (seenReads (shortAt s c .replicaBk) (readsAt s c)) s
-  unfolding shortAt
-  book-there f =
-      record {
-        short = refl;
-        batch = refl;
-        held = sym (seen-some (cellAt s (c * cellRow) .replicaBk) (readsAt s c) (sym e ∙ f));
-        others = λ d g h. record { short = refl; batch = refl; reads = refl };
-        size = refl;
-      }
-
-  pub no-book : {u : List ℕ} → t ≡ false → Puts s c (shortAt s c) (batchAt s c) [] u → Puts s c (shortAt s c) (batchAt s c) (seenReads (shortAt s c .replicaBk) (readsAt s c)) u
-  unfolding shortAt
-  no-book f p =
-      record {
-        short = p .short;
-        batch = p .batch;
-        held = p .held ∙ sym (seen-none (cellAt s (c * cellRow) .replicaBk) (readsAt s c) (sym e ∙ f));
-        others = p .others;
-        size = p .size;
-      }
 
 abbrev shortWith : ℕ → Option ℕ → Option Notices → Short
 shortWith ballot a b = record { bal = ballot; status = Accepting; leaderBk = a; replicaBk = b }

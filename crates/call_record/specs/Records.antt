@@ -12,7 +12,7 @@ use Rattle.ids.specs.Limits.{window, batch, keys}
 use Rattle.ids.specs.Leader.{leaderOf}
 use Rattle.layout.specs.Layout.{slotPlaces, slotWords, writtenWords, slotsAt, writtenAt, nodeWords}
 use Rattle.roster_conf.specs.Ground.{Ground, _when_or_}
-use Rattle.bodega.specs.Replica.{Request, ReadReq, Instance, Accepting, newBook, nullInstance, isOpen}
+use Rattle.bodega.specs.Replica.{Request, Instance, Accepting, newBook, nullInstance, isOpen}
 use Rattle.bodega.specs.Localread.{refreshHighestSlot}
 use Rattle.bodega.specs.Events.{recorded}
 use Rattle.bodega.specs.Grounds.{far}
@@ -68,10 +68,6 @@ keptBook leader o = if leader then o else ifNone o then some (record { bal = 0; 
 
 abbrev pub acceptingShort : Bool → ℕ → Option Notices → Short
 acceptingShort leader ballot o = record { bal = ballot; status = Accepting; leaderBk = freshAcks leader; replicaBk = keptBook leader o }
-
--- reads that no notice book has are no reads
-abbrev pub seenReads : Option Notices → List ReadReq → List ReadReq
-seenReads o l = ifNone o then [] else λ b. l
 
 -- ---- the slots
 

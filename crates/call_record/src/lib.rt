@@ -7,8 +7,8 @@ use inst_cell::ReplicaBk;
 use inst_cell::Status;
 use node::Answered;
 use node::Node;
+use node::is_leader;
 use node::is_ready;
-use node::leads;
 ghost use mathlib.Core.Path.{_≡_};
 ghost use mathlib.Core.Bool.{true};
 ghost use Prim.Native.Nat.{_+_, _≤_, _<_};
@@ -21,9 +21,9 @@ ghost use Rattle.bodega.specs.Answers.{Answers};
 ghost use Rattle.inst_cell.specs.Cell.{bookOf, acksOf};
 ghost use Rattle.inst_reqs.specs.Batch.{requestsOf};
 ghost use Rattle.req_batch.specs.Given.{given};
-ghost use Rattle.insts.specs.Slots.{shortAt, batchAt, readsAt, instsOf, Puts};
+ghost use Rattle.insts.specs.Slots.{shortAt, readsAt, seenReads, instsOf, Puts};
 ghost use Rattle.node.specs.View.{view, ready, givenOf};
-ghost use Rattle.call_record.specs.Records.{freshAcks, batchRefusal, slotRefusal, lateRefusal, ended, keptBook, acceptingShort, seenReads, Pads, Records, Recorded};
+ghost use Rattle.call_record.specs.Records.{freshAcks, batchRefusal, slotRefusal, lateRefusal, ended, keptBook, acceptingShort, Pads, Records, Recorded};
 
 // 5, 8, 9: the number of the refusal that the batch and the slot's number meet, 0 where there is none.
 fn batch_refusal(rows: &[u64], text: &[u8], slot: Slot) -> u64
@@ -110,17 +110,6 @@ fn padded(s: &mut [u64], start: Slot, n: usize, k: usize) -> usize
     to
 }
 
-// No reads wait where there is no notice book.
-fn clear_unseen(s: &mut [u64], c: usize)
-    requires { ⌜ (c < slotPlaces) × (slotWords ≤ length (now s)) ⌝ }
-    ensures { λ _. ⌜ Puts (now (s .entry)) c (shortAt (now (s .entry)) c) (batchAt (now (s .entry)) c) (seenReads (shortAt (now (s .entry)) c .replicaBk) (readsAt (now (s .entry)) c)) (now (s .exit)) ⌝ }
-{
-    if inst_cell::has_book(s, c) {
-        return;
-    }
-    insts::clear_reads(s, c);
-}
-
 // Fresh empty acks for a leader.
 fn fresh_acks(leader: bool) -> LeaderBk
     ensures { λ r. ⌜ acksOf r ≡ freshAcks leader ⌝ }
@@ -149,7 +138,7 @@ fn accept_at(s: &mut [u64], c: usize, ballot: Ballot, leader: bool, words: &[u64
     requires { ⌜ (c < slotPlaces) × (slotWords ≤ length (now s)) × (length (now words) ≡ batchWords) ⌝ }
     ensures { λ _. ⌜ Puts (now (s .entry)) c (acceptingShort leader (ballot .0) (shortAt (now (s .entry)) c .replicaBk)) (requestsOf (now (words .entry))) (seenReads (shortAt (now (s .entry)) c .replicaBk) (readsAt (now (s .entry)) c)) (now (s .exit)) ⌝ }
 {
-    clear_unseen(s, c);
+    insts::clear_unseen(s, c);
     insts::put_batch(s, c, words);
     let old = insts::load(s, c);
     let book = old.replica_bk;
@@ -200,9 +189,7 @@ fn late_refusal(node: Node, mem: &[u64], slot: Slot, ballot: Ballot, words: &[u6
     requires { ⌜ (ready node (now mem) ≡ true) × (length (now words) ≡ batchWords) ⌝ }
     ensures { λ r. ⌜ r ≡ lateRefusal node (now (mem .entry)) (slot .0) (ballot .0) (requestsOf (now (words .entry))) ⌝ }
 {
-    let conf = node.bodega_conf;
-    let chosen = conf.leader;
-    let leader = leads(chosen, node.id);
+    let leader = is_leader(node);
     let bal = current(leader, node.bal_prepared, node.bal_max_seen);
     let full = highest_slot_refresh::overflows(&mem[layout::WRITTEN_AT..layout::NODE_WORDS], words);
     slot_refusal(
@@ -221,9 +208,7 @@ fn recorded(node: Node, mem: &mut [u64], slot: Slot, ballot: Ballot, words: &[u6
     requires { ⌜ (ready node (now mem) ≡ true) × (lateRefusal node (now mem) (slot .0) (ballot .0) (requestsOf (now words)) ≡ 0) × (length (now words) ≡ batchWords) ⌝ }
     ensures { λ r. ⌜ Recorded (slot .0) (ballot .0) (requestsOf (now (words .entry))) node (now (mem .entry)) r (now (mem .exit)) ⌝ }
 {
-    let conf = node.bodega_conf;
-    let chosen = conf.leader;
-    let leader = leads(chosen, node.id);
+    let leader = is_leader(node);
     highest_slot_refresh::refresh(
         &mut mem[layout::WRITTEN_AT..layout::NODE_WORDS],
         words,

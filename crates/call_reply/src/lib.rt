@@ -1,6 +1,5 @@
 // The call *reply*: a peer's accept reply. Accepts that the peer seems to have missed are sent again, its ack is taken, and a slot whose acks suffice commits.
 use ids::Ballot;
-use ids::Leader;
 use ids::Replica;
 use ids::Slot;
 use inst_cell::Cell;
@@ -334,23 +333,18 @@ fn reply_refusal(
 }
 
 // Whether anything is done: the slot is not below start, the ballot is the one waited on, and the replica leads.
-fn awaits(
-    leader: Leader,
-    id: Replica,
-    start: Slot,
-    prepared: Ballot,
-    slot: Slot,
-    ballot: Ballot,
-) -> bool
-    ensures { λ r. ⌜ r ≡ awaited (leaderOf leader) (id .0) (start .0) (prepared .0) (slot .0) (ballot .0) ⌝ }
+fn awaits(node: Node, slot: Slot, ballot: Ballot) -> bool
+    ensures { λ r. ⌜ r ≡ awaited (leaderOf (node .«bodega_conf» .leader)) (node .id .0) (node .«start_slot» .0) (node .«bal_prepared» .0) (slot .0) (ballot .0) ⌝ }
 {
+    let start = node.start_slot;
+    let prepared = node.bal_prepared;
     if slot.0 < start.0 {
         return false;
     }
     if ballot.0 != prepared.0 {
         return false;
     }
-    node::leads(leader, id)
+    node::is_leader(node)
 }
 
 // How many slots from the commit bar on are looked at for Accepts to send again.
@@ -434,8 +428,7 @@ pub fn reply(
         };
     }
     let conf = node.bodega_conf;
-    let leader = conf.leader;
-    if !awaits(leader, node.id, start, prepared, slot, ballot) {
+    if !awaits(node, slot, ballot) {
         return Answered {
             number: 0,
             count: 0,

@@ -2,6 +2,9 @@ use Rattle.bodega.specs.Replica.{Notice}
 use native.Mathlib.Omega.{arith}
 use Rattle.node.proofs.Calls.{gives-2, is-ready}
 use Rattle.call_notice.proofs.Laws as law
+use mathlib.Core.List.{[]}
+use Rattle.roster_conf.specs.Edits.{view as rosterOf}
+use Rattle.node.specs.View.{view}
 use borrow.Author.Needs.{needs}
 use Rattle.call_notice.proofs.notice.Statement.{statement}
 use Rattle.call_notice.proofs.notice.Tie as tie
@@ -43,8 +46,8 @@ returns-3 c =
     let a = g .before .before .before .before .before .before .before .before .before .before .before .args in
     law.below-start (a .node) (a .mem .now) (a .area .now) (a .peer .0) (a .slot .0) (a .ballot) _ (g .before .before .before .before .before .before .before .is-ready .ensures) (g .before .before .before .before .before .before .if1 .left) _ (g .before .is-current .ensures) _ (g .notice-refusal .ensures) (c .before .before .before .if2 .left) (c .if3 .taken)
 
-leads-requires : tie.Need-leads-requires
-leads-requires c κs = search needs
+is-leader-requires : tie.Need-is-leader-requires
+is-leader-requires c κs = search needs
 
 put-lead-requires : tie.Need-put-lead-requires
 put-lead-requires c κs = search needs
@@ -56,10 +59,11 @@ same-length-5 : tie.Need-same-length-5
 same-length-5 c = search needs
 
 returns-4 : tie.Need-returns-4
+unfolding view rosterOf
 returns-4 c =
     let g = c .before .before .before .before .before .before .before .before .before .before .before .before .before in
     let a = g .before .before .before .before .before .before .before .before .before .before .before .args in
-    law.higher-20 (a .node) (a .mem .now) (a .area .now) (a .peer .0) (a .slot .0) (a .ballot) _ (g .before .before .before .before .before .before .before .is-ready .ensures) (g .before .before .before .before .before .before .if1 .left) _ (g .before .is-current .ensures) _ (g .notice-refusal .ensures) (c .before .before .before .before .before .before .before .before .before .before .before .before .if2 .left) (c .before .before .before .before .before .before .before .before .before .if3 .left) (c .before .before .before .before .before .before .if4 .taken) _ (c .before .before .before .before .before .leads .ensures) _ _ (c .before .before .before .put-lead .ensures) (c .if5 .taken)
+    law.higher-20 (a .node) (a .mem .now) (a .area .now) (a .peer .0) (a .slot .0) (a .ballot) _ (g .before .before .before .before .before .before .before .is-ready .ensures) (g .before .before .before .before .before .before .if1 .left) _ (g .before .is-current .ensures) _ (g .notice-refusal .ensures) (c .before .before .before .before .before .before .before .before .before .before .before .before .if2 .left) (c .before .before .before .before .before .before .before .before .before .if3 .left) (c .before .before .before .before .before .before .if4 .taken) _ (c .before .before .before .before .before .is-leader .ensures []) _ _ (c .before .before .before .put-lead .ensures) (c .if5 .taken)
 
 sub-filtered : tie.Need-sub-filtered
 sub-filtered c = search needs
@@ -90,10 +94,11 @@ same-length-7 : tie.Need-same-length-7
 same-length-7 c = search needs
 
 returns-5 : tie.Need-returns-5
+unfolding view rosterOf
 returns-5 c =
     let g = c .before .before .before .before .before .before .before .before .before .before .before .before .before .before .before .before .before .before in
     let a = g .before .before .before .before .before .before .before .before .before .before .before .args in
-    law.higher-taken (a .node) (a .mem .now) (a .area .now) (a .peer .0) (a .slot .0) (a .ballot) _ (g .before .before .before .before .before .before .before .is-ready .ensures) (g .before .before .before .before .before .before .if1 .left) _ (g .before .is-current .ensures) _ (g .notice-refusal .ensures) (c .before .before .before .before .before .before .before .before .before .before .before .before .before .before .before .before .before .if2 .left) (c .before .before .before .before .before .before .before .before .before .before .before .before .before .before .if3 .left) (c .before .before .before .before .before .before .before .before .before .before .before .if4 .taken) _ (c .before .before .before .before .before .before .before .before .before .before .leads .ensures) _ _ (c .before .before .before .before .before .before .before .before .put-lead .ensures) (c .before .before .before .before .before .if5 .left) _ _ (c .before .before .before .filtered .ensures) _ (c .lead-count .ensures)
+    law.higher-taken (a .node) (a .mem .now) (a .area .now) (a .peer .0) (a .slot .0) (a .ballot) _ (g .before .before .before .before .before .before .before .is-ready .ensures) (g .before .before .before .before .before .before .if1 .left) _ (g .before .is-current .ensures) _ (g .notice-refusal .ensures) (c .before .before .before .before .before .before .before .before .before .before .before .before .before .before .before .before .before .if2 .left) (c .before .before .before .before .before .before .before .before .before .before .before .before .before .before .if3 .left) (c .before .before .before .before .before .before .before .before .before .before .before .if4 .taken) _ (c .before .before .before .before .before .before .before .before .before .before .is-leader .ensures []) _ _ (c .before .before .before .before .before .before .before .before .put-lead .ensures) (c .before .before .before .before .before .if5 .left) _ _ (c .before .before .before .filtered .ensures) _ (c .lead-count .ensures)
 
 same-length-8 : tie.Need-same-length-8
 same-length-8 c = search needs
@@ -180,7 +185,7 @@ notice-spec =
     returns-2
     same-length-3
     returns-3
-    leads-requires
+    is-leader-requires
     put-lead-requires
     same-length-4
     same-length-5

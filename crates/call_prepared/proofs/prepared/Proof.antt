@@ -21,14 +21,14 @@ may-prepare-requires c κs = search needs
 
 returns-2 : tie.Need-returns-2
 returns-2 c =
-    let b = c .before .before .before .before .before in
+    let b = c .before .before in
     let a = b .before .before .before .before .args in
     law.prepared-13 (a .node) (a .mem .now) (a .area .now) (a .ballot .0) _ _ (b .before .is-ready .ensures) (b .if1 .left) (c .before .may-prepare .ensures) (c .if2 .taken)
 
 returns-3 : tie.Need-returns-3
 unfolding view prepared ready
 returns-3 c =
-    let b = c .before .before .before .before .before in
+    let b = c .before .before in
     let a = b .before .before .before .before .args in
     law.prepared-taken (a .node) (a .mem .now) (a .area .now) (a .ballot .0) _ _ (b .before .is-ready .ensures) (b .if1 .left) (c .before .may-prepare .ensures) _ (c .if2 .left) refl refl
 
