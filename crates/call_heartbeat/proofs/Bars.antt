@@ -6,6 +6,7 @@ use Prim.Native.Nat.{ℕ, _+_, _-_, _*_, _≤_, _<_}
 use native.Mathlib.Omega.{arith}
 use lib.ListN.{length, take, drop}
 use borrow.Author.Tests.{lt-ltb, le-ltb}
+use Rattle.layout.specs.Layout.{slotsAt, slotWords, execsAt, replicaPlaces, nodeWords}
 use Rattle.words.specs.Choice.{if_then_else_}
 use Rattle.words.specs.Tab.{run}
 use Rattle.words.specs.Part.{part, splice, length-part, part-before}
@@ -49,7 +50,7 @@ snapped n s =
 
 module _ (n : Node) (m : List ℕ) (y : ready n m ≡ true) (ballot commit exec : ℕ) where
   abbrev words : List ℕ
-  words = take 7744 (drop 512 m)
+  words = take slotWords (drop slotsAt m)
 
   abbrev items : List Item
   items = walked (n .«start_slot» .0) (n .slots) (n .«commit_bar» .0) ballot commit words .items
@@ -57,11 +58,11 @@ module _ (n : Node) (m : List ℕ) (y : ready n m ≡ true) (ballot commit exec 
   r : Ready n m
   r = readied n m y
 
-  words-long : length words ≡ 7744
+  words-long : length words ≡ slotWords
   unfolding part
-  words-long = length-part m 512 7744 (omega (arith, r .long))
+  words-long = length-part m slotsAt slotWords (omega (arith, r .long))
 
-  pub asked : (n .«start_slot» .0 ≤ n .«commit_bar» .0) × (n .«commit_bar» .0 ≤ n .«start_slot» .0 + n .slots) × (n .«start_slot» .0 ≤ 281474976710655) × (n .slots ≤ 32) × (7744 ≤ length words)
+  pub asked : (n .«start_slot» .0 ≤ n .«commit_bar» .0) × (n .«commit_bar» .0 ≤ n .«start_slot» .0 + n .slots) × (n .«start_slot» .0 ≤ 281474976710655) × (n .slots ≤ 32) × (slotWords ≤ length words)
   asked = let a = r .start-exec in let b = r .exec-commit in (omega arith, r .commit-end, r .start-low, r .window, omega (arith, words-long))
 
   low-is : (peer snap : ℕ) → exec < n .«exec_bar» .0 → heardBars peer ballot commit exec snap (view n m) ≡ machine.done (view n m) []
@@ -95,25 +96,25 @@ module _ (n : Node) (m : List ℕ) (y : ready n m ≡ true) (ballot commit exec 
         rw e (record { number = refl; count = refl; next = refl; items = refl; size = refl; beyond = λ j l. refl; readyAgain = y })
 
     module _ (h : n .«exec_bar» .0 ≤ exec) (o : place + length (due .items) ≤ places area) where
-      pub room : (n .«start_slot» .0 ≤ n .«commit_bar» .0) × (n .«commit_bar» .0 ≤ n .«start_slot» .0 + n .slots) × (n .«start_slot» .0 ≤ 281474976710655) × (n .slots ≤ 32) × (7744 ≤ length words) × (place + length items ≤ places area)
+      pub room : (n .«start_slot» .0 ≤ n .«commit_bar» .0) × (n .«commit_bar» .0 ≤ n .«start_slot» .0 + n .slots) × (n .«start_slot» .0 ≤ 281474976710655) × (n .slots ≤ 32) × (slotWords ≤ length words) × (place + length items ≤ places area)
       room = let a = asked in (a .0, a .1, a .2, a .3, a .4, rw (← (items-are h peer snap)) o)
 
       module _ (end : ℕ) (s′ area′ : List ℕ) (a : Advances place (n .«start_slot» .0) (n .slots) (n .«commit_bar» .0) ballot commit words area end s′ area′) where
         abbrev m₁ : List ℕ
-        m₁ = splice m 512 7744 s′
+        m₁ = splice m slotsAt slotWords s′
 
-        long : length s′ ≡ 7744
+        long : length s′ ≡ slotWords
         long = a .size ∙ words-long
 
         size₁ : length m₁ ≡ length m
         size₁ = slots-size n m (r .long) s′ long
 
-        pub size-1 : 10305 ≤ length m₁
+        pub size-1 : nodeWords ≤ length m₁
         size-1 = rw size₁ (r .long)
 
         pub execs-long : length (take 64 (drop 128 m₁)) ≡ 64
         unfolding part
-        execs-long = length-part m₁ 128 64 (omega (arith, size-1))
+        execs-long = length-part m₁ execsAt replicaPlaces (omega (arith, size-1))
 
         pub heard-room : (n .population ≤ length (take 64 (drop 128 m₁))) × (peer < n .population)
         heard-room = (rw execs-long (r .few), p)
@@ -124,21 +125,21 @@ module _ (n : Node) (m : List ℕ) (y : ready n m ≡ true) (ballot commit exec 
         abbrev walked-to : machine.Replica
         walked-to = machine.withInsts (instsOf (n .«start_slot» .0) (n .slots) s′) (view n m)
 
-        due-is : due ≡ machine.done (machine.withSnap (snapLeft (n .population) (n .id .0) peer exec snap (run (n .population) (part m 128 64) 0) (n .«snap_bar» .0))
-            (machine.withPeerExecBar (execsLeft (n .id .0) peer exec (run (n .population) (part m 128 64) 0)) walked-to)) items
+        due-is : due ≡ machine.done (machine.withSnap (snapLeft (n .population) (n .id .0) peer exec snap (run (n .population) (part m execsAt replicaPlaces) 0) (n .«snap_bar» .0))
+            (machine.withPeerExecBar (execsLeft (n .id .0) peer exec (run (n .population) (part m execsAt replicaPlaces) 0)) walked-to)) items
         unfolding view part
         due-is =
             high-is h peer snap ∙ rw (advance-is (view n m) refl refl refl a) (rw (heard-peer peer exec snap walked-to, append-nil items))
 
         module _ (x : Slot) (e′ : List ℕ) (l : length e′ ≡ length (take 64 (drop 128 m₁))) (b : HearsPeer (n .population) (n .id .0) peer exec snap (n .«snap_bar» .0) (take 64 (drop 128 m₁)) (x .0) e′) where
           abbrev m₂ : List ℕ
-          m₂ = splice m₁ 128 64 e′
+          m₂ = splice m₁ execsAt replicaPlaces e′
 
           short : length e′ ≡ 64
           short = l ∙ execs-long
 
-          execs-same : part m₁ 128 64 ≡ part m 128 64
-          execs-same = part-before m 512 7744 s′ (omega (arith, r .long)) long 128 64 (omega arith)
+          execs-same : part m₁ execsAt replicaPlaces ≡ part m execsAt replicaPlaces
+          execs-same = part-before m slotsAt slotWords s′ (omega (arith, r .long)) long execsAt replicaPlaces (omega arith)
 
           next-is : view (snapped n x) m₂ ≡ machine.withSnap (x .0) (machine.withPeerExecBar (run (n .population) e′ 0) walked-to)
           unfolding view
@@ -150,7 +151,7 @@ module _ (n : Node) (m : List ℕ) (y : ready n m ≡ true) (ballot commit exec 
           unfolding part
           bars-are =
               ap (λ (z : List ℕ). machine.withSnap (x .0) (machine.withPeerExecBar z walked-to)) (b .execs)
-              ∙ ap (λ (z : ℕ). machine.withSnap z (machine.withPeerExecBar (execsLeft (n .id .0) peer exec (run (n .population) (part m₁ 128 64) 0)) walked-to)) (b .answer)
+              ∙ ap (λ (z : ℕ). machine.withSnap z (machine.withPeerExecBar (execsLeft (n .id .0) peer exec (run (n .population) (part m₁ execsAt replicaPlaces) 0)) walked-to)) (b .answer)
               ∙ rw execs-same (sym (ap (λ (d : machine.Done). d .replica) due-is))
 
           again : ready (snapped n x) m₂ ≡ true

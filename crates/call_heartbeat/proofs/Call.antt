@@ -8,6 +8,7 @@ use native.Mathlib.Omega.{arith}
 use lib.Dec.{leb}
 use lib.ListN.{length, length-append}
 use borrow.Author.Tests.{lt-ltb, le-ltb, le-leb, leb-false, not-true, not-false}
+use Rattle.layout.specs.Layout.{slotsAt, slotWords}
 use Rattle.words.specs.Writes.{length-writes}
 use Rattle.words.specs.Part.{part}
 use Rattle.ids.specs.Leader.{leaderOf}
@@ -245,7 +246,7 @@ module _ (n : Node) (m area : List ℕ) (peer ballot : ℕ) (b : Bool) (c : Resp
 
               held : length (view n m .insts) ≡ n .slots
               unfolding view
-              held = length-insts (n .«start_slot» .0) (n .slots) (part m 512 7744)
+              held = length-insts (n .«start_slot» .0) (n .slots) (part m slotsAt slotWords)
 
               seen-is : view n m .bal .maxSeen ≤ ballot
               unfolding view

@@ -8,6 +8,7 @@ use native.Mathlib.Omega.{arith}
 use lib.Dec.{ltb, leb}
 use lib.ListN.{length, take, drop}
 use borrow.Author.Tests.{lt-ltb, le-ltb, le-leb, lt-leb, not-true, not-false}
+use Rattle.layout.specs.Layout.{slotsAt, slotWords}
 use Rattle.words.specs.Choice.{if_then_else_, ifNone_then_else_}
 use Rattle.words.specs.Part.{part, length-part}
 use Rattle.ids.specs.Leader.{leaderOf}
@@ -115,9 +116,9 @@ module _ (n : Node) (m : List ℕ) (y : ready n m ≡ true) (ballot : ℕ) (i : 
   abbrev Lacks : Bool → Type 0
   Lacks r = r ≡ appending (view n m) ballot i o && noRoom (view n m)
 
-  pub slots-room : (n .«start_slot» .0 ≤ 281474976710655) × (n .slots ≤ 32) × (7744 ≤ length (take 7744 (drop 512 m)))
+  pub slots-room : (n .«start_slot» .0 ≤ 281474976710655) × (n .slots ≤ 32) × (slotWords ≤ length (take slotWords (drop slotsAt m)))
   unfolding part
-  slots-room = let r = readied n m y in (r .start-low, r .window, omega (arith, length-part m 512 7744 (omega (arith, r .long))))
+  slots-room = let r = readied n m y in (r .start-low, r .window, omega (arith, length-part m slotsAt slotWords (omega (arith, r .long))))
 
   pub lower : ballot < n .«bal_max_seen» .0 → Lacks false
   unfolding view
@@ -133,9 +134,9 @@ module _ (n : Node) (m : List ℕ) (y : ready n m ≡ true) (ballot : ℕ) (i : 
       unfolding view
       follower g = sym (simp (le-leb (n .«bal_max_seen» .0) ballot h, not-false i f, sym e ∙ not-true t g))
 
-      module _ (g : not t ≡ false) (u : Bool) (v : u ≡ any (λ (j : machine.Instance). machine.isOpen (j .status)) (instsOf (n .«start_slot» .0) (n .slots) (take 7744 (drop 512 m)))) where
+      module _ (g : not t ≡ false) (u : Bool) (v : u ≡ any (λ (j : machine.Instance). machine.isOpen (j .status)) (instsOf (n .«start_slot» .0) (n .slots) (take slotWords (drop slotsAt m)))) where
         abbrev insts : List machine.Instance
-        insts = instsOf (n .«start_slot» .0) (n .slots) (take 7744 (drop 512 m))
+        insts = instsOf (n .«start_slot» .0) (n .slots) (take slotWords (drop slotsAt m))
 
         opens : anyOpen insts ≡ u
         opens = sym (v ∙ any-is insts)
@@ -150,7 +151,7 @@ module _ (n : Node) (m : List ℕ) (y : ready n m ≡ true) (ballot : ℕ) (i : 
           appends-one = simp (le-leb (n .«bal_max_seen» .0) ballot h, not-false i f, sym e ∙ not-false t g, opens ∙ k)
 
           held : length insts ≡ n .slots
-          held = length-insts (n .«start_slot» .0) (n .slots) (take 7744 (drop 512 m))
+          held = length-insts (n .«start_slot» .0) (n .slots) (take slotWords (drop slotsAt m))
 
           pub no-slot : 32 ≤ n .slots → Lacks true
           unfolding view part

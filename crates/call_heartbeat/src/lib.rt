@@ -47,7 +47,7 @@ fn heard_bars(
         };
     }
     let end = advance_commit_bar::advance(
-        &mut mem[512..8256],
+        &mut mem[layout::SLOTS_AT..layout::WRITTEN_AT],
         area,
         place,
         node.start_slot,
@@ -59,7 +59,7 @@ fn heard_bars(
     let id = node.id;
     let own = node.snap_bar;
     let heard = peer_exec_bar::heard_peer(
-        &mut mem[128..192],
+        &mut mem[layout::EXECS_AT..layout::ROWS_AT],
         node.population,
         id,
         own,
@@ -85,7 +85,7 @@ fn count_bars(node: Node, mem: &[u64], ballot: Ballot, commit: Slot, exec: Slot)
         return 0;
     }
     advance_commit_bar::count_commits(
-        &mem[512..8256],
+        &mem[layout::SLOTS_AT..layout::WRITTEN_AT],
         node.start_slot,
         node.slots,
         node.commit_bar,
@@ -128,7 +128,7 @@ fn installs(
         return false;
     }
     let own = node.bodega_conf;
-    !roster_compare::same(conf, rows, own, &mem[192..512])
+    !roster_compare::same(conf, rows, own, &mem[layout::ROWS_AT..layout::SLOTS_AT])
 }
 
 fn is_installing(
@@ -232,7 +232,11 @@ fn lacks_slot(
         return false;
     }
     let start = node.start_slot;
-    if insts::any_open(&mem[512..8256], start, node.slots) {
+    if insts::any_open(
+        &mem[layout::SLOTS_AT..layout::WRITTEN_AT],
+        start,
+        node.slots,
+    ) {
         return false;
     }
     if Node::WINDOW <= node.slots {

@@ -13,7 +13,7 @@ use lib.Dec.{ltb, leb}
 use lib.ListN.{length}
 use Rattle.words.specs.Choice.{if_then_else_, ifNone_then_else_}
 use Rattle.words.specs.Part.{part, splice, Untouched, length-part}
-use Rattle.layout.specs.Layout.{nodeWords}
+use Rattle.layout.specs.Layout.{nodeWords, slotPlaces, slotWords, slotsAt}
 use Rattle.words.specs.Writes.{writes}
 use Rattle.ids.specs.declared.Slot.{Slot}
 use Rattle.key_words.specs.Key.{bytesOf, keyIn, atMost48}
@@ -31,7 +31,7 @@ use Rattle.bodega.specs.Request.{settled, readAnswer, answered, treatRead}
 use Rattle.bodega.specs.Grounds.{grounds, full, overfills}
 use Rattle.bodega.specs.Step.{effect}
 use Rattle.bodega.specs.Answers.{Answers}
-use Rattle.inspect_latest_write.specs.Told.{answerIn, Gets}
+use Rattle.inspect_latest_write.specs.Located.{answerIn, Gets}
 use Rattle.inspect_latest_write.specs.declared.ReadAnswer.{ReadAnswer}
 use Rattle.inspect_latest_write.specs.declared.ReadAnswer.the-variants.{HeldBy}
 use Rattle.inspect_latest_write.proofs.ReadAnswer.{the-type}
@@ -44,14 +44,14 @@ use Rattle.node.specs.declared.Node.{Node}
 
 -- ---- the parts lent are long enough
 
-place : {c : ℕ} (slot : ℕ) → c ≡ slot % 32 → c < 32
+place : {c : ℕ} (slot : ℕ) → c ≡ slot % slotPlaces → c < slotPlaces
 place slot e = omega arith
 
 pub ready-is : (n : Node) (m : List ℕ) (t : Bool) → t ≡ ready n m → not t ≡ false → ready n m ≡ true
 ready-is n m t e f = sym e ∙ not-false t f
 
-pub slots-long : (n : Node) (m : List ℕ) → Ready n m → 7744 ≤ length (part m 512 7744)
-slots-long n m r = rw (length-part m 512 7744 (omega (arith, r .long))) (omega arith)
+pub slots-long : (n : Node) (m : List ℕ) → Ready n m → slotWords ≤ length (part m slotsAt slotWords)
+slots-long n m r = rw (length-part m slotsAt slotWords (omega (arith, r .long))) (omega arith)
 
 -- ---- a key of at most 48 bytes
 
@@ -129,10 +129,10 @@ module _ (n : Node) (m : List ℕ) (slot : ℕ) (w : Waiting (view n m) slot) wh
   high = elim (decLt slot (n .«start_slot» .0 + n .slots)) [ yes h ↦ h | no h ↦ absurd (not-none (not-past n m slot low (omega arith))) ]
 
   abbrev s : List ℕ
-  s = part m 512 7744
+  s = part m slotsAt slotWords
 
   abbrev c : ℕ
-  c = slot % 32
+  c = slot % slotPlaces
 
   stands : machine.instAt (view n m) slot ≡ some (instOf (shortAt s c) (batchAt s c) (readsAt s c))
   unfolding instIn
@@ -148,21 +148,21 @@ module _ (n : Node) (m : List ℕ) (slot : ℕ) (w : Waiting (view n m) slot) wh
   room e = leb-false 16 (length (readsAt s c)) (sym full-is ∙ e)
 
   module _ (r : Ready n m) (q : machine.ReadReq) (t : List ℕ) (p : Puts s c (shortAt s c) (batchAt s c) (readsAt s c ++ (q ∷ [])) t) where
-    long : length t ≡ 7744
-    long = p .size ∙ length-part m 512 7744 (omega (arith, r .long))
+    long : length t ≡ slotWords
+    long = p .size ∙ length-part m slotsAt slotWords (omega (arith, r .long))
 
-    pub hold-view : view n (splice m 512 7744 t) ≡ local.holdRead slot q (view n m)
+    pub hold-view : view n (splice m slotsAt slotWords t) ≡ local.holdRead slot q (view n m)
     hold-view =
         slots-back n m (r .long) t long ∙ set-at n m slot low high (r .window) p
         ∙ hold-is (view n m) slot q (shortAt s c) (batchAt s c) (readsAt s c) (w .book) stands booked
 
-    pub hold-size : length (splice m 512 7744 t) ≡ length m
+    pub hold-size : length (splice m slotsAt slotWords t) ≡ length m
     hold-size = slots-size n m (r .long) t long
 
-    pub hold-beyond : Untouched nodeWords m (splice m 512 7744 t)
+    pub hold-beyond : Untouched nodeWords m (splice m slotsAt slotWords t)
     hold-beyond = slots-beyond n m (r .long) t long
 
-    pub hold-ready : ready n (splice m 512 7744 t) ≡ ready n m
+    pub hold-ready : ready n (splice m slotsAt slotWords t) ≡ ready n m
     hold-ready = slots-ready n m (r .long) t long
 
 -- ---- the call
@@ -189,7 +189,7 @@ module _ (n : Node) (m area : List ℕ) (client request leases : ℕ) (key : Lis
       pub bytes-are : bytesOf k ≡ key
       bytes-are = short .0
 
-      module _ (a : ReadAnswer) (j : Gets (view n m) (part m 512 7744) (readAnswer (view n m) leases key) a) where
+      module _ (a : ReadAnswer) (j : Gets (view n m) (part m slotsAt slotWords) (readAnswer (view n m) leases key) a) where
         answer-is : answerIn a ≡ readAnswer (view n m) leases key
         answer-is = j .0
 
@@ -241,23 +241,23 @@ module _ (n : Node) (m area : List ℕ) (client request leases : ℕ) (key : Lis
                   unfolding readAnswer
                   waits = waiting (view n m) (slot .0) (settled (view n m) leases key) (sym answer-is ∙ ap answerIn o)
 
-                  at-place : d ≡ slot .0 % 32
-                  at-place = placed-by (view n m) (part m 512 7744) a (HeldBy slot d) o (j .1) .0
+                  at-place : d ≡ slot .0 % slotPlaces
+                  at-place = placed-by (view n m) (part m slotsAt slotWords) a (HeldBy slot d) o (j .1) .0
 
-                  pub place-below : d < 32
+                  pub place-below : d < slotPlaces
                   place-below = place (slot .0) at-place
 
-                  pub has-room : length (readsAt (part m 512 7744) d) < 16
+                  pub has-room : length (readsAt (part m slotsAt slotWords) d) < 16
                   has-room = rw at-place (room n m (slot .0) waits (ap (λ (y : ReadAnswer). overfills (view n m) (answerIn y)) (sym o) ∙ sym fills ∙ u))
 
                   pub held : (s : List ℕ)
-                      → Puts (part m 512 7744) d (shortAt (part m 512 7744) d) (batchAt (part m 512 7744) d)
-                      (readsAt (part m 512 7744) d ++ (record { client = client; request = request; key = bytesOf k } ∷ [])) s
-                      → Answers ready view call n m area (record { number = 0; count = 1; node = n }) (splice m 512 7744 s) area′
+                      → Puts (part m slotsAt slotWords) d (shortAt (part m slotsAt slotWords) d) (batchAt (part m slotsAt slotWords) d)
+                      (readsAt (part m slotsAt slotWords) d ++ (record { client = client; request = request; key = bytesOf k } ∷ [])) s
+                      → Answers ready view call n m area (record { number = 0; count = 1; node = n }) (splice m slotsAt slotWords s) area′
                   held s p′ =
-                      let d′ : Puts (part m 512 7744) (slot .0 % 32) (shortAt (part m 512 7744) (slot .0 % 32)) (batchAt (part m 512 7744) (slot .0 % 32))
-                      (readsAt (part m 512 7744) (slot .0 % 32) ++ (q ∷ [])) s = rw (at-place, bytes-are) at p′ in
+                      let d′ : Puts (part m slotsAt slotWords) (slot .0 % slotPlaces) (shortAt (part m slotsAt slotWords) (slot .0 % slotPlaces)) (batchAt (part m slotsAt slotWords) (slot .0 % slotPlaces))
+                      (readsAt (part m slotsAt slotWords) (slot .0 % slotPlaces) ++ (q ∷ [])) s = rw (at-place, bytes-are) at p′ in
                       let b′ : Ready n m = is-ready n m t e f in
-                      taken (splice m 512 7744 s)
+                      taken (splice m slotsAt slotWords s)
                       (hold-view n m (slot .0) waits b′ q s d′ ∙ ap (λ (y : ReadAnswer). answered (view n m) q (answerIn y) .replica) (sym o))
                       (hold-size n m (slot .0) waits b′ q s d′) (hold-beyond n m (slot .0) waits b′ q s d′) (hold-ready n m (slot .0) waits b′ q s d′)

@@ -62,7 +62,7 @@ pub fn read(
         request,
         key: packed,
     };
-    insts::push_read(&mut mem[512..8256], c, held);
+    insts::push_read(&mut mem[layout::SLOTS_AT..layout::WRITTEN_AT], c, held);
     Answered {
         number: 0,
         count: 1,

@@ -12,6 +12,7 @@ use denote.Enum.Declared.{tagOf}
 use borrow.Author.Tests.{lt-ltb, le-ltb, le-leb, lt-leb, eq-eqb, ne-eqb, ltb-true, ltb-false, leb-true, not-true, not-false}
 use lib.Dec.{ltb, leb, eqb}
 use lib.ListN.{length}
+use Rattle.layout.specs.Layout.{slotsAt, slotWords, writtenAt, writtenWords, rowsAt, rosterWords, nodeWords, slotPlaces}
 use Rattle.words.specs.Choice.{if_then_else_, ifNone_then_else_}
 use Rattle.words.specs.Part.{part, length-part}
 use Rattle.ids.specs.declared.Slot.{Slot}
@@ -48,7 +49,7 @@ use Rattle.node.specs.View.{view, ready}
 use Rattle.node.specs.declared.Node.{Node}
 use Rattle.node.proofs.Calls.{Ready, is-ready}
 use Rattle.node.proofs.Slots.{not-below, not-past, held-at}
-use Rattle.inspect_latest_write.specs.Told.{heldAt, settledOf, answerIn, Stands, Told, Settles, Places, Gets}
+use Rattle.inspect_latest_write.specs.Located.{heldAt, settledOf, answerIn, Stands, Located, Settles, Places, Gets}
 use Rattle.inspect_latest_write.specs.declared.SlotAt.{SlotAt}
 use Rattle.inspect_latest_write.specs.declared.Settled.{Settled}
 use Rattle.inspect_latest_write.specs.declared.Settled.the-variants as settled
@@ -121,10 +122,10 @@ held-by start n slot h = elim (decLt slot (start + n)) [
   | no g ↦ le-ltb (slot - start) n (omega arith) ∙ sym (simp (le-leb start slot h, le-ltb slot (start + n) (omega arith)))
 ]
 
-pub place-below : {c : ℕ} (slot : ℕ) → c ≡ slot % 32 → c < 32
+pub place-below : {c : ℕ} (slot : ℕ) → c ≡ slot % slotPlaces → c < slotPlaces
 place-below slot e = omega arith
 
-module _ (n : Node) (m s : List ℕ) (l : part m 512 7744 ≡ s) (slot : ℕ) (t : Bool) (e : t ≡ heldAt (n .«start_slot» .0) (n .slots) slot) where
+module _ (n : Node) (m s : List ℕ) (l : part m slotsAt slotWords ≡ s) (slot : ℕ) (t : Bool) (e : t ≡ heldAt (n .«start_slot» .0) (n .slots) slot) where
   no-slot : not t ≡ true → machine.instAt (view n m) slot ≡ none
   no-slot f = elim (decLt slot (n .«start_slot» .0)) [
     | yes h ↦ not-below n m slot h
@@ -134,13 +135,13 @@ module _ (n : Node) (m s : List ℕ) (l : part m 512 7744 ≡ s) (slot : ℕ) (t
         not-past n m slot k (ltb-false slot (n .«start_slot» .0 + n .slots) g)
   ]
 
-  slot-at : not t ≡ false → machine.instAt (view n m) slot ≡ some (instIn s (slot % 32))
+  slot-at : not t ≡ false → machine.instAt (view n m) slot ≡ some (instIn s (slot % slotPlaces))
   slot-at f =
       let b = and-both (leb (n .«start_slot» .0) slot) (ltb slot (n .«start_slot» .0 + n .slots)) (sym e ∙ not-false t f) in
       held-at n m slot (leb-true (n .«start_slot» .0) slot (b .0)) (ltb-true slot (n .«start_slot» .0 + n .slots) (b .1))
-      ∙ ap (λ (y : List ℕ). some (instIn y (slot % 32))) l
+      ∙ ap (λ (y : List ℕ). some (instIn y (slot % slotPlaces))) l
 
-  slot-in : not t ≡ false → (c : ℕ) → c ≡ slot % 32 → machine.instAt (view n m) slot ≡ some (instIn s c)
+  slot-in : not t ≡ false → (c : ℕ) → c ≡ slot % slotPlaces → machine.instAt (view n m) slot ≡ some (instIn s c)
   slot-in f c k = slot-at f ∙ ap (λ (j : ℕ). some (instIn s j)) (sym k)
 
 -- the slot's short part as it is loaded
@@ -181,7 +182,7 @@ waited slot o = ifNone o then local.Again else λ i. if local.waits i then local
 abbrev filled : Option machine.Instance → Bool
 filled o = ifNone o then false else λ i. ifNone i .replicaBk then false else λ b. leb 16 (length (b .holding))
 
-module _ (n : Node) (m s : List ℕ) (d : part m 512 7744 ≡ s) (slot : Slot) (t : Bool) (e : t ≡ heldAt (n .«start_slot» .0) (n .slots) (slot .0)) (key : List ℕ) where
+module _ (n : Node) (m s : List ℕ) (d : part m slotsAt slotWords ≡ s) (slot : Slot) (t : Bool) (e : t ≡ heldAt (n .«start_slot» .0) (n .slots) (slot .0)) (key : List ℕ) where
   abbrev Inspects : Settled → Type 0
   Inspects x = Settles (view n m) s (local.inspectHighestSlot (view n m) key (slot .0)) x
 
@@ -193,7 +194,7 @@ module _ (n : Node) (m s : List ℕ) (d : part m 512 7744 ≡ s) (slot : Slot) (
   pub inspect-none : not t ≡ true → Inspects (settled.SlotStatus slot)
   inspect-none f = (inspect-by none (no-slot n m s d (slot .0) t e f), tt)
 
-  module _ (f : not t ≡ false) (c : ℕ) (x : Cell) (k : c ≡ slot .0 % 32) (l : cellOf x ≡ shortAt s c) where
+  module _ (f : not t ≡ false) (c : ℕ) (x : Cell) (k : c ≡ slot .0 % slotPlaces) (l : cellOf x ≡ shortAt s c) where
     abbrev here : machine.Instance
     here = instOf (cellOf x) (batchAt s c) (readsAt s c)
 
@@ -241,7 +242,7 @@ full-counted r s slot c n f j = ap (leb 16) (j .0) ∙ full-book (instIn s c .re
 
 -- ---- `inspect_latest_write`
 
-module _ (n : Node) (m s w : List ℕ) (l : part m 8256 2049 ≡ w) (key : List ℕ) (o : LastWrite) (e : slotIn o ≡ local.highestOf key (writtenOf w)) where
+module _ (n : Node) (m s w : List ℕ) (l : part m writtenAt writtenWords ≡ w) (key : List ℕ) (o : LastWrite) (e : slotIn o ≡ local.highestOf key (writtenOf w)) where
   abbrev Latest′ : Settled → Type 0
   Latest′ x = Settles (view n m) s (local.inspectLatestWrite (view n m) key) x
 
@@ -275,7 +276,7 @@ responds default id o y = if not (get (ifNone o then default else λ m. m) id) t
 
 module _ (n : Node) (m : List ℕ) (leases : ℕ) (key : List ℕ) where
   abbrev stored : ℕ → Option ℕ
-  stored k = at (rangesOf (part m 192 320) (n .«bodega_conf» .count)) k
+  stored k = at (rangesOf (part m rowsAt rosterWords) (n .«bodega_conf» .count)) k
 
   abbrev whole : local.Settled
   whole = request.settled (view n m) leases key
@@ -290,7 +291,7 @@ module _ (n : Node) (m : List ℕ) (leases : ℕ) (key : List ℕ) where
       ifNone o then local.UnreadKey else λ j. responds (n .«bodega_conf» .default) (n .id .0) (stored j) barred
 
   abbrev Whole : Settled → Type 0
-  Whole x = Settles (view n m) (part m 512 7744) whole x
+  Whole x = Settles (view n m) (part m slotsAt slotWords) whole x
 
   settled-is : settledBy (local.isStableLeader (view n m) leases) (readKey key) ≡ whole
   unfolding request.settled view rosterOf
@@ -328,7 +329,7 @@ module _ (n : Node) (m : List ℕ) (leases : ℕ) (key : List ℕ) where
             answers : (b : Bool) → u ≡ b → (if not b then (ifNone maskIn r then local.DefaultRoster else λ j. local.StoredRange) else barred) ≡ whole
             answers b x = ap (λ (y : Bool). if not y then (ifNone maskIn r then local.DefaultRoster else λ j. local.StoredRange) else barred) (sym x ∙ d) ∙ looked
 
-            pub settled-roster : not u ≡ true → (y : Settled) → Settles (view n m) (part m 512 7744) (ifNone maskIn r then local.DefaultRoster else λ j. local.StoredRange) y → Whole y
+            pub settled-roster : not u ≡ true → (y : Settled) → Settles (view n m) (part m slotsAt slotWords) (ifNone maskIn r then local.DefaultRoster else λ j. local.StoredRange) y → Whole y
             settled-roster x y z = (z .0 ∙ answers false (not-true u x), z .1)
 
             module _ (x : not u ≡ false) where
@@ -338,7 +339,7 @@ module _ (n : Node) (m : List ℕ) (leases : ℕ) (key : List ℕ) where
                   first : local.Bar ≡ barred
                   first = rw (lt-ltb (n .«commit_bar» .0) (n .«peer_accept_max» .0) b)
 
-              pub settled-latest : n .«peer_accept_max» .0 ≤ n .«commit_bar» .0 → (y : Settled) → Settles (view n m) (part m 512 7744) (local.inspectLatestWrite (view n m) key) y → Whole y
+              pub settled-latest : n .«peer_accept_max» .0 ≤ n .«commit_bar» .0 → (y : Settled) → Settles (view n m) (part m slotsAt slotWords) (local.inspectLatestWrite (view n m) key) y → Whole y
               settled-latest b y z = (z .0 ∙ first ∙ answers true (not-false u x), z .1)
                 where
                   first : local.inspectLatestWrite (view n m) key ≡ barred
@@ -374,7 +375,7 @@ module _ (start : ℕ) (r : machine.Replica) (s : List ℕ) (e : start ≡ r .ba
   in-store h = (sym (rw (ne-eqb (r .bar .start) 0 (λ z. h (e ∙ z)))), tt)
 
 -- what settled the read, as the match told it
-pub told-by : (r : machine.Replica) (s : List ℕ) (x y : Settled) → x ≡ y → Told r s x → Told r s y
+pub told-by : (r : machine.Replica) (s : List ℕ) (x y : Settled) → x ≡ y → Located r s x → Located r s y
 told-by r s x y e p = rw e at p
 
 pub answer-by : (r : machine.Replica) (s : List ℕ) (x y : Settled) (a : ReadAnswer) → x ≡ y → Gets r s (local.answerOf r (settledOf y)) a → Gets r s (local.answerOf r (settledOf x)) a
@@ -385,7 +386,7 @@ unfolding view
 start-is n m = refl
 
 pub answers-read : (r : machine.Replica) (s : List ℕ) (leases : ℕ) (key : List ℕ) (x : Settled) (a : ReadAnswer) → Settles r s (request.settled r leases key) x
-    → (Told r s x → Gets r s (local.answerOf r (settledOf x)) a) → Gets r s (readAnswer r leases key) a
+    → (Located r s x → Gets r s (local.answerOf r (settledOf x)) a) → Gets r s (readAnswer r leases key) a
 unfolding readAnswer
 answers-read r s leases key x a e f = let g = f (e .1) in (g .0 ∙ ap (local.answerOf r) (e .0), g .1)
 
@@ -414,7 +415,7 @@ module _ (r : machine.Replica) where
 pub placed-by : (r : machine.Replica) (s : List ℕ) (x y : ReadAnswer) → x ≡ y → Places r s x → Places r s y
 placed-by r s x y e p = rw e at p
 
-pub held-below : (r : machine.Replica) (s : List ℕ) (a : ReadAnswer) (slot : Slot) (c : ℕ) → a ≡ HeldBy slot c → Places r s a → c < 32
+pub held-below : (r : machine.Replica) (s : List ℕ) (a : ReadAnswer) (slot : Slot) (c : ℕ) → a ≡ HeldBy slot c → Places r s a → c < slotPlaces
 held-below r s a slot c e p = place-below (slot .0) (placed-by r s a (HeldBy slot c) e p .0)
 
 pub fills-slot : (r : machine.Replica) (s : List ℕ) (a : ReadAnswer) (slot : Slot) (c n : ℕ) → a ≡ HeldBy slot c → Places r s a
@@ -434,17 +435,17 @@ module _ (n : Node) (m : List ℕ) (e : ready n m ≡ true) where
   abbrev readied : Ready n m
   readied = is-ready n m true (sym e) refl
 
-  pub words-long : 10305 ≤ length m
+  pub words-long : nodeWords ≤ length m
   words-long = readied .long
 
-  pub rows-long : n .«bodega_conf» .count * 5 ≤ length (part m 192 320)
-  rows-long = rw (length-part m 192 320 (omega (arith, words-long))) (omega (arith, readied .ranges))
+  pub rows-long : n .«bodega_conf» .count * 5 ≤ length (part m rowsAt rosterWords)
+  rows-long = rw (length-part m rowsAt rosterWords (omega (arith, words-long))) (omega (arith, readied .ranges))
 
-  pub slots-long : 7744 ≤ length (part m 512 7744)
-  slots-long = rw (length-part m 512 7744 (omega (arith, words-long))) (omega arith)
+  pub slots-long : slotWords ≤ length (part m slotsAt slotWords)
+  slots-long = rw (length-part m slotsAt slotWords (omega (arith, words-long))) (omega arith)
 
-  pub written-long : 2049 ≤ length (part m 8256 2049)
-  written-long = rw (length-part m 8256 2049 (omega (arith, words-long))) (omega arith)
+  pub written-long : writtenWords ≤ length (part m writtenAt writtenWords)
+  written-long = rw (length-part m writtenAt writtenWords (omega (arith, words-long))) (omega arith)
 
 -- ---- a read that is held waits in the notice book of a slot that is held
 

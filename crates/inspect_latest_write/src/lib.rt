@@ -18,6 +18,7 @@ ghost use mathlib.Core.Bool.{true, false};
 ghost use mathlib.Core.List.{List, [], _∷_};
 ghost use Prim.Native.Nat.{ℕ, _%_, _≤_};
 ghost use lib.ListN.{length};
+ghost use Rattle.layout.specs.Layout.{slotsAt, slotWords, writtenAt, writtenWords, slotPlaces};
 ghost use Rattle.words.specs.Choice.{ifNone_then_else_};
 ghost use Rattle.words.specs.Part.{part};
 ghost use Rattle.bitmap.specs.Bitmap.{get};
@@ -32,7 +33,7 @@ ghost use Rattle.bodega.specs.Localread.{isStableLeader, inspectHighestSlot, in
 ghost use Rattle.bodega.specs.Request.{settled, readAnswer, answered};
 ghost use Rattle.bodega.specs.Grounds.{overfills};
 ghost use Rattle.node.specs.View.{view, ready};
-ghost use Rattle.inspect_latest_write.specs.Told.{heldAt, settledOf, answerIn, Stands, Told, Settles, Places, Gets};
+ghost use Rattle.inspect_latest_write.specs.Located.{heldAt, settledOf, answerIn, Stands, Located, Settles, Places, Gets};
 
 // A slot that settles a read: its place, and whether a read waits there.
 pub struct SlotAt {
@@ -122,9 +123,9 @@ fn is_held(start: Slot, slots: usize, slot: Slot) -> bool
 
 // The place of a slot.
 fn place_of(slot: Slot) -> usize
-    ensures { λ r. ⌜ r ≡ slot .0 % 32 ⌝ }
+    ensures { λ r. ⌜ r ≡ slot .0 % slotPlaces ⌝ }
 {
-    (slot.0 % 32) as usize
+    (slot.0 % layout::PLACES) as usize
 }
 
 fn has_book(book: ReplicaBk) -> bool
@@ -154,8 +155,8 @@ fn waits(cell: Cell) -> bool
 // ---- what settles a read
 
 fn inspect_highest_slot(node: Node, s: &[u64], key: Key, slot: Slot) -> Settled
-    requires { ⌜ 7744 ≤ length (now s) ⌝ }
-    ensures { λ r. ⌜ ((m : List ℕ) → part m 512 7744 ≡ now (s .entry) → Settles (view node m) (now (s .entry)) (inspectHighestSlot (view node m) (bytesOf key) (slot .0)) r) ⌝ }
+    requires { ⌜ slotWords ≤ length (now s) ⌝ }
+    ensures { λ r. ⌜ ((m : List ℕ) → part m slotsAt slotWords ≡ now (s .entry) → Settles (view node m) (now (s .entry)) (inspectHighestSlot (view node m) (bytesOf key) (slot .0)) r) ⌝ }
 {
     let start = node.start_slot;
     if !is_held(start, node.slots, slot) {
@@ -188,8 +189,8 @@ fn inspect_highest_slot(node: Node, s: &[u64], key: Key, slot: Slot) -> Settled
 }
 
 fn inspect_latest_write(node: Node, s: &[u64], w: &[u64], key: Key) -> Settled
-    requires { ⌜ (7744 ≤ length (now s)) × (2049 ≤ length (now w)) ⌝ }
-    ensures { λ r. ⌜ ((m : List ℕ) → part m 512 7744 ≡ now (s .entry) → part m 8256 2049 ≡ now (w .entry) → Settles (view node m) (now (s .entry)) (inspectLatestWrite (view node m) (bytesOf key)) r) ⌝ }
+    requires { ⌜ (slotWords ≤ length (now s)) × (writtenWords ≤ length (now w)) ⌝ }
+    ensures { λ r. ⌜ ((m : List ℕ) → part m slotsAt slotWords ≡ now (s .entry) → part m writtenAt writtenWords ≡ now (w .entry) → Settles (view node m) (now (s .entry)) (inspectLatestWrite (view node m) (bytesOf key)) r) ⌝ }
 {
     let LastWrite::At(slot) = highest_slot::highest(w, key) else {
         return Settled::NoSlot;
@@ -204,7 +205,7 @@ fn inspect_latest_write(node: Node, s: &[u64], w: &[u64], key: Key) -> Settled
 // What settles a read of a key: its bytes, and the same packed.
 pub fn settled_by(node: Node, mem: &[u64], leases: u64, key: &[u8], packed: Key) -> Settled
     requires { ⌜ (ready node (now mem) ≡ true) × (bytesOf packed ≡ now key) ⌝ }
-    ensures { λ r. ⌜ Settles (view node (now (mem .entry))) (part (now (mem .entry)) 512 7744) (settled (view node (now (mem .entry))) leases (now (key .entry))) r ⌝ }
+    ensures { λ r. ⌜ Settles (view node (now (mem .entry))) (part (now (mem .entry)) slotsAt slotWords) (settled (view node (now (mem .entry))) leases (now (key .entry))) r ⌝ }
 {
     if is_stable_leader(node, leases) {
         return Settled::StableLeader;
@@ -218,7 +219,7 @@ pub fn settled_by(node: Node, mem: &[u64], leases: u64, key: &[u8], packed: Key)
     };
     let conf = node.bodega_conf;
     let id = node.id;
-    let stored = roster_map::at(&mem[192..512], conf.count, n);
+    let stored = roster_map::at(&mem[layout::ROWS_AT..layout::SLOTS_AT], conf.count, n);
     if !is_responder(conf.default, id, stored) {
         return not_responder(stored);
     }
@@ -227,7 +228,12 @@ pub fn settled_by(node: Node, mem: &[u64], leases: u64, key: &[u8], packed: Key)
     if commit.0 < max.0 {
         return Settled::Bar;
     }
-    inspect_latest_write(node, &mem[512..8256], &mem[8256..10305], packed)
+    inspect_latest_write(
+        node,
+        &mem[layout::SLOTS_AT..layout::WRITTEN_AT],
+        &mem[layout::WRITTEN_AT..layout::NODE_WORDS],
+        packed,
+    )
 }
 
 // ---- the answer
@@ -267,7 +273,7 @@ fn waits_at(x: SlotAt) -> ReadAnswer
 
 // What the read gets that this settled.
 pub fn answer_of(node: Node, settled: Settled) -> ReadAnswer
-    ensures { λ r. ⌜ ((m : List ℕ) → Told (view node m) (part m 512 7744) settled → Gets (view node m) (part m 512 7744) (answerOf (view node m) (settledOf settled)) r) ⌝ }
+    ensures { λ r. ⌜ ((m : List ℕ) → Located (view node m) (part m slotsAt slotWords) settled → Gets (view node m) (part m slotsAt slotWords) (answerOf (view node m) (settledOf settled)) r) ⌝ }
 {
     match settled {
         Settled::StableLeader => ReadAnswer::FromStore,
@@ -287,7 +293,7 @@ pub fn answer_of(node: Node, settled: Settled) -> ReadAnswer
 // What a read of a key gets: its bytes, and the same packed.
 pub fn read_answer(node: Node, mem: &[u64], leases: u64, key: &[u8], packed: Key) -> ReadAnswer
     requires { ⌜ (ready node (now mem) ≡ true) × (bytesOf packed ≡ now key) ⌝ }
-    ensures { λ r. ⌜ Gets (view node (now (mem .entry))) (part (now (mem .entry)) 512 7744) (readAnswer (view node (now (mem .entry))) leases (now (key .entry))) r ⌝ }
+    ensures { λ r. ⌜ Gets (view node (now (mem .entry))) (part (now (mem .entry)) slotsAt slotWords) (readAnswer (view node (now (mem .entry))) leases (now (key .entry))) r ⌝ }
 {
     let settled = settled_by(node, mem, leases, key, packed);
     answer_of(node, settled)
@@ -295,13 +301,13 @@ pub fn read_answer(node: Node, mem: &[u64], leases: u64, key: &[u8], packed: Key
 
 // A read would be held by a slot that holds 16.
 pub fn overfills(node: Node, mem: &[u64], answer: ReadAnswer) -> bool
-    requires { ⌜ (ready node (now mem) ≡ true) × Places (view node (now mem)) (part (now mem) 512 7744) answer ⌝ }
+    requires { ⌜ (ready node (now mem) ≡ true) × Places (view node (now mem)) (part (now mem) slotsAt slotWords) answer ⌝ }
     ensures { λ r. ⌜ r ≡ overfills (view node (now (mem .entry))) (answerIn answer) ⌝ }
 {
     let ReadAnswer::HeldBy(_slot, c) = answer else {
         return false;
     };
-    Node::HOLD <= release_held_reads::holding(&mem[512..8256], c)
+    Node::HOLD <= release_held_reads::holding(&mem[layout::SLOTS_AT..layout::WRITTEN_AT], c)
 }
 
 // The item that answers a read.

@@ -15,7 +15,7 @@ ghost use lib.ListN.{length, replicate};
 ghost use Rattle.bodega.specs.Replica.{nullInstance, Instance, isOpen};
 ghost use Rattle.bodega.specs.Localread.{lastPut};
 ghost use Rattle.ids.specs.Limits.{top};
-ghost use Rattle.layout.specs.Layout.{slotPlaces, heldPlaces, batchWords, slotWords};
+ghost use Rattle.layout.specs.Layout.{batchWords, heldPlaces, slotPlaces, slotWords};
 ghost use Rattle.key_words.specs.Key.{bytesOf};
 ghost use Rattle.inst_cell.specs.Cell.{cellOf, statusOf, withStatus};
 ghost use Rattle.inst_reqs.specs.Batch.{requestsOf, valueIn};
@@ -83,7 +83,7 @@ pub fn clear_reads(s: &mut [u64], c: usize)
 
 // No reads wait where there is no notice book.
 pub fn clear_unseen(s: &mut [u64], c: usize)
-    requires { ⌜ (c < 32) × (7744 ≤ length (now s)) ⌝ }
+    requires { ⌜ (c < slotPlaces) × (slotWords ≤ length (now s)) ⌝ }
     ensures { λ _. ⌜ Puts (now (s .entry)) c (shortAt (now (s .entry)) c) (batchAt (now (s .entry)) c) (seenReads (shortAt (now (s .entry)) c .replicaBk) (readsAt (now (s .entry)) c)) (now (s .exit)) ⌝ }
 {
     if inst_cell::has_book(s, c) {

@@ -12,6 +12,7 @@ use lib.Dec.{ltb, leb, eqb}
 use mir.Syntax.{w64}
 use mir.Val.{Fits}
 use borrow.Author.Tests.{lt-ltb, le-ltb, le-leb, eq-eqb}
+use Rattle.layout.specs.Layout.{nodeWords}
 use Rattle.words.specs.Text.{Bytes}
 use Rattle.words.specs.Choice.{if_then_else_, ifNone_then_else_}
 use Rattle.words.specs.Part.{splice, splice-same}
@@ -52,10 +53,10 @@ pub fresh-state : (h : code.Host) (mem rows : List ℕ) → hostOf h mem rows �
 unfolding stateOf
 fresh-state h mem rows e = rw e
 
-pub fresh-lent : (h : code.Host) (mem rows area groups : List ℕ) → h .draft .count ≤ 64 → 10305 ≤ length mem → 320 ≤ length rows → length area ≡ 3276 → 1542 ≤ length groups → Lent h mem rows area groups
+pub fresh-lent : (h : code.Host) (mem rows area groups : List ℕ) → h .draft .count ≤ 64 → nodeWords ≤ length mem → 320 ≤ length rows → length area ≡ 3276 → 1542 ≤ length groups → Lent h mem rows area groups
 unfolding sound
 fresh-lent h mem rows area groups c m r a g = record {
-  isSound = rw (le-leb 10305 (length mem) m, le-leb 320 (length rows) r, le-leb (h .draft .count) 64 c);
+  isSound = rw (le-leb nodeWords (length mem) m, le-leb 320 (length rows) r, le-leb (h .draft .count) 64 c);
   areaSize = omega arith;
   groupsSize = g;
 }

@@ -1,3 +1,4 @@
+use Rattle.layout.specs.Layout.{slotsAt, slotWords}
 use Rattle.inspect_latest_write.proofs.Laws as law
 use mathlib.Core.Path.{refl}
 use Rattle.inspect_latest_write.specs.declared.ReadAnswer.the-variants.{Found, FromStore, Again}
@@ -65,37 +66,37 @@ waits-at-requires-2 : tie.Need-waits-at-requires-2
 waits-at-requires-2 c κs = search needs
 
 returns : tie.Need-returns
-returns c = λ m d. law.answer-by (view (c .before .before .args .node) m) (part m 512 7744) _ _ FromStore (c .enum-told .given .1) (refl, tt)
+returns c = λ m d. law.answer-by (view (c .before .before .args .node) m) (part m slotsAt slotWords) _ _ FromStore (c .enum-told .given .1) (refl, tt)
 
 returns-2 : tie.Need-returns-2
-returns-2 c = λ m d. law.answer-by (view (c .before .before .before .args .node) m) (part m 512 7744) _ _ (c .improper .result) (c .before .enum-told2 .given .1) (c .improper .ensures m (part m 512 7744))
+returns-2 c = λ m d. law.answer-by (view (c .before .before .before .args .node) m) (part m slotsAt slotWords) _ _ (c .improper .result) (c .before .enum-told2 .given .1) (c .improper .ensures m (part m slotsAt slotWords))
 
 returns-3 : tie.Need-returns-3
-returns-3 c = λ m d. law.answer-by (view (c .before .before .before .args .node) m) (part m 512 7744) _ _ (c .improper2 .result) (c .before .enum-told3 .given .1) (c .improper2 .ensures m (part m 512 7744))
+returns-3 c = λ m d. law.answer-by (view (c .before .before .before .args .node) m) (part m slotsAt slotWords) _ _ (c .improper2 .result) (c .before .enum-told3 .given .1) (c .improper2 .ensures m (part m slotsAt slotWords))
 
 returns-4 : tie.Need-returns-4
-returns-4 c = λ m d. law.answer-by (view (c .before .before .before .args .node) m) (part m 512 7744) _ _ (c .improper3 .result) (c .before .enum-told4 .given .1) (c .improper3 .ensures m (part m 512 7744))
+returns-4 c = λ m d. law.answer-by (view (c .before .before .before .args .node) m) (part m slotsAt slotWords) _ _ (c .improper3 .result) (c .before .enum-told4 .given .1) (c .improper3 .ensures m (part m slotsAt slotWords))
 
 returns-5 : tie.Need-returns-5
-returns-5 c = λ m d. law.answer-by (view (c .before .before .before .args .node) m) (part m 512 7744) _ _ (c .improper4 .result) (c .before .enum-told5 .given .1) (c .improper4 .ensures m (part m 512 7744))
+returns-5 c = λ m d. law.answer-by (view (c .before .before .before .args .node) m) (part m slotsAt slotWords) _ _ (c .improper4 .result) (c .before .enum-told5 .given .1) (c .improper4 .ensures m (part m slotsAt slotWords))
 
 returns-6 : tie.Need-returns-6
-returns-6 c = λ m d. law.answer-by (view (c .before .before .before .args .node) m) (part m 512 7744) _ _ (c .improper5 .result) (c .before .enum-told6 .given .1) (c .improper5 .ensures m (part m 512 7744))
+returns-6 c = λ m d. law.answer-by (view (c .before .before .before .args .node) m) (part m slotsAt slotWords) _ _ (c .improper5 .result) (c .before .enum-told6 .given .1) (c .improper5 .ensures m (part m slotsAt slotWords))
 
 returns-7 : tie.Need-returns-7
-returns-7 c = λ m d. law.answer-by (view (c .before .before .before .args .node) m) (part m 512 7744) _ _ (c .unwritten .result) (c .before .enum-told7 .given .1) (c .unwritten .ensures (view (c .before .before .before .args .node) m) (part m 512 7744) (law.start-is (c .before .before .before .args .node) m))
+returns-7 c = λ m d. law.answer-by (view (c .before .before .before .args .node) m) (part m slotsAt slotWords) _ _ (c .unwritten .result) (c .before .enum-told7 .given .1) (c .unwritten .ensures (view (c .before .before .before .args .node) m) (part m slotsAt slotWords) (law.start-is (c .before .before .before .args .node) m))
 
 returns-8 : tie.Need-returns-8
-returns-8 c = λ m d. law.answer-by (view (c .before .before .before .args .node) m) (part m 512 7744) _ _ Again (c .before .settled .given .1) (refl, tt)
+returns-8 c = λ m d. law.answer-by (view (c .before .before .before .args .node) m) (part m slotsAt slotWords) _ _ Again (c .before .settled .given .1) (refl, tt)
 
 returns-9 : tie.Need-returns-9
-returns-9 c = λ m d. law.answer-by (view (c .before .before .before .before .args .node) m) (part m 512 7744) _ _ (c .waits-at .result) (c .before .before .settled2 .given .1) (c .waits-at .ensures (view (c .before .before .before .before .args .node) m) (part m 512 7744) (law.told-by _ _ _ _ (c .before .before .settled2 .given .1) d))
+returns-9 c = λ m d. law.answer-by (view (c .before .before .before .before .args .node) m) (part m slotsAt slotWords) _ _ (c .waits-at .result) (c .before .before .settled2 .given .1) (c .waits-at .ensures (view (c .before .before .before .before .args .node) m) (part m slotsAt slotWords) (law.told-by _ _ _ _ (c .before .before .settled2 .given .1) d))
 
 returns-10 : tie.Need-returns-10
-returns-10 c = λ m d. law.answer-by (view (c .before .before .before .args .node) m) (part m 512 7744) _ _ (Found _) (c .before .settled3 .given .1) (refl, tt)
+returns-10 c = λ m d. law.answer-by (view (c .before .before .before .args .node) m) (part m slotsAt slotWords) _ _ (Found _) (c .before .settled3 .given .1) (refl, tt)
 
 returns-11 : tie.Need-returns-11
-returns-11 c = λ m d. law.answer-by (view (c .before .before .before .before .args .node) m) (part m 512 7744) _ _ (c .waits-at2 .result) (c .before .before .settled4 .given .1) (c .waits-at2 .ensures (view (c .before .before .before .before .args .node) m) (part m 512 7744) (law.told-by _ _ _ _ (c .before .before .settled4 .given .1) d))
+returns-11 c = λ m d. law.answer-by (view (c .before .before .before .before .args .node) m) (part m slotsAt slotWords) _ _ (c .waits-at2 .result) (c .before .before .settled4 .given .1) (c .waits-at2 .ensures (view (c .before .before .before .before .args .node) m) (part m slotsAt slotWords) (law.told-by _ _ _ _ (c .before .before .settled4 .given .1) d))
 
 pub answer-of-spec : {M : Type 1} → statement M
 answer-of-spec =

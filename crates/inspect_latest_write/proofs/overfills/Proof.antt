@@ -1,3 +1,4 @@
+use Rattle.layout.specs.Layout.{slotsAt, slotWords}
 use Rattle.inspect_latest_write.proofs.Laws as law
 use Rattle.node.specs.View.{view}
 use Rattle.words.specs.Part.{part}
@@ -29,7 +30,7 @@ holding-requires c κs =
     let p = c .before .before in
     let z = p .before .before .before in
     let a = z .args in
-    (law.held-below (view (a .node) (a .mem .now)) (part (a .mem .now) 512 7744) (a .answer) _ _ (p .answer .given .1) (z .pre .1), law.slots-long (a .node) (a .mem .now) (z .pre .0))
+    (law.held-below (view (a .node) (a .mem .now)) (part (a .mem .now) slotsAt slotWords) (a .answer) _ _ (p .answer .given .1) (z .pre .1), law.slots-long (a .node) (a .mem .now) (z .pre .0))
 
 returns-2 : tie.Need-returns-2
 unfolding part
@@ -37,7 +38,7 @@ returns-2 c =
     let p = c .before .before .before in
     let z = p .before .before .before in
     let a = z .args in
-    law.fills-slot (view (a .node) (a .mem .now)) (part (a .mem .now) 512 7744) (a .answer) _ _ _ (p .answer .given .1) (z .pre .1) (c .holding .ensures)
+    law.fills-slot (view (a .node) (a .mem .now)) (part (a .mem .now) slotsAt slotWords) (a .answer) _ _ _ (p .answer .given .1) (z .pre .1) (c .holding .ensures)
 
 pub overfills-spec : {M : Type 1} → statement M
 overfills-spec =

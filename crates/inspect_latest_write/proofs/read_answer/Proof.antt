@@ -1,3 +1,4 @@
+use Rattle.layout.specs.Layout.{slotsAt, slotWords}
 use Rattle.inspect_latest_write.proofs.Laws as law
 use Rattle.node.specs.View.{view}
 use Rattle.words.specs.Part.{part}
@@ -15,7 +16,7 @@ returns : tie.Need-returns
 returns c =
     let s = c .before in
     let a = s .before .before .before .args in
-    law.answers-read (view (a .node) (a .mem .now)) (part (a .mem .now) 512 7744) (a .leases) (a .key .now) (s .settled-by .result) (c .answer-of .result) (s .settled-by .ensures) (c .answer-of .ensures (a .mem .now))
+    law.answers-read (view (a .node) (a .mem .now)) (part (a .mem .now) slotsAt slotWords) (a .leases) (a .key .now) (s .settled-by .result) (c .answer-of .result) (s .settled-by .ensures) (c .answer-of .ensures (a .mem .now))
 
 pub read-answer-spec : {M : Type 1} → statement M
 read-answer-spec = tie.close (tie.spec settled-by-requires answer-of-requires returns)

@@ -1,3 +1,4 @@
+use Rattle.layout.specs.Layout.{slotsAt, slotWords}
 use Rattle.inspect_latest_write.proofs.Laws as law
 use mathlib.Core.Path.{refl}
 use Rattle.node.specs.View.{view}
@@ -81,7 +82,7 @@ returns-4 c =
     let y = x .before in
     let z = y .before in
     let a = z .before .before .before .args in
-    law.settled-roster (a .node) (a .mem .now) (a .leases) (a .key .now) _ (z .is-stable-leader .ensures (a .mem .now)) (y .if1 .left) (law.enough (x .wide .ensures) (q .if2 .left)) (o .key-to-inty .result) (o .key-to-inty .ensures) _ (n .n .given .1) (k .at .result) (k .at .ensures) _ (g .is-responder .ensures) (c .before .if3 .taken) (c .not-responder .result) (c .not-responder .ensures (view (a .node) (a .mem .now)) (part (a .mem .now) 512 7744))
+    law.settled-roster (a .node) (a .mem .now) (a .leases) (a .key .now) _ (z .is-stable-leader .ensures (a .mem .now)) (y .if1 .left) (law.enough (x .wide .ensures) (q .if2 .left)) (o .key-to-inty .result) (o .key-to-inty .ensures) _ (n .n .given .1) (k .at .result) (k .at .ensures) _ (g .is-responder .ensures) (c .before .if3 .taken) (c .not-responder .result) (c .not-responder .ensures (view (a .node) (a .mem .now)) (part (a .mem .now) slotsAt slotWords))
 
 returns-5 : tie.Need-returns-5
 unfolding part
@@ -140,7 +141,7 @@ returns-6 c =
     let y = x .before in
     let z = y .before in
     let a = z .before .before .before .args in
-    law.settled-latest (a .node) (a .mem .now) (a .leases) (a .key .now) _ (z .is-stable-leader .ensures (a .mem .now)) (y .if1 .left) (law.enough (x .wide .ensures) (q .if2 .left)) (o .key-to-inty .result) (o .key-to-inty .ensures) _ (n .n .given .1) (k .at .result) (k .at .ensures) _ (g .is-responder .ensures) (i .if3 .left) (b .if4 .left) (c .inspect-latest-write .result) (law.packed-as (view (a .node) (a .mem .now)) (part (a .mem .now) 512 7744) _ _ (c .inspect-latest-write .result) (z .before .before .before .pre .1) (c .inspect-latest-write .ensures (a .mem .now) refl refl))
+    law.settled-latest (a .node) (a .mem .now) (a .leases) (a .key .now) _ (z .is-stable-leader .ensures (a .mem .now)) (y .if1 .left) (law.enough (x .wide .ensures) (q .if2 .left)) (o .key-to-inty .result) (o .key-to-inty .ensures) _ (n .n .given .1) (k .at .result) (k .at .ensures) _ (g .is-responder .ensures) (i .if3 .left) (b .if4 .left) (c .inspect-latest-write .result) (law.packed-as (view (a .node) (a .mem .now)) (part (a .mem .now) slotsAt slotWords) _ _ (c .inspect-latest-write .result) (z .before .before .before .pre .1) (c .inspect-latest-write .ensures (a .mem .now) refl refl))
 
 pub settled-by-spec : {M : Type 1} → statement M
 settled-by-spec =

@@ -5,6 +5,7 @@ use mathlib.Core.List.{List}
 use mathlib.Core.Option.{some}
 use Prim.Native.Nat.{ℕ, _+_, _%_}
 use lib.Dec.{ltb, leb}
+use Rattle.layout.specs.Layout.{slotPlaces}
 use Rattle.bodega.specs.Replica as machine
 use Rattle.bodega.specs.Localread as local
 use Rattle.insts.specs.Slots.{instIn}
@@ -35,26 +36,26 @@ settledOf (settled.MissingPut x) = local.MissingPut (x .slot .0)
 
 -- the slot is held, at this place of the slots' words s, and this says whether a read waits there
 pub record Stands (r : machine.Replica) (s : List ℕ) (x : SlotAt) : Type 0 where
-  pub place : x .place ≡ x .slot .0 % 32
+  pub place : x .place ≡ x .slot .0 % slotPlaces
   pub found : machine.instAt r (x .slot .0) ≡ some (instIn s (x .place))
   pub waits : x .waits ≡ local.waits (instIn s (x .place))
 
-abbrev pub Told : machine.Replica → List ℕ → Settled → Type 0
-Told r s settled.StableLeader = Unit {0}
-Told r s settled.FewLeases = Unit {0}
-Told r s settled.UnreadKey = Unit {0}
-Told r s settled.StoredRange = Unit {0}
-Told r s settled.DefaultRoster = Unit {0}
-Told r s settled.Bar = Unit {0}
-Told r s settled.NoSlot = Unit {0}
-Told r s (settled.SlotStatus slot) = Unit {0}
-Told r s (settled.Notices x) = Stands r s x
-Told r s (settled.FoundPut value) = Unit {0}
-Told r s (settled.MissingPut x) = Stands r s x
+abbrev pub Located : machine.Replica → List ℕ → Settled → Type 0
+Located r s settled.StableLeader = Unit {0}
+Located r s settled.FewLeases = Unit {0}
+Located r s settled.UnreadKey = Unit {0}
+Located r s settled.StoredRange = Unit {0}
+Located r s settled.DefaultRoster = Unit {0}
+Located r s settled.Bar = Unit {0}
+Located r s settled.NoSlot = Unit {0}
+Located r s (settled.SlotStatus slot) = Unit {0}
+Located r s (settled.Notices x) = Stands r s x
+Located r s (settled.FoundPut value) = Unit {0}
+Located r s (settled.MissingPut x) = Stands r s x
 
 -- the condition is y, and what is told of its slot is so
 abbrev pub Settles : machine.Replica → List ℕ → local.Settled → Settled → Type 0
-Settles r s y x = (settledOf x ≡ y) × Told r s x
+Settles r s y x = (settledOf x ≡ y) × Located r s x
 
 -- ---- what a read gets
 
@@ -72,7 +73,7 @@ Places r s (answer.Found value) = Unit {0}
 Places r s answer.Missing = Unit {0}
 Places r s answer.FromStore = Unit {0}
 Places r s answer.Consensus = Unit {0}
-Places r s (answer.HeldBy slot c) = (c ≡ slot .0 % 32) × (machine.instAt r (slot .0) ≡ some (instIn s c))
+Places r s (answer.HeldBy slot c) = (c ≡ slot .0 % slotPlaces) × (machine.instAt r (slot .0) ≡ some (instIn s c))
 Places r s answer.Again = Unit {0}
 
 -- the answer is y, and what it tells of the slot's place is so
