@@ -1,4 +1,4 @@
--- A notice at a slot's place, in the words of the code. Assumes nothing.
+-- A notice at a slot's place, in the words of the code.
 use mathlib.Core.Path.{_≡_, refl, sym, ap, _∙_}
 use mathlib.Core.Bool.{Bool, true, false, not, _||_, _&&_}
 use mathlib.Core.List.{List, [], _∷_, _++_, append-nil}

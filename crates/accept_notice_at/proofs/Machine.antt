@@ -1,4 +1,4 @@
--- `noticed` of the machine, by the instances. Assumes nothing.
+-- `noticed` of the machine, by the instances.
 use mathlib.Core.Path.{_≡_, refl, sym, ap, _∙_}
 use mathlib.Core.Bool.{Bool, true, false, not, _||_, _&&_}
 use mathlib.Core.List.{List, [], _∷_, _++_}

@@ -1,4 +1,5 @@
--- `handle_msg_accept_notice` at the slot of a notice, over what it reads of the replica: quorum, leader and the instances. Assumes nothing: these are definitions.
+-- Bridge: `handle_msg_accept_notice` at the slot of a notice, over what it reads of the replica: quorum, leader and
+-- the instances; tied to `handleMsgAcceptNotice` by proofs/Machine.
 use mathlib.Core.Path.{_≡_}
 use mathlib.Core.Bool.{Bool, false, _&&_, _||_, not}
 use mathlib.Core.List.{List, [], _++_}
@@ -72,13 +73,13 @@ pub record Sets (s : List ℕ) (c : ℕ) (i : Instance) (t : List ℕ) : Type 0 
   pub inst : instIn t c ≡ i
   pub puts : Puts s c (shortAt t c) (batchAt t c) (readsAt t c) t
 
--- what a notice at the slot of place c comes to: so many items r, the slots' words t, and the area after
+-- what a notice at the slot of place c leaves: so many items r, the slots' words t, and the area after
 pub record Notes (quorum : ℕ) (leader : Option ℕ) (peer ballot : ℕ) (last : Bool) (c : ℕ) (s area : List ℕ) (r : ℕ) (t area′ : List ℕ) : Type 0 where
   pub count : r ≡ length (noticedItems quorum leader peer ballot last (instIn s c))
   pub items : area′ ≡ writes area 0 (encode (noticedItems quorum leader peer ballot last (instIn s c)))
   pub slot : Sets s c (noticedInst quorum peer ballot last (instIn s c)) t
 
--- what one at the k-th of the slots held comes to
+-- what one at the k-th of the slots held leaves
 pub record NotesAt (quorum : ℕ) (leader : Option ℕ) (peer ballot start held k : ℕ) (s area : List ℕ) (r : ℕ) (t area′ : List ℕ) : Type 0 where
   pub count : r ≡ length (noticedAt quorum leader peer ballot k (instsOf start held s) .items)
   pub items : area′ ≡ writes area 0 (encode (noticedAt quorum leader peer ballot k (instsOf start held s) .items))

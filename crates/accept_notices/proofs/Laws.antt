@@ -1,4 +1,4 @@
--- A notice taken, in the words of the code. Assumes nothing.
+-- A notice taken, in the words of the code.
 use mathlib.Core.Path.{_≡_}
 use mathlib.Core.Bool.{true}
 use Prim.Native.Nat.{ℕ, _≤_, _<_}

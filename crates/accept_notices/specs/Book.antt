@@ -1,4 +1,5 @@
--- A slot's notice book: a new one, one emptied, and one that takes a notice. Assumes nothing: these are definitions.
+-- Trusted: document 01, "A slot's notice book takes one notice at a time": a new one, one emptied, and one that takes
+-- a notice.
 use mathlib.Core.Path.{_≡_}
 use mathlib.Core.List.{List}
 use Prim.Native.Nat.{ℕ}

@@ -1,5 +1,6 @@
-// A slot's notice book, without the reads that wait: `ReplicaBookkeeping::{accept_notices_bal, accept_notices}`. `cleared` and `taken` do the work by value;
-// `clear` and `take_notice` are lent the book; `emptied` and `noticed` lend theirs, for callers that have a book by value.
+// A slot's notice book, without the reads that wait: `ReplicaBookkeeping::{accept_notices_bal, accept_notices}`.
+// `cleared` and `taken` do the work by value; `clear` and `take_notice` are lent the book; `emptied` and `noticed` lend
+// theirs, for callers that have a book by value.
 use ids::Ballot;
 use ids::Replica;
 use inst_cell::NoticeBook;

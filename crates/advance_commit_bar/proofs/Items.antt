@@ -1,4 +1,4 @@
--- Items after items in an answer area. Assumes nothing.
+-- Items after items in an answer area.
 use mathlib.Core.Path.{_≡_, sym, ap, _∙_}
 use mathlib.Core.List.{List, _++_}
 use Prim.Native.Nat.{ℕ, _+_, _*_}

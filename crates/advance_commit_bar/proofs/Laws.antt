@@ -1,4 +1,4 @@
--- The walk of `advance_commit_bar` at one slot, and as a pass over the slots. Assumes nothing.
+-- The walk of `advance_commit_bar` at one slot, and as a pass over the slots.
 use mathlib.Core.Path.{_≡_, refl, sym, ap, _∙_}
 use mathlib.Core.Bool.{Bool, true, false, not}
 use mathlib.Core.List.{List, [], _∷_, _++_}

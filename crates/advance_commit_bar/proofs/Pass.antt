@@ -1,4 +1,5 @@
--- Slots passed one after the other, up to the first where the pass stops: what is left of the pass, done onto what is built. Assumes nothing.
+-- Slots passed one after the other, up to the first where the pass stops: what is left of the pass, done onto what is
+-- built.
 use mathlib.Core.Path.{_≡_, refl, sym, ap, _∙_}
 use mathlib.Core.Bool.{Bool, true, false}
 use mathlib.Core.List.{List, [], _∷_, _++_, append-assoc}
@@ -22,7 +23,8 @@ use Rattle.advance_commit_bar.proofs.Items.{items-then}
 abbrev pub still : List Instance → Walk
 still l = record { insts = l; items = [] }
 
--- a slot that the pass does not stop at becomes f of it, with the items g; so up to m of them, the first one being `slot`
+-- a slot that the pass does not stop at becomes f of it, with the items g; so up to m of them, the first one being
+-- `slot`
 module _ (stop : Instance → Bool) (f : Instance → Instance) (g : ℕ → Instance → List Item) where
   unfoldable pub pass : ℕ → ℕ → List Instance → Walk
   pass slot zero l = still l

@@ -1,4 +1,5 @@
--- `advance_commit_bar` over the slots' words: what the walk of bodega does at one slot, and what the whole of it comes to. Assumes nothing: these are definitions.
+-- Bridge: `advance_commit_bar` over the slots' words: what the walk does at one slot, and what the whole of it leaves;
+-- tied to `walk` by proofs/Laws.
 use mathlib.Core.Path.{_≡_}
 use mathlib.Core.Bool.{Bool, _||_}
 use mathlib.Core.List.{List, [], _∷_, _++_}
@@ -37,7 +38,8 @@ pub record Marks (c place slot : ℕ) (s area : List ℕ) (r : ℕ) (t area′ :
 abbrev pub walked : ℕ → ℕ → ℕ → ℕ → ℕ → List ℕ → Walk
 walked start n commit ballot bar s = walk ballot commit (bar - commit) (drop (commit - start) (instsOf start n s))
 
--- the slots before the commit bar stay, the others are as the walk leaves them; its items stand in the area from a place on
+-- the slots before the commit bar stay, the others are as the walk leaves them; its items stand in the area from a
+-- place on
 pub record Advances (place start n commit ballot bar : ℕ) (s area : List ℕ) (r : ℕ) (t area′ : List ℕ) : Type 0 where
   pub next : r ≡ place + length (walked start n commit ballot bar s .items)
   pub items : area′ ≡ writes area (place * 6) (encode (walked start n commit ballot bar s .items))

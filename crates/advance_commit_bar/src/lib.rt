@@ -1,4 +1,5 @@
-// `advance_commit_bar`: from the commit bar on, slots below a peer's commit bar become Committed. The slots stand in lent words of crate insts.
+// `advance_commit_bar`: from the commit bar on, slots below a peer's commit bar become Committed. The slots stand in
+// lent words of crate insts.
 use ids::Ballot;
 use ids::Slot;
 use inst_cell::Status;
@@ -36,7 +37,8 @@ pub fn one_if_open(s: &[u64], c: usize) -> usize
     0
 }
 
-// A slot that the walk passes: marked Committed, with its item, unless it was already. Gives the next place of the area.
+// A slot that the walk passes: marked Committed, with its item, unless it was already. Gives the next place of the
+// area.
 fn mark(s: &mut [u64], c: usize, area: &mut [u64], place: usize, slot: Slot) -> usize
     requires { ⌜ (c < slotPlaces) × (slotWords ≤ length (now s)) × (place + oneIfOpen (instIn (now s) c) ≤ places (now area)) ⌝ }
     ensures { λ r. ⌜ Marks c place (slot .0) (now (s .entry)) (now (area .entry)) r (now (s .exit)) (now (area .exit)) ⌝ }

@@ -1,4 +1,4 @@
--- The code's needs: the open slots of the slots' words, the two passes over them, and the whole. Assumes nothing.
+-- The code's needs: the open slots of the slots' words, the two passes over them, and the whole.
 use mathlib.Core.Path.{_≡_, refl, sym, ap, _∙_}
 use mathlib.Core.Bool.{Bool, true, false, not}
 use mathlib.Core.List.{List, [], _∷_, _++_}

@@ -1,4 +1,4 @@
--- The two passes of a step-up as functions on lists, and how many items it has. Assumes nothing.
+-- The two passes of a step-up as functions on lists, and how many items it has.
 use mathlib.Core.Path.{_≡_, refl, sym, ap, _∙_}
 use mathlib.Core.Bool.{Bool, true, false, _||_, true≢false}
 use mathlib.Core.List.{List, [], _∷_, _++_, map}

@@ -1,4 +1,4 @@
--- `become_a_leader` of the machine by the slots' instances alone; what it leaves. Assumes nothing.
+-- `become_a_leader` of the machine by the slots' instances alone; what it leaves.
 use mathlib.Core.Path.{_≡_, refl, sym, ap, _∙_}
 use mathlib.Core.Bool.{Bool, true, false, _||_, not, true≢false}
 use mathlib.Core.List.{List, [], _∷_, _++_, map}

@@ -1,4 +1,4 @@
--- The first and the last open slot of a list. Assumes nothing.
+-- The first and the last open slot of a list.
 use mathlib.Core.Path.{_≡_, refl, sym, ap, _∙_}
 use mathlib.Core.Bool.{Bool, true, false, _&&_, _||_, not, true≢false}
 use mathlib.Core.List.{List, [], _∷_, _++_}

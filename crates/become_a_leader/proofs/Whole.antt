@@ -1,4 +1,4 @@
--- The parts of a step-up one after the other. Assumes nothing.
+-- The parts of a step-up one after the other.
 use mathlib.Core.Path.{_≡_, refl, sym, ap, _∙_}
 use mathlib.Core.Bool.{Bool, true}
 use mathlib.Core.List.{List, [], _∷_, _++_}

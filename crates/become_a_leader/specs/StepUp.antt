@@ -1,4 +1,5 @@
--- `become_a_leader` over what it reads of the replica: start, quorum, leader, ballot and the instances. proofs/Machine ties it to bodega's. Assumes nothing: these are definitions.
+-- Bridge: `become_a_leader` over what it reads of the replica: start, quorum, leader, ballot and the instances; tied
+-- to `becomeALeader` by proofs/Machine.
 use mathlib.Core.Path.{_≡_}
 use mathlib.Core.Bool.{true}
 use mathlib.Core.List.{List, [], _∷_, _++_, map}
@@ -43,7 +44,7 @@ stepUp start quorum leader ballot l =
     let w = releasedFrom quorum leader (suc (lastOpen l - k)) (drop k (p .insts)) in
     record { insts = take k (p .insts) ++ w .insts; items = Lead true ∷ p .items ++ w .items ++ (Prepare (start + k) ballot ∷ []) }
 
--- what a step-up comes to: so many items r, the slots' words t, and the area after
+-- what a step-up leaves: so many items r, the slots' words t, and the area after
 pub record StepsUp (start n quorum : ℕ) (leader : Option ℕ) (ballot : ℕ) (s area : List ℕ) (r : ℕ) (t area′ : List ℕ) : Type 0 where
   pub count : r ≡ length (stepUp start quorum leader ballot (instsOf start n s) .items)
   pub items : area′ ≡ writes area 0 (encode (stepUp start quorum leader ballot (instsOf start n s) .items))

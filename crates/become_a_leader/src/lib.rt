@@ -1,4 +1,5 @@
-// `become_a_leader`: the open slots prepared anew, the reads held from the first to the last of them answered. The slots stand in lent words of crate insts.
+// `become_a_leader`: the open slots prepared anew, the reads held from the first to the last of them answered. The
+// slots stand in lent words of crate insts.
 use ids::Ballot;
 use ids::Leader;
 use ids::Slot;
@@ -181,7 +182,8 @@ fn prelog_all(
     at
 }
 
-// The reads answered from the slot of number `from` up to that of number `to`, their items from a place of the area on. Gives the place after them.
+// The reads answered from the slot of number `from` up to that of number `to`, their items from a place of the area on.
+// Gives the place after them.
 fn release_all(
     s: &mut [u64],
     area: &mut [u64],

@@ -1,5 +1,5 @@
--- The laws of sets of replicas: what marking does to membership, count and bound; what a superset and a mask below the population are;
--- and what ties the code's operations to the definitions. Assumes nothing.
+-- The laws of sets of replicas: what marking does to membership, count and bound; what a superset and a mask below the
+-- population are; and what ties the code's operations to the definitions.
 use mathlib.Core.Path.{_≡_, refl, sym, ap, _∙_}
 use mathlib.Core.Logic.{_≢_}
 use mathlib.Core.Bool.{Bool, true, false, _&&_, _||_, not, true≢false, or-true, or-false, and-true, and-false}

@@ -1,4 +1,4 @@
--- bitmap.rs: sets of replicas, as numbers. Assumes nothing: these are definitions.
+-- Trusted: bitmap.rs, sets of replicas as numbers (document 01, port order 2).
 use Prim.Native.Nat.{ℕ, zero, suc, _+_, _-_, _/_, _%_, _^_}
 use mathlib.Core.Bool.{Bool, true, false, _&&_, _||_, not}
 use lib.Dec.{eqb, ltb}

@@ -1,4 +1,4 @@
--- What holds of both sides of a choice holds of the choice. Assumes nothing.
+-- What holds of both sides of a choice holds of the choice.
 use mathlib.Core.Bool.{Bool, true, false}
 use mathlib.Core.Option.{Option, none, some}
 use mathlib.Core.Path.{_≡_, refl}

@@ -1,4 +1,4 @@
--- Every definition of the machine open at once, for proofs by computing. Assumes nothing.
+-- Every definition of the machine open at once, for proofs by computing.
 use Rattle.bitmap.specs.Bitmap.{tally, every, get, mark, unmark, setTo, count, isSuperset, fits}
 use Rattle.roster_conf.specs.Conf.{getRespondersByKey, setResponders, intoFiltered, same}
 use Rattle.keys.specs.Read.{readKey}

@@ -1,4 +1,4 @@
--- `Answers` determines what a call gives. Assumes nothing.
+-- `Answers` determines what a call gives.
 use mathlib.Core.Path.{_≡_, refl, sym, _∙_}
 use mathlib.Core.Bool.{Bool}
 use mathlib.Core.List.{List}

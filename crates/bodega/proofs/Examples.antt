@@ -1,4 +1,4 @@
--- Document 01's marked rules, by computing. Assumes nothing.
+-- Document 01's marked rules, by computing.
 use mathlib.Core.Path.{refl}
 use Rattle.bodega.specs.Marked.{Each, marked}
 use Rattle.bodega.proofs.Computes.{computes}

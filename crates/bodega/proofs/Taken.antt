@@ -1,4 +1,4 @@
--- A call that is taken meets none of its grounds; one that is refused is refused by the lowest. Assumes nothing.
+-- A call that is taken meets none of its grounds; one that is refused is refused by the lowest.
 use Prim.Native.Nat.{ℕ, _≤_, _<_}
 use mathlib.Core.Bool.{Bool, true, false}
 use mathlib.Core.List.{List, [], _∷_, _++_}

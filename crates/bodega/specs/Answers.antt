@@ -1,4 +1,5 @@
--- The one statement that every public call of the code meets, for a node and a lent buffer that stand for a replica by `view`. Assumes nothing: these are definitions.
+-- Trusted: document 01, "Strength of the statements", 1: the one statement that every public call of the code meets,
+-- for a node and a lent buffer that stand for a replica by `view`.
 use mathlib.Core.Path.{_≡_}
 use mathlib.Core.Bool.{Bool, true}
 use mathlib.Core.List.{List}
@@ -19,7 +20,8 @@ pub record Given (Node : Type 0) : Type 0 where
   pub node : Node
 
 module _ {Node : Type 0} (ready : Node → List ℕ → Bool) (view : Node → List ℕ → Replica) where
-  -- refusal 2 where the buffer is too short or the node is none that a call made; else what the machine does at what they stand for
+  -- refusal 2 where the buffer is too short or the node is none that a call made; else what the machine does at what
+  -- they stand for
   unfoldable pub due : Call → Node → List ℕ → List ℕ → Step
   due c node mem area = if ready node mem then step (view node mem) c (places area) else Refused 2
 
@@ -31,7 +33,8 @@ module _ {Node : Type 0} (ready : Node → List ℕ → Bool) (view : Node → L
     pub sameMem : mem′ ≡ mem
     pub sameArea : area′ ≡ area
 
-  -- the items stand at the start of the area, and all else in it is as it was, like the words past the node's; of those words only what the view does not see is free
+  -- the items stand at the start of the area, and all else in it is as it was, like the words past the node's; of those
+  -- words only what the view does not see is free
   pub record Takes (s : Replica) (l : List Item) (mem area : List ℕ) (g : Given Node) (mem′ area′ : List ℕ) : Type 0 where
     pub number : g .number ≡ 0
     pub count : g .count ≡ length l

@@ -1,4 +1,4 @@
--- conflease.rs: adoptions, guards, the reading bar, step-up. Assumes nothing: these are definitions.
+-- Trusted: conflease.rs, adoptions, guards, the reading bar, step-up (document 01, port order 5).
 use Prim.Native.Nat.{ℕ, suc, _+_, _-_}
 use mathlib.Core.Bool.{Bool, true, false, _&&_, _||_, not}
 use mathlib.Core.List.{List, [], _∷_, _++_, map}

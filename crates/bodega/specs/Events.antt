@@ -1,4 +1,4 @@
--- The events that document 01 takes: prepared, record, bars. Assumes nothing: these are definitions.
+-- Trusted: document 01, "Events taken": *prepared*, *record*, *bars*.
 use Prim.Native.Nat.{ℕ, zero, suc, _-_}
 use mathlib.Core.List.{List, [], _∷_}
 use mathlib.Core.Option.{none, some}

@@ -1,5 +1,5 @@
--- Document 01, "Why a call is turned away": for each call the grounds that it can meet, by number. Those of lines (1), of lent buffers (2) and of roster edits (6, 7, 17)
--- are not among them. Assumes nothing: these are definitions.
+-- Trusted: document 01, "Why a call is turned away": for each call the grounds that it can meet, by number. Those of
+-- lines (1), of lent buffers (2) and of roster edits (6, 7, 17) are not among them.
 use Prim.Native.Nat.{ℕ, _+_, _-_}
 use mathlib.Core.Bool.{Bool, true, false, _&&_, _||_, not}
 use mathlib.Core.List.{List, [], _∷_}
@@ -26,7 +26,8 @@ any f (x ∷ xs) = f x || any f xs
 
 -- ---- tests
 
--- 2, 3, 4: of a heartbeat's roster. 2: one that no edits make, more than 64 ranges or ranges that do not ascend, disjoint and joined; the Rust can hold none
+-- 2, 3, 4: of a heartbeat's roster. 2: one that no edits make, more than 64 ranges or ranges that do not ascend,
+-- disjoint and joined; the Rust can hold none
 abbrev pub unformed : Option Conf → Bool
 unformed conf = ifNone conf then false else λ c. not (isGood c)
 

@@ -1,4 +1,4 @@
--- heartbeat.rs: ballots, heartbeats, commit notices. Assumes nothing: these are definitions.
+-- Trusted: heartbeat.rs, ballots, heartbeats, commit notices (document 01, port order 6).
 use Prim.Native.Nat.{ℕ, zero, suc, _+_, _-_, _%_, max}
 use mathlib.Core.Bool.{Bool, false, _&&_, _||_, not}
 use mathlib.Core.List.{List, [], _∷_, _++_}

@@ -1,4 +1,5 @@
--- localread.rs: the commit condition, the highest slots, and reads at a responder. Assumes nothing: these are definitions.
+-- Trusted: localread.rs, the commit condition, the highest slots, and reads at a responder (document 01, port order 4
+-- and 8).
 use Prim.Native.Nat.{ℕ, zero, suc, _+_, max}
 use mathlib.Core.Bool.{Bool, true, false, _&&_, _||_, not}
 use mathlib.Core.List.{List, [], _∷_, _++_, map}

@@ -1,4 +1,4 @@
--- Document 01, "Marked P": one list. Assumes nothing: these are definitions.
+-- Trusted: document 01, "Marked P": one list.
 use Prim.Native.Nat.{ℕ}
 use Prim.Native.String.{String}
 use mathlib.Core.Bool.{true, false}

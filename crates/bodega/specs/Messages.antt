@@ -1,4 +1,4 @@
--- messages.rs: accept replies and accept notices. Assumes nothing: these are definitions.
+-- Trusted: messages.rs, accept replies and accept notices (document 01, port order 7).
 use Prim.Native.Nat.{ℕ, zero, suc, _+_, _-_}
 use mathlib.Core.Bool.{_&&_, _||_, not}
 use mathlib.Core.List.{List, [], _∷_, _++_}

@@ -1,6 +1,6 @@
--- mod.rs: what a replica holds, the calls that it takes and the items that it answers. Where the Rust has one long struct the fields stand in groups:
--- `bal_max_seen` is `.bal .maxSeen`, `commit_bar` is `.bar .commit`, `start_slot` is `.bar .start`, `peer_accept_max` is `.peerAccept .max`.
--- Assumes nothing: these are definitions.
+-- Trusted: mod.rs, what a replica holds, the calls that it takes and the items that it answers. Where the Rust has one
+-- long struct the fields stand in groups: `bal_max_seen` is `.bal .maxSeen`, `commit_bar` is `.bar .commit`,
+-- `start_slot` is `.bar .start`, `peer_accept_max` is `.peerAccept .max`.
 use Prim.Native.Nat.{ℕ, _+_, _-_}
 use mathlib.Core.Bool.{Bool}
 use mathlib.Core.List.{List, [], _++_}

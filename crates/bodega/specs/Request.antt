@@ -1,4 +1,4 @@
--- request.rs: `treat_read_only_reqs`, for one read. Assumes nothing: these are definitions.
+-- Trusted: request.rs, `treat_read_only_reqs`, for one read (document 01, port order 8).
 use Prim.Native.Nat.{ℕ}
 use mathlib.Core.Bool.{not}
 use mathlib.Core.List.{[], _∷_}

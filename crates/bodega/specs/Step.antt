@@ -1,4 +1,4 @@
--- A call at a replica, and a list of calls. Assumes nothing: these are definitions.
+-- Trusted: a call at a replica, and a list of calls (document 01, "The list of calls").
 use Prim.Native.Nat.{ℕ, _≤_}
 use mathlib.Core.Bool.{Bool, true, false}
 use mathlib.Core.List.{List, [], _∷_, _++_}

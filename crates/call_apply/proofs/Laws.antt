@@ -1,4 +1,4 @@
--- What a call's function ensures is what is asked of the call. Assumes nothing.
+-- What a call's function ensures is what is asked of the call.
 use mathlib.Core.Path.{_≡_}
 use mathlib.Core.List.{List}
 use Prim.Native.Nat.{ℕ}

@@ -1,4 +1,4 @@
--- The call of the machine that a call of the code is, with what is lent beside it. Assumes nothing: these are definitions.
+-- Trusted: the call of the machine that a `Call` of the code is, with what is lent beside it.
 use mathlib.Core.Bool.{Bool, _&&_}
 use mathlib.Core.List.{List}
 use Prim.Native.Nat.{ℕ}

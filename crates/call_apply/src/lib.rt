@@ -1,4 +1,5 @@
-// The ten calls as one: what a call carries by value is in `Call`; a roster's or a batch's rows, and the text of keys, are lent beside it.
+// The ten calls as one: what a call carries by value is in `Call`; a roster's or a batch's rows, and the text of keys,
+// are lent beside it.
 use ids::Ballot;
 use ids::Replica;
 use ids::Slot;

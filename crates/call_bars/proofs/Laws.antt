@@ -1,4 +1,4 @@
--- The grounds of *bars* test by test, the slots executed one by one, and the call. Assumes nothing.
+-- The grounds of *bars* test by test, the slots executed one by one, and the call.
 use mathlib.Core.Path.{_≡_, refl, sym, ap, _∙_}
 use mathlib.Core.Bool.{Bool, true, false, not, _&&_, _||_}
 use mathlib.Core.List.{List, [], _∷_}

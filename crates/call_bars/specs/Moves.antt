@@ -1,4 +1,5 @@
--- What the code of *bars* tests, from the bars as they are and the slots held, and what it does to the slots' words. Assumes nothing: these are definitions.
+-- Bridge: what the code of *bars* tests, from the bars as they are and the slots held, and what it does to the slots'
+-- words; tied to `grounds` and `bars` by proofs/Laws.
 use mathlib.Core.Path.{_≡_}
 use mathlib.Core.Bool.{Bool, _&&_, _||_, not}
 use mathlib.Core.List.{List, []}

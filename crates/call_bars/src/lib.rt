@@ -1,4 +1,5 @@
-// The call *bars*: start, accept, commit and exec bar move, slots below exec become Executed and slots below start are dropped.
+// The call *bars*: start, accept, commit and exec bar move, slots below exec become Executed and slots below start are
+// dropped.
 use ids::Slot;
 use inst_cell::Status;
 use node::Answered;

@@ -1,4 +1,4 @@
--- *commit*: its grounds, and the walk at the node's view. Assumes nothing.
+-- *commit*: its grounds, and the walk at the node's view.
 use mathlib.Core.Path.{_≡_, refl, sym, _∙_}
 use mathlib.Core.Bool.{Bool, false, not}
 use mathlib.Core.List.{List}

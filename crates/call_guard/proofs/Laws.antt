@@ -1,4 +1,4 @@
--- *guard*: its grounds, the pair it alters and the reading bar worked out anew. Assumes nothing.
+-- *guard*: its grounds, the pair it alters and the reading bar worked out anew.
 use mathlib.Core.Path.{_≡_, refl, sym, ap, _∙_}
 use mathlib.Core.Bool.{Bool, false, not}
 use mathlib.Core.List.{List}

@@ -1,4 +1,4 @@
--- The bars of a heartbeat: the walk, then a peer's exec and snap bar, at the node's view. Assumes nothing.
+-- The bars of a heartbeat: the walk, then a peer's exec and snap bar, at the node's view.
 use mathlib.Core.Path.{_≡_, refl, sym, ap, _∙_}
 use mathlib.Core.Bool.{true}
 use mathlib.Core.List.{List, [], append-nil}

@@ -1,4 +1,4 @@
--- *heartbeat*: its parts one after the other, and the one statement for a call that a roster may be attached to. Assumes nothing.
+-- *heartbeat*: its parts one after the other, and the one statement for a call that a roster may be attached to.
 use mathlib.Core.Path.{_≡_, refl, sym, ap, _∙_}
 use mathlib.Core.Bool.{Bool, true, false, not, _&&_, _||_}
 use mathlib.Core.List.{List}

@@ -1,4 +1,4 @@
--- A heartbeat of a whole replica: the roster, then the bars; how many items. Assumes nothing.
+-- A heartbeat of a whole replica: the roster, then the bars; how many items.
 use mathlib.Core.Path.{_≡_, refl, sym, ap, _∙_}
 use mathlib.Core.Bool.{Bool, true, false, _&&_}
 use mathlib.Core.List.{List, [], _++_, append-nil}

@@ -1,4 +1,4 @@
--- The roster of a heartbeat, and the grounds that turn it away, at the node's view. Assumes nothing.
+-- The roster of a heartbeat, and the grounds that turn it away, at the node's view.
 use mathlib.Core.Path.{_≡_, refl, sym, ap, _∙_}
 use mathlib.Core.Bool.{Bool, true, false, not, _&&_, _||_}
 use mathlib.Core.List.{List, []}

@@ -1,4 +1,5 @@
--- *heartbeat*: the roster that it carries, and what the code tests. Assumes nothing: these are definitions.
+-- Trusted: the roster that a heartbeat carries, and whether its words are whole. What the code tests is a bridge, tied
+-- to `grounds` by proofs/Refusals.
 use mathlib.Core.Path.{_≡_}
 use mathlib.Core.Bool.{Bool, true, _&&_, _||_, not}
 use mathlib.Core.List.{List, []}

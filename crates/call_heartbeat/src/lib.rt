@@ -24,7 +24,8 @@ ghost use Rattle.call_heartbeat.specs.Heartbeat.{fitting, carried, lacks
 
 // ---- the bars
 
-// Slots below the commit bar become Committed, with their items from a place of the area on; then a peer's exec and snap bar.
+// Slots below the commit bar become Committed, with their items from a place of the area on; then a peer's exec and
+// snap bar.
 fn heard_bars(
     node: Node,
     mem: &mut [u64],

@@ -1,4 +1,4 @@
--- *notice*: its grounds; below start; of a higher ballot; of the replica's own. Assumes nothing.
+-- *notice*: its grounds; below start; of a higher ballot; of the replica's own.
 use mathlib.Core.Path.{_≡_, refl, sym, ap, _∙_}
 use mathlib.Core.Bool.{Bool, true, false, not, _&&_, true≢false}
 use mathlib.Core.List.{List, [], _∷_}

@@ -1,4 +1,5 @@
--- *notice*: what the code tests, and a leader that steps down. Assumes nothing: these are definitions.
+-- Bridge: *notice*, what the code tests, and a leader that steps down; tied to `grounds` and `checkBallot` by
+-- proofs/Laws.
 use mathlib.Core.Path.{_≡_}
 use mathlib.Core.Bool.{Bool, true, false, _&&_}
 use mathlib.Core.List.{List, [], _∷_}
@@ -17,7 +18,7 @@ abbrev pub noticeRefusal : ℕ → Bool → ℕ → ℕ → ℕ → ℕ
 noticeRefusal population current start peer slot =
     lowest (3 when leb population peer or 8 when ltb top slot or 15 when current && leb (start + window) slot or [])
 
--- `check_ballot`: the items, and what putting them comes to
+-- `check_ballot`: the items, and what putting them leaves
 abbrev pub stepDown : Bool → List Item
 stepDown led = if led then Lead false ∷ [] else []
 

@@ -1,4 +1,4 @@
--- *prepared*: its ground and its effect. Assumes nothing.
+-- *prepared*: its ground and its effect.
 use mathlib.Core.Path.{_≡_, refl, sym, ap, _∙_}
 use mathlib.Core.Bool.{Bool, true, false, not, _&&_, _||_}
 use mathlib.Core.List.{List, []}

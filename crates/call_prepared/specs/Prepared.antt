@@ -1,4 +1,4 @@
--- *prepared*: what the code tests. Assumes nothing: these are definitions.
+-- Bridge: *prepared*, what the code tests; tied to `grounds` by proofs/Laws.
 use mathlib.Core.Bool.{Bool, _&&_, not}
 use mathlib.Core.Option.{Option}
 use Prim.Native.Nat.{ℕ}

@@ -1,4 +1,5 @@
--- A read at the replica that a node and its buffer stand for: its grounds, its item, and the read at the end of a slot's queue. Assumes nothing.
+-- A read at the replica that a node and its buffer stand for: its grounds, its item, and the read at the end of a
+-- slot's queue.
 use mathlib.Core.Path.{_≡_, refl, sym, ap, _∙_}
 use mathlib.Core.Bool.{Bool, true, false, not}
 use mathlib.Core.List.{List, [], _∷_, _++_}

@@ -1,4 +1,4 @@
--- The grounds of *record* test by test, the slot's place, the slots, and the call. Assumes nothing.
+-- The grounds of *record* test by test, the slot's place, the slots, and the call.
 use mathlib.Core.Path.{_≡_, refl, sym, ap, _∙_}
 use mathlib.Core.Bool.{Bool, true, false, not, _||_}
 use mathlib.Core.List.{List, [], _++_, append-nil}

@@ -1,4 +1,5 @@
--- What the code of *record* tests, from numbers and the slots held, and what it makes of a place and of the slots. Assumes nothing: these are definitions.
+-- Bridge: what the code of *record* tests, from numbers and the slots held, and what it makes of a place and of the
+-- slots; tied to `grounds` and `recorded` by proofs/Laws.
 use mathlib.Core.Path.{_≡_}
 use mathlib.Core.Bool.{Bool, true, false, _||_, not}
 use mathlib.Core.List.{List, [], _++_}

@@ -1,4 +1,5 @@
-// The call *record*: a batch into a slot at the current ballot; null slots before it where they are not held, and the keys that it writes.
+// The call *record*: a batch into a slot at the current ballot; null slots before it where they are not held, and the
+// keys that it writes.
 use ids::Ballot;
 use ids::Slot;
 use inst_cell::Cell;

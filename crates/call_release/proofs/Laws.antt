@@ -1,4 +1,4 @@
--- *release*: its grounds, and the held reads answered. Assumes nothing.
+-- *release*: its grounds, and the held reads answered.
 use mathlib.Core.Path.{_≡_, refl, sym, ap, _∙_}
 use mathlib.Core.Bool.{Bool, true, false, not, _||_}
 use mathlib.Core.List.{List, []}

@@ -1,4 +1,4 @@
--- *release*: what the code tests. Assumes nothing: these are definitions.
+-- Bridge: *release*, what the code tests; tied to `grounds` by proofs/Laws.
 use mathlib.Core.Bool.{_||_}
 use mathlib.Core.List.{[]}
 use Prim.Native.Nat.{ℕ, _+_}

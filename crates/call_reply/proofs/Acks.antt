@@ -1,4 +1,4 @@
--- The ack of a peer at its slot: whether it is taken, what it does, and the slot's words after it. Assumes nothing.
+-- The ack of a peer at its slot: whether it is taken, what it does, and the slot's words after it.
 use mathlib.Core.Path.{_≡_, refl, sym, ap, subst, _∙_}
 use mathlib.Core.Bool.{Bool, true, false, not}
 use mathlib.Core.List.{List}

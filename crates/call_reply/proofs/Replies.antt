@@ -1,4 +1,4 @@
--- The tests of *reply*, its items and its ack at the replica that a node and its buffer stand for, and the call. Assumes nothing.
+-- The tests of *reply*, its items and its ack at the replica that a node and its buffer stand for, and the call.
 use mathlib.Core.Path.{_≡_, refl, sym, ap, subst, _∙_}
 use mathlib.Core.Bool.{Bool, true, false, not, _&&_, _||_}
 use mathlib.Core.List.{List, [], _∷_, _++_, append-nil}

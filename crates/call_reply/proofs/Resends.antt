@@ -1,4 +1,4 @@
--- The Accepts that are sent again, slot by slot. Assumes nothing.
+-- The Accepts that are sent again, slot by slot.
 use mathlib.Core.Path.{_≡_, refl, sym, ap, _∙_}
 use mathlib.Core.Bool.{Bool, true, false, not}
 use mathlib.Core.List.{List, [], _∷_, _++_, append-nil}

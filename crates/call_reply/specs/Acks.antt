@@ -1,4 +1,4 @@
--- The ack of a peer at its slot, over the slots' words. Assumes nothing: these are definitions.
+-- Bridge: the ack of a peer at its slot, over the slots' words; tied to `handleMsgAcceptReply` by proofs/Replies.
 use mathlib.Core.Path.{_≡_}
 use mathlib.Core.Bool.{_||_, not}
 use mathlib.Core.List.{List, [], _∷_}

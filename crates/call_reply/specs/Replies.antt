@@ -1,4 +1,5 @@
--- *reply*: what the code tests, and what a reply that is waited on does to the slots' words and the answer area. Assumes nothing: these are definitions.
+-- Bridge: *reply*, what the code tests, and what a reply that is waited on does to the slots' words and the answer
+-- area; tied to `grounds` and `handleMsgAcceptReply` by proofs/Replies.
 use mathlib.Core.Path.{_≡_}
 use mathlib.Core.Bool.{Bool, _&&_, not}
 use mathlib.Core.List.{List, [], _++_}

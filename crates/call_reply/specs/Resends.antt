@@ -1,4 +1,4 @@
--- `resend_missed_accepts`, adjacent, over the slots' words. Assumes nothing: these are definitions.
+-- Bridge: `resend_missed_accepts`, adjacent, over the slots' words; tied to `resendMissedAccepts` by proofs/Replies.
 use mathlib.Core.Bool.{not}
 use mathlib.Core.List.{List, [], _∷_}
 use Prim.Native.Nat.{ℕ, zero, suc, _+_, _%_}

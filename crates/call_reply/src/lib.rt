@@ -1,4 +1,5 @@
-// The call *reply*: a peer's accept reply. Accepts that the peer seems to have missed are sent again, its ack is taken, and a slot whose acks suffice commits.
+// The call *reply*: a peer's accept reply. Accepts that the peer seems to have missed are sent again, its ack is taken,
+// and a slot whose acks suffice commits.
 use ids::Ballot;
 use ids::Replica;
 use ids::Slot;

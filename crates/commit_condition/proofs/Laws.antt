@@ -1,4 +1,4 @@
--- What a written key asks of the acks, and the requests of a batch one by one. Assumes nothing.
+-- What a written key asks of the acks, and the requests of a batch one by one.
 use mathlib.Core.Path.{_≡_, refl, sym, ap, _∙_}
 use mathlib.Core.Logic.{_⊎_, ⊎-elim}
 use mathlib.Core.Bool.{Bool, true, false, not, _&&_}

@@ -1,4 +1,4 @@
--- What a written key asks of the acks. Assumes nothing: this is a definition.
+-- Bridge: what a written key asks of the acks; tied to `commitCondition` by proofs/Laws.
 use Prim.Native.Nat.{ℕ}
 use mathlib.Core.Bool.{Bool}
 use mathlib.Core.List.{List}

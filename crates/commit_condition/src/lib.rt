@@ -53,7 +53,8 @@ fn acked(acks: u64, batch: &[u64], i: usize, conf: RespondersConf, rows: &[u64])
     true
 }
 
-// The acks reach the quorum, and hold every responder of each written key that reads. An empty batch asks for the quorum only.
+// The acks reach the quorum, and hold every responder of each written key that reads. An empty batch asks for the
+// quorum only.
 pub fn commit_condition(
     acks: u64,
     batch: &[u64],

@@ -1,4 +1,4 @@
--- One digit more of a number in decimal; how many digits a number has; what is written where. Assumes nothing.
+-- One digit more of a number in decimal; how many digits a number has; what is written where.
 use mathlib.Core.Path.{_≡_, refl, sym, ap, _∙_}
 use mathlib.Core.Bool.{Bool, true, false}
 use mathlib.Core.List.{List, [], _∷_, _++_}

@@ -1,4 +1,4 @@
--- What a writer answers and leaves in the lent bytes. Assumes nothing: these are definitions.
+-- Trusted: what a writer of decimals answers and leaves in the lent bytes.
 use Prim.Native.Nat.{ℕ, _+_}
 use mathlib.Core.List.{List}
 use lib.Dec.{leb}

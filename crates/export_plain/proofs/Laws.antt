@@ -1,4 +1,4 @@
--- A node and a roster as plain structs and back. Assumes nothing.
+-- A node and a roster as plain structs and back.
 use mathlib.Core.Path.{_≡_, refl, sym, ap}
 use Prim.Native.Nat.{ℕ}
 use borrow.Author.Tests.{eq-eqb, ne-eqb}

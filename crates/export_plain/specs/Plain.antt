@@ -1,4 +1,4 @@
--- The node and a roster as plain structs, for a caller that has no enums. Assumes nothing: these are definitions.
+-- Trusted: the node and a roster as plain structs, for a caller that has no enums.
 use mathlib.Core.Path.{_≡_}
 use Prim.Native.Nat.{ℕ}
 use lib.Dec.{eqb}
@@ -122,6 +122,7 @@ given r = record { number = r .number; count = r .count; node = nodeOf (r .node)
 abbrev pub freshOf : PlainAnswered → Fresh
 freshOf r = if eqb (r .number) 0 then Made (nodeOf (r .node)) else Refused (r .number)
 
--- No field is free: a call that is taken gives what `plainOf` makes of its node, one that is refused what it was handed.
+-- No field is free: a call that is taken gives what `plainOf` makes of its node, one that is refused what it was
+-- handed.
 unfoldable pub GivesBack : Plain → PlainAnswered → Type 0
 GivesBack p r = r .node ≡ (if eqb (r .number) 0 then plainOf (nodeOf (r .node)) else p)

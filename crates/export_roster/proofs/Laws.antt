@@ -1,4 +1,5 @@
--- What the proofs of this crate share: the answers as numbers, and that an edit of a roster with no leader and default 0 makes another. Assumes nothing.
+-- What the proofs of this crate share: the answers as numbers, and that an edit of a roster with no leader and default
+-- 0 makes another.
 use mathlib.Core.Path.{_≡_, refl, sym, ap, _∙_}
 use mathlib.Core.Bool.{Bool, true, false, _&&_}
 use mathlib.Core.List.{List, _∷_, []}

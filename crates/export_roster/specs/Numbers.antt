@@ -1,4 +1,4 @@
--- The answers as numbers, for a caller that has no enums. Assumes nothing: these are definitions.
+-- Trusted: the answers as numbers, for a caller that has no enums.
 use Prim.Native.Nat.{ℕ, _/_, _%_, _^_}
 use mathlib.Core.Path.{_≡_}
 use mathlib.Core.Option.{Option, none, some}

@@ -1,5 +1,5 @@
-// Key reading, roster edits and lookup over words that the caller lends, for functions that are exported: an enum's answer
-// is a number.
+// Key reading, roster edits and lookup over words that the caller lends, for functions that are exported: an enum's
+// answer is a number.
 use ids::Leader;
 use ids::Replica;
 use keys::KeyRead;

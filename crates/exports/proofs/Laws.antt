@@ -1,4 +1,4 @@
--- That a call's answer says the same of a node and of its plain struct. Assumes nothing.
+-- That a call's answer says the same of a node and of its plain struct.
 use mathlib.Core.Path.{_≡_, refl, sym, ap}
 use mathlib.Core.Bool.{Bool, true, false, _&&_}
 use mathlib.Core.List.{List}

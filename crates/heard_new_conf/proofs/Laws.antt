@@ -1,4 +1,4 @@
--- `heard_new_conf` on a node and its buffer. Assumes nothing.
+-- `heard_new_conf` on a node and its buffer.
 use mathlib.Core.Path.{_≡_, refl, sym, ap, _∙_}
 use mathlib.Core.Bool.{Bool, true, false, not}
 use mathlib.Core.List.{List, _∷_}

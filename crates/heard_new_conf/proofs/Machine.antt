@@ -1,4 +1,5 @@
--- `heard_new_conf` of a whole replica: what it leaves as it was, how many items it has, and that the commit walk finds nothing after a step-up. Assumes nothing.
+-- `heard_new_conf` of a whole replica: what it leaves as it was, how many items it has, and that the commit walk finds
+-- nothing after a step-up.
 use mathlib.Core.Path.{_≡_, refl, ap, _∙_}
 use mathlib.Core.Bool.{Bool, true, false}
 use mathlib.Core.List.{[]}

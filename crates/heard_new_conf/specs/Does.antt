@@ -1,4 +1,5 @@
--- What a part of a call does: the machine's replica and items, the items from a place of the area on. Assumes nothing: these are definitions.
+-- Bridge: what a part of a call does: the machine's replica and items, the items from a place of the area on; tied to
+-- `Answers` by call_heartbeat/proofs/Call.
 use mathlib.Core.Path.{_≡_}
 use mathlib.Core.Bool.{Bool, true}
 use mathlib.Core.List.{List}

@@ -1,4 +1,4 @@
--- The peers' exec bars forgotten, in lent words. Assumes nothing: these are definitions.
+-- Bridge: the peers' exec bars forgotten, in lent words; tied to `heardNewConf` by proofs/Laws.
 use mathlib.Core.Path.{_≡_}
 use mathlib.Core.List.{List}
 use Prim.Native.Nat.{ℕ, _≤_}

@@ -1,4 +1,5 @@
-// `heard_new_conf`: a roster adopted at a ballot, and the step-up where it names the replica leader; for the calls that adopt one.
+// `heard_new_conf`: a roster adopted at a ballot, and the step-up where it names the replica leader; for the calls that
+// adopt one.
 use ids::Ballot;
 use ids::Replica;
 use ids::Slot;

@@ -1,4 +1,4 @@
--- The written keys: a search over the entries, and a write noted in place or after the others. Assumes nothing.
+-- The written keys: a search over the entries, and a write noted in place or after the others.
 use mathlib.Core.Path.{_≡_, refl, sym, ap, _∙_}
 use mathlib.Core.Bool.{Bool, true, false, true≢false}
 use mathlib.Core.Logic.{inl, inr, ⊎-elim}

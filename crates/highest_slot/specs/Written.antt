@@ -1,4 +1,5 @@
--- The written keys in lent words. Assumes nothing: these are definitions.
+-- Trusted: the written keys that lent words stand for. What a write leaves is a bridge, tied by
+-- highest_slot_refresh/proofs/Laws.
 use mathlib.Core.Path.{_≡_}
 use mathlib.Core.Bool.{Bool, false}
 use mathlib.Core.List.{List, [], _∷_}
@@ -38,7 +39,7 @@ placeOf i key (h ∷ hs) = if sameBytes (h .key) key then Entry i else placeOf (
 abbrev pub capped : List machine.Highest → Option (List machine.Highest)
 capped l = if leb (length l) writtenPlaces then some l else none
 
--- what a write of a key at a slot comes to on the words s: the answer, and the words t
+-- what a write of a key at a slot leaves on the words s: the answer, and the words t
 pub record Notes (s : List ℕ) (key : List ℕ) (slot : ℕ) (r : Bool) (t : List ℕ) : Type 0 where
   pub outcome : (if r then some (writtenOf t) else none) ≡ capped (raise slot key (writtenOf s))
   pub refused : r ≡ false → t ≡ s

@@ -1,4 +1,5 @@
--- `refresh_highest_slot` request by request: which keys are written after it, how many, and the written keys in lent words. Assumes nothing.
+-- `refresh_highest_slot` request by request: which keys are written after it, how many, and the written keys in lent
+-- words.
 use mathlib.Core.Path.{_≡_, refl, sym, ap, _∙_}
 use mathlib.Core.Bool.{Bool, true, false, _||_, or-false}
 use mathlib.Core.List.{List, [], _∷_, _++_}

@@ -1,4 +1,5 @@
--- `refresh_highest_slot` on the written keys in lent words. Assumes nothing: these are definitions.
+-- Bridge: `refresh_highest_slot` on the written keys in lent words; tied to `refreshHighestSlot` by
+-- call_record/proofs/Laws.
 use mathlib.Core.Path.{_≡_}
 use mathlib.Core.List.{List}
 use Prim.Native.Nat.{ℕ, _≤_}

@@ -1,4 +1,4 @@
--- No replica that calls reach holds more than document 01's limits. Assumes nothing.
+-- No replica that calls reach holds more than document 01's limits.
 use Prim.Native.Nat.{ℕ, zero, suc, _+_, _-_, _≤_, _<_}
 use mathlib.Core.Bool.{false, _&&_, _||_, not}
 use mathlib.Core.List.{List, [], _∷_}

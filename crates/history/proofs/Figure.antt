@@ -1,4 +1,4 @@
--- Demand 3: the reading bar is the table's figure after every list of calls. Assumes nothing.
+-- Demand 3: the reading bar is the table's figure after every list of calls.
 use Prim.Native.Nat.{ℕ}
 use mathlib.Core.List.{List, [], _∷_}
 use mathlib.Core.Option.{Option, none, some}

@@ -1,4 +1,5 @@
--- Where there is no adoption and no raised ballot, the pairs are settled by the set of accepted guards, and the figure by the pairs. Assumes nothing.
+-- Where there is no adoption and no raised ballot, the pairs are settled by the set of accepted guards, and the figure
+-- by the pairs.
 use Prim.Native.Nat.{ℕ, _<_}
 use mathlib.Core.Bool.{Bool, true, false, _&&_, not, Bool-set, true≢false}
 use mathlib.Core.List.{List, [], _∷_, List·Mem, List·Memᴰ, List·Memᴰ·head, List·Memᴰ·tail, List·Memᴰ·not-nil, List·Memᴰ·cases-cons}

@@ -1,4 +1,4 @@
--- No call at a replica that calls reach has more than 546 items. Assumes nothing.
+-- No call at a replica that calls reach has more than 546 items.
 use Prim.Native.Nat.{ℕ, zero, suc, _+_, _*_, _-_, _≤_, _<_}
 use mathlib.Core.Bool.{Bool, true, false, _&&_, _||_, not}
 use mathlib.Core.List.{List, [], _∷_, _++_, append-nil}

@@ -1,4 +1,4 @@
--- What a change of one slot leaves alone, these calls leave alone. Assumes nothing.
+-- What a change of one slot leaves alone, these calls leave alone.
 use Prim.Native.Nat.{ℕ, zero, suc, _+_}
 use mathlib.Core.Bool.{_&&_, _||_, not}
 use mathlib.Core.List.{List}

@@ -1,4 +1,4 @@
--- From the machine to code that meets `Answers`. Assumes nothing.
+-- From the machine to code that meets `Answers`.
 use mathlib.Core.Path.{_≡_, refl, sym, ap, _∙_}
 use mathlib.Core.Bool.{Bool, true, false, _&&_}
 use mathlib.Core.List.{List, [], _∷_, _++_, List·Memᴰ, List·Memᴰ·tail, List·Memᴰ·not-nil, List·Memᴰ·cases-cons}
@@ -42,7 +42,7 @@ module _ {Node : Type 0} (view : Node → List ℕ → Replica) where
       }
 
   module _ (ready : Node → List ℕ → Bool) where
-    -- what a call comes to: the table is fed, and a guard that is taken is of a replica below the population
+    -- what a call leaves: the table is fed, and a guard that is taken is of a replica below the population
     record Comes (c : Call) (node : Node) (mem : List ℕ) (g : Given Node) (mem′ : List ℕ) : Type 0 where
       table : tableOf (view (g .node) mem′) ≡ feed (tableOf (view node mem)) (made-of.fedOf ready view c g)
       inside : (peer number bar : ℕ) → c ≡ Guard peer number bar → eqb (g .number) 0 ≡ true → peer < tableOf (view node mem) .population

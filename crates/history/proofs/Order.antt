@@ -1,4 +1,4 @@
--- Pairs are ordered by `beats`: a larger number, or an equal one with a smaller bar. Assumes nothing.
+-- Pairs are ordered by `beats`: a larger number, or an equal one with a smaller bar.
 use Prim.Native.Nat.{ℕ, _≤_, _<_}
 use mathlib.Core.Bool.{Bool, true, false, _&&_, _||_}
 use mathlib.Core.Path.{_≡_, refl, sym, _∙_}

@@ -1,4 +1,5 @@
--- Demand 3: whatever the order and repeats of guards between neighbouring changes of ballot or roster, the figure at their end is the same. Assumes nothing.
+-- Demand 3: whatever the order and repeats of guards between neighbouring changes of ballot or roster, the figure at
+-- their end is the same.
 use Prim.Native.Nat.{ℕ, _<_}
 use mathlib.Core.Bool.{Bool, true, false}
 use mathlib.Core.List.{List, [], _∷_, _++_, List·Memᴰ·not-nil, List·Memᴰ·cases-cons}

@@ -1,4 +1,5 @@
--- What the table holds is a part of what the replica holds, and each call changes that part as the table is changed by it. Assumes nothing.
+-- What the table holds is a part of what the replica holds, and each call changes that part as the table is changed by
+-- it.
 use Prim.Native.Nat.{ℕ}
 use mathlib.Core.Bool.{Bool, true, false, _&&_, not}
 use mathlib.Core.List.{List, [], _++_}

@@ -1,4 +1,4 @@
--- Document 01, "What a node holds, and how much", and refusal 20: what no list of calls exceeds. Assumes nothing: these are definitions.
+-- Trusted: document 01, "What a node holds, and how much", and refusal 20: what no list of calls exceeds.
 use Prim.Native.Nat.{ℕ, _≤_}
 use mathlib.Core.List.{List}
 use mathlib.Core.Option.{Option}

@@ -1,4 +1,4 @@
--- Demand 3, its terms: what the table is fed by a list of calls, and when two lists are alike for the figure. Assumes nothing: these are definitions.
+-- Trusted: demand 3, its terms: what the table is fed by a list of calls, and when two lists are alike for the figure.
 use Prim.Native.Nat.{ℕ}
 use mathlib.Core.Bool.{Bool, true, false, _&&_, not}
 use mathlib.Core.List.{List, [], _∷_, _++_, List·Mem}
@@ -55,7 +55,8 @@ module _ (id population quorum : ℕ) where
 abbrev pub FigureStands : Type 0
 FigureStands = (id population quorum : ℕ) (es : List Event) → replicaAfter id population quorum es .peerAccept .max ≡ tableAfter id population quorum es .figure
 
--- Two lists that agree up to some point in arguments and in which calls were taken; after it the same set of accepted guards, and no adoption or raised ballot.
+-- Two lists that agree up to some point in arguments and in which calls were taken; after it the same set of accepted
+-- guards, and no adoption or raised ballot.
 pub record Alike (id population quorum : ℕ) (before₁ after₁ before₂ after₂ : List Event) : Type 0 where
   pub agree : fedBy id population quorum before₁ ≡ fedBy id population quorum before₂
   pub guards : SameGuards (history (replicaAfter id population quorum before₁) after₁) (history (replicaAfter id population quorum before₂) after₂)

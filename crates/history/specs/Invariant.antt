@@ -1,4 +1,4 @@
--- What holds of every replica that calls reach: the order of the bars, the window, the ballots, who leads. Assumes nothing: these are definitions.
+-- Trusted: what holds of every replica that calls reach: the order of the bars, the window, the ballots, who leads.
 use Prim.Native.Nat.{ℕ, suc, _+_, _≤_, _<_}
 use mathlib.Core.Bool.{Bool, true, false}
 use mathlib.Core.List.{List, [], _∷_}
@@ -45,7 +45,8 @@ isExecuted s = eqb (order s) 4
 abbrev pub bookBal : Option Book → ℕ
 bookBal o = ifNone o then 0 else λ b. b .bal
 
--- below the commit bar none is open; Executed exactly below the exec bar; no slot's and no notice book's ballot is above the replica's
+-- below the commit bar none is open; Executed exactly below the exec bar; no slot's and no notice book's ballot is
+-- above the replica's
 pub record SlotSound (bal commit exec slot : ℕ) (i : Instance) : Type 0 where
   pub closed : slot < commit → isOpen (i .status) ≡ false
   pub executed : slot < exec → isExecuted (i .status) ≡ true

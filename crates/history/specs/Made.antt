@@ -1,4 +1,4 @@
--- Demand 3 for code: any functions that meet `Answers`, called one after the other. Assumes nothing: these are definitions.
+-- Trusted: demand 3 for code: any functions that meet `Answers`, called one after the other.
 use mathlib.Core.Path.{_≡_}
 use mathlib.Core.Bool.{Bool, true, _&&_}
 use mathlib.Core.List.{List, [], _∷_, _++_}
@@ -14,7 +14,8 @@ module _ {Node : Type 0} (ready : Node → List ℕ → Bool) (view : Node → L
   abbrev pub fedOf : Call → Given Node → Fed
   fedOf c g = record { call = c; taken = eqb (g .number) 0 }
 
-  -- each call gets the node and its lent buffer as the last one left them, and an answer area of its own; nobody else writes them meanwhile
+  -- each call gets the node and its lent buffer as the last one left them, and an answer area of its own; nobody else
+  -- writes them meanwhile
   pub data Made : Node → List ℕ → List Fed → Node → List ℕ → Type 0 where
     none : {node : Node} {mem : List ℕ} → Made node mem [] node mem
     call : {node last : Node} {mem mem′ end : List ℕ} {fs : List Fed} (c : Call) (area area′ : List ℕ) (g : Given Node) → Answers ready view c node mem area g mem′ area′
@@ -37,7 +38,8 @@ module _ {Node : Type 0} (ready : Node → List ℕ → Bool) (view : Node → L
   abbrev pub CodeFigureStands : Type 0
   CodeFigureStands = (id population quorum : ℕ) (fs : List Fed) (bar : ℕ) → CodeHistory id population quorum fs bar → bar ≡ feedAll (freshTable id population quorum) fs .figure
 
-  -- Two lists that agree up to some point; after it the same set of accepted guards, and no adoption or raised ballot: the same reading bar.
+  -- Two lists that agree up to some point; after it the same set of accepted guards, and no adoption or raised ballot:
+  -- the same reading bar.
   abbrev pub CodeOrderFree : Type 0
   CodeOrderFree = (id population quorum : ℕ) (before rest₁ rest₂ : List Fed) (bar₁ bar₂ : ℕ) → CodeHistory id population quorum (before ++ rest₁) bar₁ → CodeHistory id population quorum (before ++ rest₂) bar₂
       → SameGuards rest₁ rest₂ → quiet (feedAll (freshTable id population quorum) before) rest₁ ≡ true → quiet (feedAll (freshTable id population quorum) before) rest₂ ≡ true

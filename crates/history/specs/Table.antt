@@ -1,6 +1,7 @@
--- Demand 3: the table of document 01, "The list of calls", a plain machine beside the replica. It is fed each call's arguments and whether it was taken, and nothing else:
--- of the replica's definitions it uses the types of calls, pairs and rosters, and what a roster is with the own number filtered out. Beyond document 01 it holds the roster,
--- since a heartbeat at the current ballot is an adoption just where its roster differs. Assumes nothing: these are definitions.
+-- Trusted: demand 3, the table of document 01, "The list of calls", a plain machine beside the replica. It is fed each
+-- call's arguments and whether it was taken, and nothing else: of the replica's definitions it uses the types of
+-- calls, pairs and rosters, and what a roster is with the own number filtered out. Beyond document 01 it holds the
+-- roster, since a heartbeat at the current ballot is an adoption just where its roster differs.
 use Prim.Native.Nat.{ℕ, _+_, _-_, _%_}
 use mathlib.Core.Bool.{Bool, false, _&&_, _||_, not}
 use mathlib.Core.List.{List, [], _∷_, map}

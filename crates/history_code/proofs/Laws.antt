@@ -1,4 +1,4 @@
--- Demand 3 of the code, from the theorems of history. Assumes nothing.
+-- Demand 3 of the code, from the theorems of history.
 use mathlib.Core.Path.{_≡_, ap, _∙_}
 use mathlib.Core.Bool.{Bool, true, false, _&&_}
 use mathlib.Core.List.{List, _∷_}

@@ -1,4 +1,4 @@
--- Demand 3 of the code: the ten calls, by the statement of `apply`, from a node that `Node::fresh` made. Assumes nothing: these are definitions.
+-- Trusted: demand 3 of the code: the ten calls, by the statement of `apply`, from a node that `Node::fresh` made.
 use mathlib.Core.Path.{_≡_}
 use mathlib.Core.Bool.{true}
 use mathlib.Core.List.{List, [], _∷_, _++_}
@@ -21,7 +21,8 @@ use Rattle.call_apply.specs.Call.{callOf, readyFor}
 abbrev pub fed : machine.Call → Answered → Fed
 fed c r = fedOf ready view c (givenOf r)
 
--- any of the ten calls, refused ones included, in any order: each gets the node and its lent buffer as the last one left them, and an answer area of its own
+-- any of the ten calls, refused ones included, in any order: each gets the node and its lent buffer as the last one
+-- left them, and an answer area of its own
 pub data CallList : Node → List ℕ → List Fed → Node → List ℕ → Type 0 where
   none : {node : Node} {mem : List ℕ} → CallList node mem [] node mem
   applied : {node last : Node} {mem end : List ℕ} {fs : List Fed} (c : Call) (rows text : List ℕ) (area area′ mem′ : List ℕ) (r : Answered)
@@ -42,7 +43,8 @@ pub record CallHistory (id population quorum : ℕ) (fs : List Fed) (bar : Slot)
 abbrev pub ReadingBarStands : Type 0
 ReadingBarStands = (id population quorum : ℕ) (fs : List Fed) (bar : Slot) → CallHistory id population quorum fs bar → bar .0 ≡ feedAll (freshTable id population quorum) fs .figure
 
--- Two lists that agree up to some point in arguments and in which calls were taken; after it the same set of accepted guards, and no adoption or raised ballot: the same reading bar.
+-- Two lists that agree up to some point in arguments and in which calls were taken; after it the same set of accepted
+-- guards, and no adoption or raised ballot: the same reading bar.
 abbrev pub ReadingBarOrderFree : Type 0
 ReadingBarOrderFree = (id population quorum : ℕ) (before rest₁ rest₂ : List Fed) (bar₁ bar₂ : Slot) → CallHistory id population quorum (before ++ rest₁) bar₁ → CallHistory id population quorum (before ++ rest₂) bar₂
     → SameGuards rest₁ rest₂ → quiet (feedAll (freshTable id population quorum) before) rest₁ ≡ true → quiet (feedAll (freshTable id population quorum) before) rest₂ ≡ true

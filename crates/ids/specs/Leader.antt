@@ -1,4 +1,4 @@
--- `Option<ReplicaId>`. Assumes nothing: this is a definition.
+-- Trusted: `Option<ReplicaId>`.
 use Prim.Native.Nat.{ℕ}
 use mathlib.Core.Option.{Option, none, some}
 use Rattle.ids.specs.declared.Leader.{Leader}

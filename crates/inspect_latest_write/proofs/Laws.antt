@@ -1,4 +1,4 @@
--- A read's condition and answer, test by test as the code comes to them. Assumes nothing.
+-- A read's condition and answer, test by test as the code comes to them.
 use mathlib.Core.Path.{_≡_, refl, sym, ap, _∙_}
 use mathlib.Core.Bool.{Bool, true, false, not, _&&_, _||_}
 use mathlib.Core.Logic.{⊎-elim}
@@ -270,7 +270,7 @@ module _ (n : Node) (m s w : List ℕ) (l : part m writtenAt writtenWords ≡ w)
 
 -- ---- `settled`
 
--- with what its tests come to
+-- with what its tests leave
 abbrev responds : ℕ → ℕ → Option ℕ → local.Settled → local.Settled
 responds default id o y = if not (get (ifNone o then default else λ m. m) id) then (ifNone o then local.DefaultRoster else λ m. local.StoredRange) else y
 

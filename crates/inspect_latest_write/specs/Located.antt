@@ -1,4 +1,5 @@
--- What the code's answers to a read stand for, and what they tell of the slot that settled it. Assumes nothing: these are definitions.
+-- Bridge: what the code's answers to a read stand for, and what they say of the slot that settled it; tied to
+-- `settled` and `readAnswer` by proofs/Laws.
 use mathlib.Core.Path.{_≡_}
 use mathlib.Core.Bool.{Bool, _&&_}
 use mathlib.Core.List.{List}

@@ -1,4 +1,4 @@
--- Words as a cell, one case at a time; a cell that is stored is read back, and the others stay. Assumes nothing.
+-- Words as a cell, one case at a time; a cell that is stored is read back, and the others stay.
 use mathlib.Core.Path.{_≡_, refl, sym}
 use mathlib.Core.Logic.{inl, inr, _≢_}
 use mathlib.Core.Bool.{Bool, true, false, not}

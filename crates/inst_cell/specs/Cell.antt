@@ -1,5 +1,5 @@
--- The short part of an instance in eight words: ballot, status, whether there are acks, the acks, whether there is a notice book, its ballot, its notices, and one
--- that is not used. Assumes nothing: these are definitions.
+-- Trusted: the short part of an instance that eight words stand for: ballot, status, whether there are acks, the acks,
+-- whether there is a notice book, its ballot, its notices, and one that is not used.
 use Prim.Native.Nat.{ℕ, _+_}
 use mathlib.Core.Bool.{Bool, true, false}
 use mathlib.Core.List.{List, [], _∷_}

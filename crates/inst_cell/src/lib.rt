@@ -1,4 +1,5 @@
-// The short part of an instance, in eight lent words: ballot, status, acks, notice book. A slot's batch and held reads stand elsewhere.
+// The short part of an instance, in eight lent words: ballot, status, acks, notice book. A slot's batch and held reads
+// stand elsewhere.
 use ids::Ballot;
 ghost use mathlib.Core.Path.{_≡_};
 ghost use Prim.Native.Nat.{ℕ, _+_, _*_, _≤_};

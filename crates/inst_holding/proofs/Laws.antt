@@ -1,4 +1,4 @@
--- Held reads: what is stored is read back, and a read goes after the others. Assumes nothing.
+-- Held reads: what is stored is read back, and a read goes after the others.
 use mathlib.Core.Path.{_≡_, refl, sym, ap, _∙_}
 use mathlib.Core.Bool.{true, false, true≢false}
 use mathlib.Core.Logic.{inr}

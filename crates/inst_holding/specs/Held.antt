@@ -1,4 +1,5 @@
--- The reads that a slot holds, in lent words. Assumes nothing: these are definitions.
+-- Trusted: the reads held by a slot that lent words stand for. What a push leaves is a bridge, tied by
+-- insts/proofs/Laws.
 use mathlib.Core.Path.{_≡_}
 use mathlib.Core.Bool.{Bool, false}
 use mathlib.Core.List.{List, [], _∷_, _++_}
@@ -34,7 +35,7 @@ readsOf s = counted readFrom heldRow heldPlaces s
 abbrev pub capped : List machine.ReadReq → Option (List machine.ReadReq)
 capped l = if leb (length l) heldPlaces then some l else none
 
--- what a push of x onto the words s comes to: the answer, and the words t
+-- what a push of x onto the words s leaves: the answer, and the words t
 pub record Pushes (s : List ℕ) (x : machine.ReadReq) (r : Bool) (t : List ℕ) : Type 0 where
   pub outcome : (if r then some (readsOf t) else none) ≡ capped (readsOf s ++ (x ∷ []))
   pub refused : r ≡ false → t ≡ s

@@ -1,4 +1,4 @@
--- A slot's batch: what is stored is read back, a request goes after the others, and the last Put of a key from the end. Assumes nothing.
+-- A slot's batch: what is stored is read back, a request goes after the others, and the last Put of a key from the end.
 use mathlib.Core.Path.{_≡_, refl, sym, ap, _∙_}
 use mathlib.Core.Bool.{Bool, true, false, true≢false}
 use mathlib.Core.Logic.{inr}

@@ -1,4 +1,4 @@
--- The batch of a slot in lent words. Assumes nothing: these are definitions.
+-- Trusted: a slot's batch that lent words stand for. What a push leaves is a bridge, tied by req_batch/proofs/Laws.
 use mathlib.Core.Path.{_≡_}
 use mathlib.Core.Bool.{Bool, false}
 use mathlib.Core.List.{List, [], _∷_, _++_}
@@ -63,7 +63,7 @@ valueIn Nothing = none
 abbrev pub capped : List machine.Request → Option (List machine.Request)
 capped l = if leb (length l) requestPlaces then some l else none
 
--- what a push of q onto the words s comes to: the answer, and the words t
+-- what a push of q onto the words s leaves: the answer, and the words t
 pub record Pushes (s : List ℕ) (q : machine.Request) (r : Bool) (t : List ℕ) : Type 0 where
   pub outcome : (if r then some (requestsOf t) else none) ≡ capped (requestsOf s ++ (q ∷ []))
   pub refused : r ≡ false → t ≡ s

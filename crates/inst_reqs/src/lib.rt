@@ -1,4 +1,5 @@
-// The batch of a slot, in lent words: how many requests, and then rows of client, request, kind, value, key. A kind of 1 is a Put.
+// The batch of a slot, in lent words: how many requests, and then rows of client, request, kind, value, key. A kind of
+// 1 is a Put.
 use key_words::Key;
 use key_words::get_key;
 use key_words::put_key;

@@ -1,4 +1,4 @@
--- A place's three parts, one of them changed; the slots that a start and a number of them are. Assumes nothing.
+-- A place's three parts, one of them changed; the slots that a start and a number of them are.
 use mathlib.Core.Path.{_≡_, refl, sym, ap, _∙_}
 use mathlib.Core.Logic.{_≢_}
 use mathlib.Core.List.{List, [], _∷_, _++_, append-assoc, append-nil}

@@ -1,4 +1,4 @@
--- The slots from the k-th on, as a loop comes to them one by one. Assumes nothing.
+-- The slots from the k-th on, as a loop comes to them one by one.
 use mathlib.Core.Path.{_≡_, refl, ap, _∙_}
 use mathlib.Core.List.{List, [], _∷_, _++_}
 use Prim.Native.Nat.{ℕ, suc, _+_, _-_, _%_, _≤_, _<_}

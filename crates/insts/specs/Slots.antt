@@ -1,4 +1,5 @@
--- The slots that a replica holds, in lent words: cells, batches and held reads; slot s has those of number s % slotPlaces. Assumes nothing: these are definitions.
+-- Trusted: the instances that the slots' words stand for: cells, then batches, then held reads, each in the place of
+-- the slot. What a change of a place leaves is a bridge, tied by node/proofs/Slots.
 use mathlib.Core.Path.{_≡_}
 use mathlib.Core.Logic.{_≢_}
 use mathlib.Core.List.{List, []}

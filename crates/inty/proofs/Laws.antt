@@ -1,6 +1,6 @@
--- Laws that the proofs of this crate, and of its callers, share: two tests are the same where each fact gives the other; a number and its two halves.
--- `omega` stops at numbers of more than 38 digits, and 2 ^ 128 has 39, so the laws of two halves are over any base B, where h * B is an unknown to it.
--- Assumes nothing.
+-- Laws that the proofs of this crate, and of its callers, share: two tests are the same where each fact gives the
+-- other; a number and its two halves. `omega` stops at numbers of more than 38 digits, and 2 ^ 128 has 39, so the laws
+-- of two halves are over any base B, where h * B is an unknown to it.
 use mathlib.Core.Path.{_≡_, refl, sym, ap, _∙_}
 use mathlib.Core.Bool.{Bool, true, false}
 use Prim.Native.Nat.{ℕ, suc, _+_, _-_, _*_, _/_, _%_, _^_, _≤_, _<_}

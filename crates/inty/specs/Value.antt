@@ -1,4 +1,4 @@
--- What a two-half number is: one ℕ below 2 ^ 128. Assumes nothing: these are definitions.
+-- Trusted: document 01, "`u128` becomes two 64-bit halves": the number that two halves are.
 use Prim.Native.Nat.{ℕ, _+_, _*_, _^_}
 use mathlib.Core.Option.{Option, none, some}
 use lib.Dec.{ltb}

@@ -1,4 +1,4 @@
--- The laws of items in an answer area: the code's exits, and that reading undoes putting. Assumes nothing.
+-- The laws of items in an answer area: the code's exits, and that reading undoes putting.
 use mathlib.Core.Path.{_≡_, refl, sym, ap, _∙_}
 use mathlib.Core.Bool.{Bool, true, false, _&&_, and-true, true≢false}
 use mathlib.Core.Logic.{_⊎_, inl, inr, _≢_}

@@ -1,4 +1,4 @@
--- A lent answer area, and what putting an item at a place of it and reading it there come to.
+-- Trusted: a lent answer area, and what putting an item at a place of it and reading it there leave.
 use mathlib.Core.Bool.{Bool, true, false, _&&_}
 use mathlib.Core.List.{List, [], _∷_}
 use mathlib.Core.Option.{Option, none, some}

@@ -1,4 +1,4 @@
--- The items that a call sends ("The event program"), and each in six words, its kind first.
+-- Trusted: document 01, "The event program": the items that a call sends, and each in six words, its kind first.
 use mathlib.Core.Path.{_≡_, refl, sym, ap, _∙_}
 use mathlib.Core.Bool.{Bool}
 use mathlib.Core.List.{List, [], _∷_, _++_, append-assoc}

@@ -1,4 +1,4 @@
--- What the proofs of the lines share, with the premises as the code has them. Assumes nothing.
+-- What the proofs of the lines share, with the premises as the code has them.
 use mathlib.Core.Path.{_≡_, refl, sym, ap, _∙_}
 use mathlib.Core.Bool.{Bool, true, false}
 use mathlib.Core.List.{List, [], _∷_}

@@ -1,4 +1,5 @@
--- An answer has at most twice the bytes of its line with the newline: a number has no more digits than the key that it was read from. Assumes nothing.
+-- An answer has at most twice the bytes of its line with the newline: a number has no more digits than the key that it
+-- was read from.
 use mathlib.Core.Path.{_≡_, refl, sym, ap, _∙_}
 use mathlib.Core.Bool.{Bool, true, false, _||_}
 use mathlib.Core.List.{List, [], _∷_}

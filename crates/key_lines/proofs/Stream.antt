@@ -1,4 +1,4 @@
--- Keys that come in pieces, cut anywhere, are answered as the whole stream is. Assumes nothing.
+-- Keys that come in pieces, cut anywhere, are answered as the whole stream is.
 use mathlib.Core.Path.{_≡_, refl, ap}
 use mathlib.Core.Bool.{Bool, true, false}
 use mathlib.Core.List.{List}

@@ -1,4 +1,4 @@
--- What is written in decimal reads back: each of the two definitions checks the other. Assumes nothing.
+-- What is written in decimal reads back: each of the two definitions checks the other.
 use mathlib.Core.Path.{_≡_, refl, sym, ap, _∙_}
 use mathlib.Core.Bool.{Bool, true, false}
 use mathlib.Core.List.{List, [], _∷_, _++_}

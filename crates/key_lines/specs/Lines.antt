@@ -1,4 +1,4 @@
--- The answer to a line of the key reader. Assumes nothing: these are definitions.
+-- Trusted: the answer to a line of the key reader.
 use Prim.Native.Nat.{ℕ}
 use mathlib.Core.Bool.{Bool, _||_}
 use mathlib.Core.List.{List, [], _∷_, _++_}

@@ -1,5 +1,5 @@
-// Keys that come in lines, one to a line, and an answer line to each: the key's number in decimal, or `-` where the key does not read.
-// A line of more than 1,024 bytes is not kept, and is answered `-`.
+// Keys that come in lines, one to a line, and an answer line to each: the key's number in decimal, or `-` where the key
+// does not read. A line of more than 1,024 bytes is not kept, and is answered `-`.
 use decimal::Written;
 use keys::KeyRead;
 ghost use mathlib.Core.Path.{_≡_};
@@ -11,7 +11,8 @@ ghost use Rattle.keys.specs.Shown.{shown};
 ghost use Rattle.stream_pieces.specs.Streamed.{streamed, lastLine, outputAfter};
 ghost use Rattle.key_lines.specs.Lines.{textOf, answerOf, lineRead, answer, lineOutput};
 
-// The place in a piece where the line that has begun starts, how much of the output is used, and whether bytes of that line were dropped.
+// The place in a piece where the line that has begun starts, how much of the output is used, and whether bytes of that
+// line were dropped.
 pub struct Fed {
     pub at: usize,
     pub used: usize,
@@ -53,7 +54,8 @@ fn read_line(line: &[u8], long: bool) -> KeyRead
     keys::key_to_inty(line)
 }
 
-// Writes the answer to a line at `at`, and returns where it ends. If `long`, the line had bytes more, which were dropped.
+// Writes the answer to a line at `at`, and returns where it ends. If `long`, the line had bytes more, which were
+// dropped.
 pub fn answer_line(line: &[u8], long: bool, out: &mut [u8], at: usize) -> usize
     requires { ⌜ at + length (answer (record { long = long; line = now line })) ≤ length (now out) ⌝ }
     ensures { λ e. ⌜ (e ≡ at + length (answer (record { long = long; line = now (line .entry) }))) × (now (out .exit) ≡ writes (now (out .entry)) at (answer (record { long = long; line = now (line .entry) }))) ⌝ }
@@ -62,7 +64,8 @@ pub fn answer_line(line: &[u8], long: bool, out: &mut [u8], at: usize) -> usize
     put_answer(out, at, r)
 }
 
-// Writes the answers to the lines that end in a piece to the start of out. No answer has more than twice the bytes of its line.
+// Writes the answers to the lines that end in a piece to the start of out. No answer has more than twice the bytes of
+// its line.
 pub fn feed(piece: &[u8], long: bool, out: &mut [u8]) -> Fed
     requires { ⌜ 2 * length (now piece) ≤ length (now out) ⌝ }
     ensures within { λ r. ⌜ (r .at ≤ length (now (piece .entry))) × (r .used ≤ length (now (out .entry))) ⌝ }

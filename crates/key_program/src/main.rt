@@ -1,6 +1,7 @@
-// Reads keys from standard input, one to a line, and writes the number that each reads as, or `-` where it does not read.
-// The input is read in pieces of 64 KB and never kept whole. A line of more than 1,024 bytes is answered `-`; a last line without a newline
-// counts if it has a byte. The program ends when the input does, when a read fails, or when a write fails.
+// Reads keys from standard input, one to a line, and writes the number that each reads as, or `-` where it does not
+// read. The input is read in pieces of 64 KB and never kept whole. A line of more than 1,024 bytes is answered `-`; a
+// last line without a newline counts if it has a byte. The program ends when the input does, when a read fails, or when
+// a write fails.
 use stream_pieces::Carry;
 ghost use Prim.Native.Nat.{_*_, _≤_};
 ghost use lib.ListN.{length};
@@ -31,7 +32,8 @@ fn turn(buf: &mut [u8], line: Carry, out: &mut [u8]) -> State
     State { line: left, more }
 }
 
-// A proved loop has to end, and nothing says that the input does: so it counts its turns down, from a number that no run uses up.
+// A proved loop has to end, and nothing says that the input does: so it counts its turns down, from a number that no
+// run uses up.
 fn run(buf: &mut [u8], out: &mut [u8])
     requires { ⌜ (1025 ≤ length (now buf)) × (2 * length (now buf) ≤ length (now out)) ⌝ }
 {

@@ -1,4 +1,5 @@
--- The laws of packed keys: put and get, bytes and words, and that keys are compared as their bytes are. Assumes nothing.
+-- The laws of packed keys: put and get, bytes and words, and that keys are compared as their bytes are. Assumes
+-- nothing.
 use mathlib.Core.Path.{_≡_, refl, sym, ap, _∙_}
 use mathlib.Core.Bool.{Bool, true, false, _&&_, and-true}
 use mathlib.Core.List.{List, [], _∷_, _++_}

@@ -1,4 +1,5 @@
--- A key as seven words, in lent words, and its bytes. Assumes nothing: these are definitions.
+-- Trusted: the bytes that a key of seven words stands for, on any words. How it is packed is a bridge, tied by
+-- proofs/Laws.
 use mathlib.Core.Path.{_≡_}
 use mathlib.Core.Bool.{Bool}
 use mathlib.Core.List.{List, [], _∷_, _++_}
@@ -58,7 +59,8 @@ unpackOf k = take (min (k .len) 48) (allBytes k)
 abbrev pub isPacked : Key → Bool
 isPacked k = sameKey (packOf (unpackOf k)) k
 
--- The bytes of a key. Any other seven words are a key that no bytes are: it shows as 49 numbers, and two of them alike only where the words are.
+-- The bytes of a key. Any other seven words are a key that no bytes are: it shows as 49 numbers, and two of them alike
+-- only where the words are.
 unfoldable pub bytesOf : Key → List ℕ
 bytesOf k = if isPacked k then unpackOf k else wordsOf k ++ replicate 42 0
 

@@ -1,4 +1,4 @@
--- One byte more of each of the four steps. Assumes nothing.
+-- One byte more of each of the four steps.
 use mathlib.Core.Path.{_≡_, refl, sym, ap, _∙_}
 use mathlib.Core.Bool.{Bool, true, false, _&&_}
 use mathlib.Core.List.{List, [], _∷_}

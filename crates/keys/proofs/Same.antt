@@ -1,4 +1,4 @@
--- Keys of the same bytes are one. Assumes nothing.
+-- Keys of the same bytes are one.
 use mathlib.Core.Path.{_≡_, refl}
 use mathlib.Core.Bool.{Bool, true, false, _&&_}
 use mathlib.Core.List.{List, [], _∷_}

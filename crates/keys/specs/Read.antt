@@ -1,5 +1,5 @@
--- `key.trim_start_matches(['k', 'K']).parse::<u128>()` in four steps, each from Rust's library page, over the bytes of the key.
--- Assumes nothing: these are definitions.
+-- Trusted: `key.trim_start_matches(['k', 'K']).parse::<u128>()` in four steps, each from Rust's library page, over the
+-- bytes of the key.
 use Prim.Native.Nat.{ℕ, _+_, _-_, _*_}
 use mathlib.Core.Bool.{Bool, _&&_, _||_}
 use mathlib.Core.List.{List, [], _∷_}

@@ -1,4 +1,4 @@
--- Keys are compared as bytes. Assumes nothing: this is a definition.
+-- Trusted: keys are compared as bytes (document 01, "K12 and k12 share a roster, yet are two keys").
 use Prim.Native.Nat.{ℕ}
 use mathlib.Core.Bool.{Bool, true, false, _&&_}
 use mathlib.Core.List.{List, [], _∷_}

@@ -1,4 +1,4 @@
--- What an answer of `key_to_inty` says. Assumes nothing: this is a definition.
+-- Trusted: what an answer of `key_to_inty` says.
 use Prim.Native.Nat.{ℕ}
 use mathlib.Core.Option.{Option, none, some}
 use Rattle.inty.specs.Value.{valueOf}

@@ -1,5 +1,5 @@
--- The buffer that is lent with a node, in words: how wide the rows are, how many there is room for, and where the tables stand.
--- Assumes nothing: these are definitions.
+-- Trusted: the buffer that is lent with a node, in words: how wide the rows are, how many there is room for, and where
+-- the tables stand.
 use Prim.Native.Nat.{ℕ, _+_, _*_}
 use Rattle.ids.specs.Limits.{batch, keys, ranges, replicas}
 

@@ -1,4 +1,4 @@
--- An item's line from its words, the lines of a list, and the answers. Assumes nothing.
+-- An item's line from its words, the lines of a list, and the answers.
 use mathlib.Core.Path.{_≡_, refl, sym, ap, _∙_}
 use mathlib.Core.Bool.{true, false}
 use mathlib.Core.List.{List, [], _∷_, _++_, append-assoc, append-nil}

@@ -1,4 +1,4 @@
--- The lines of items: fields one after the other. Assumes nothing.
+-- The lines of items: fields one after the other.
 use mathlib.Core.Path.{_≡_}
 use mathlib.Core.List.{[], _∷_}
 use Prim.Native.Nat.{ℕ, _+_, _≤_}

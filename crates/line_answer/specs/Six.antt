@@ -1,4 +1,4 @@
--- An item's line from its six words. Assumes nothing: these are definitions.
+-- Bridge: an item's line from its six words; tied to `itemText` by proofs/Items.
 use Prim.Native.Nat.{ℕ, _+_, _*_, _^_}
 use mathlib.Core.List.{[], _∷_}
 use lib.Dec.{eqb}

@@ -1,4 +1,4 @@
--- Document 01, "The event program": what is written for a line. Assumes nothing: these are definitions.
+-- Trusted: document 01, "The event program": what is written for a line.
 use Prim.Native.Nat.{ℕ}
 use mathlib.Core.Bool.{Bool}
 use mathlib.Core.List.{List, [], _∷_, _++_}

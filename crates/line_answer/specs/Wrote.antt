@@ -1,4 +1,5 @@
--- What the writers of items and answers leave. Assumes nothing: these are definitions.
+-- Bridge: what the writers of items and answers leave; tied to `refusedText` and `takenText` by
+-- line_event/proofs/Laws.
 use mathlib.Core.Path.{_≡_}
 use mathlib.Core.List.{List}
 use Prim.Native.Nat.{ℕ, _+_, _*_, _≤_}

@@ -156,7 +156,8 @@ fn put_head(out: &mut [u8], n: u64, word: &[u8], number: u64) -> usize
     text::put_byte(out, at4, b'\n')
 }
 
-// The text for the n-th line, from what a call gives back: the number of its refusal or 0, how many items it sends, and their area.
+// The text for the n-th line, from what a call gives back: the number of its refusal or 0, how many items it sends, and
+// their area.
 pub fn put_answer(out: &mut [u8], n: u64, number: u64, count: usize, area: &[u64]) -> usize
     requires { ⌜ (65536 ≤ length (now out)) × (count ≤ 546) × (count * 6 ≤ length (now area)) ⌝ }
     ensures { λ r. ⌜ Answered (now (out .entry)) n number count (now (area .entry)) r (now (out .exit)) ⌝ }

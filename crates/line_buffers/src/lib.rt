@@ -1,4 +1,5 @@
-// The buffers that an event line is answered in, for a program to lend: of each only the length is said, so that a proof over it does not go through the array.
+// The buffers that an event line is answered in, for a program to lend: of each only the length is said, so that a
+// proof over it does not go through the array.
 ghost use mathlib.Core.Path.{_≡_};
 ghost use lib.ListN.{length};
 ghost use Rattle.layout.specs.Layout.{rosterWords, nodeWords};

@@ -1,4 +1,4 @@
--- A line's fields as a call's arguments. Assumes nothing.
+-- A line's fields as a call's arguments.
 use mathlib.Core.Path.{_≡_, refl, sym, ap, subst, _∙_, fun-ext}
 use mathlib.Core.Bool.{Bool, true, false, not, _&&_, and-true, and-false, true≢false}
 use mathlib.Core.List.{List, [], _∷_, _++_}

@@ -1,4 +1,4 @@
--- The call that a line's fields are, as `apply` takes it. Assumes nothing: these are definitions.
+-- Bridge: the call that a line's fields are, as `apply` takes it; tied to `callOf` by proofs/Laws.
 use mathlib.Core.Path.{_≡_}
 use mathlib.Core.Bool.{Bool, true, false}
 use mathlib.Core.List.{List}

@@ -1,4 +1,4 @@
--- The fields of a read line: CLIENT,REQUEST,LEASES,KEY. Assumes nothing: these are definitions.
+-- Bridge: the fields of a read line, CLIENT,REQUEST,LEASES,KEY; tied to `isRead` by proofs/Laws.
 use mathlib.Core.Path.{_≡_}
 use mathlib.Core.Bool.{true}
 use mathlib.Core.List.{[]}

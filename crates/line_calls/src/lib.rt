@@ -1,4 +1,5 @@
-// The lines of the calls: a line's fields, from a position on, are the call's arguments. A line whose fields are not well-formed is refused 1.
+// The lines of the calls: a line's fields, from a position on, are the call's arguments. A line whose fields are not
+// well-formed is refused 1.
 use call_apply::Call;
 use ids::Ballot;
 use ids::Replica;

@@ -1,4 +1,4 @@
--- A line's fields as the arguments of an edit, a listing or a node. Assumes nothing.
+-- A line's fields as the arguments of an edit, a listing or a node.
 use mathlib.Core.Path.{_≡_, refl, sym, ap, subst, _∙_}
 use mathlib.Core.Bool.{Bool, true, false, not, _&&_, and-false, true≢false}
 use mathlib.Core.List.{List, [], _∷_}

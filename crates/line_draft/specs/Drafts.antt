@@ -1,4 +1,4 @@
--- The lines of the node and of the draft. Assumes nothing: these are definitions.
+-- Bridge: what the functions of the node line and of the draft leave; tied to `answerLine` by line_event/proofs/Laws.
 use mathlib.Core.Path.{_≡_}
 use mathlib.Core.Bool.{Bool, true, false}
 use mathlib.Core.List.{List, []}

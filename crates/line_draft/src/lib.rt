@@ -1,4 +1,5 @@
-// The lines of the node and of the draft. Where no node is made, a draft's line is refused 2 like one for a population that is none.
+// The lines of the node and of the draft. Where no node is made, a draft's line is refused 2 like one for a population
+// that is none.
 use ids::Replica;
 use line_kind::EditKind;
 use node::Answered;

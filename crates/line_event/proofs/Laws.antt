@@ -1,4 +1,4 @@
--- What a line's call, edit or listing comes to for the host. Assumes nothing.
+-- What a line's call, edit or listing leaves for the host.
 use mathlib.Core.Path.{_≡_, refl, sym, ap, subst, _∙_}
 use mathlib.Core.Bool.{Bool, true, false, not, _&&_, and-true, and-false}
 use mathlib.Core.List.{List, [], _∷_, _++_}

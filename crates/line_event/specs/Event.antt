@@ -1,4 +1,4 @@
--- What the function of an event line answers and leaves. Assumes nothing: these are definitions.
+-- Trusted: what the function of an event line answers and leaves.
 use mathlib.Core.Path.{_≡_}
 use mathlib.Core.Bool.{Bool, _&&_}
 use mathlib.Core.List.{List}
@@ -23,7 +23,7 @@ whole draft mem rows area groups = sound draft mem rows && eqb (places area) ite
 unfoldable pub fit : RespondersConf → List ℕ → List ℕ → List ℕ → List ℕ → Bytes → Bool
 fit draft mem rows area groups out = whole draft mem rows area groups && leb 65536 (length out)
 
--- what the line comes to; 2 where the lent buffers do not fit
+-- what the line leaves; 2 where the lent buffers do not fit
 unfoldable pub due : Host → List ℕ → List ℕ → List ℕ → List ℕ → Bytes → Bytes → LineResult
 due h mem rows area groups out line = if fit (h .draft) mem rows area groups out then answerLine (hostOf h mem rows) line else refusedLine (hostOf h mem rows) 2
 

@@ -1,4 +1,4 @@
--- What a call, an edit or a listing comes to for the host. Assumes nothing: these are definitions.
+-- Bridge: what a call, an edit or a listing leaves for the host; tied to `LineFollows` by proofs/Laws.
 use Prim.Native.Nat.{ℕ}
 use Rattle.words.specs.Choice.{if_then_else_}
 use Rattle.roster_conf.specs.declared.Edited.{Edited}

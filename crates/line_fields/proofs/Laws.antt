@@ -1,4 +1,4 @@
--- The fields that are left, by a byte and by a field. Assumes nothing.
+-- The fields that are left, by a byte and by a field.
 use mathlib.Core.Path.{_≡_, refl, sym, ap, _∙_}
 use mathlib.Core.Bool.{Bool, true, false, _&&_, _||_, not}
 use mathlib.Core.List.{List, [], _∷_, _++_, append-assoc, append-nil}

@@ -1,4 +1,4 @@
--- A number field: "digits within 64 bits". Leading zeros are digits. Assumes nothing: these are definitions.
+-- Trusted: document 01, refusal 1: a number field, "digits within 64 bits". Leading zeros are digits.
 use Prim.Native.Nat.{ℕ, _+_, _-_, _*_, _^_}
 use mathlib.Core.Bool.{Bool, true, false, _&&_}
 use mathlib.Core.List.{List, [], _∷_}

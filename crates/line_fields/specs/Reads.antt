@@ -1,4 +1,4 @@
--- What is read at a position of a line. Assumes nothing: these are definitions.
+-- Bridge: what is read at a position of a line; tied to `fieldsOf` by proofs/Laws.
 use Prim.Native.Nat.{ℕ, zero, suc, _+_, _-_, _≤_, _<_}
 use mathlib.Core.Bool.{Bool, true, false, _&&_, _||_, not}
 use mathlib.Core.List.{List, [], _∷_}

@@ -1,4 +1,4 @@
--- Document 01, "The event program": "fields in fixed order parted by commas, no quoting". Assumes nothing: these are definitions.
+-- Trusted: document 01, "The event program": "fields in fixed order parted by commas, no quoting".
 use Prim.Native.Nat.{ℕ}
 use mathlib.Core.List.{List, [], _∷_}
 use lib.Dec.{eqb, leb}

@@ -1,4 +1,4 @@
--- Whether buffers and draft are sound, test by test; the host before the first line. Assumes nothing.
+-- Whether buffers and draft are sound, test by test; the host before the first line.
 use mathlib.Core.Path.{_≡_, refl, sym, _∙_}
 use mathlib.Core.Bool.{Bool, true, false, and-false, true≢false}
 use mathlib.Core.List.{List, [], _∷_}

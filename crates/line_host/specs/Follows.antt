@@ -1,4 +1,4 @@
--- What the code's host stands for, and what a line comes to in its buffers. Assumes nothing: these are definitions.
+-- Trusted: what the code's host stands for, and what a line leaves in its buffers.
 use mathlib.Core.Path.{_≡_}
 use mathlib.Core.Bool.{Bool, true, false, _&&_}
 use mathlib.Core.List.{List}
@@ -37,7 +37,8 @@ sound draft mem rows = leb size (length mem) && holdsRows (length rows) (draft .
 
 -- ---- what a line comes to
 
--- after a refusal all is as it was; else the items stand at the start of the area, and the words past the node's and the draft's are as they were
+-- after a refusal all is as it was; else the items stand at the start of the area, and the words past the node's and
+-- the draft's are as they were
 pub record LineRefuses (n : ℕ) (h : code.Host) (mem rows area : List ℕ) (a : LineDone) (mem′ rows′ area′ : List ℕ) : Type 0 where
   pub refused : 0 < n
   pub number : a .number ≡ n

@@ -1,4 +1,4 @@
--- Document 01, "The event program": the node, the draft, and what a line answers. Assumes nothing: these are definitions.
+-- Trusted: document 01, "The event program": the node, the draft, and what a line answers.
 use Prim.Native.Nat.{ℕ, _+_}
 use mathlib.Core.List.{List, [], _∷_, _++_}
 use mathlib.Core.Option.{Option, none, some}

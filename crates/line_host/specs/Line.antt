@@ -1,4 +1,4 @@
--- Document 01, "The event program": the seventeen kinds of lines. Assumes nothing: these are definitions.
+-- Trusted: document 01, "The event program": the seventeen kinds of lines, each with its fields.
 use Prim.Native.Nat.{ℕ}
 use mathlib.Core.Bool.{Bool, true, false, _&&_, _||_, not}
 use mathlib.Core.List.{List, [], _∷_}

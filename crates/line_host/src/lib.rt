@@ -1,5 +1,5 @@
-// The host of the event program: the node and the draft. The node's buffer and the draft's rows are lent. Before a node line is accepted the node is
-// one that no call made.
+// The host of the event program: the node and the draft. The node's buffer and the draft's rows are lent. Before a node
+// line is accepted the node is one that no call made.
 use ids::Ballot;
 use ids::Replica;
 use ids::Slot;

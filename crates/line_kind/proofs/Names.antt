@@ -1,4 +1,4 @@
--- A name is told by its length and by its bytes as one word. Assumes nothing.
+-- A name is told by its length and by its bytes as one word.
 use mathlib.Core.Path.{_≡_, refl, sym, ap, _∙_}
 use mathlib.Core.Bool.{Bool, true, false, _&&_}
 use mathlib.Core.List.{List, [], _∷_}

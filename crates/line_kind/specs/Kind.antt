@@ -1,4 +1,5 @@
--- Document 01, "The event program": the seventeen kinds of lines, by their names. Assumes nothing: these are definitions.
+-- Trusted: document 01, "The event program": the seventeen kinds of lines, by their names. A name as one word is a
+-- bridge, tied by proofs/Names.
 use Prim.Native.Nat.{ℕ, _+_, _*_}
 use mathlib.Core.Bool.{_&&_}
 use mathlib.Core.List.{[], _∷_}

@@ -4,8 +4,8 @@ ghost use Prim.Native.Nat.{_≤_};
 ghost use lib.ListN.{length};
 ghost use Rattle.line_kind.specs.Kind.{kindOf, wordOf, kindBy};
 
-// The seventeen kinds of lines: the edits of the draft and the calls that only the node and its answer area take part in are
-// groups of their own.
+// The seventeen kinds of lines: the edits of the draft and the calls that only the node and its answer area take part
+// in are groups of their own.
 pub enum Kind {
     Node,
     Edit(EditKind),

@@ -1,4 +1,4 @@
--- What the walks over `LineReader` share: the struct's type at a lifetime, what it owns, and a local that holds one. Assumes nothing.
+-- What the walks over `LineReader` share: the struct's type at a lifetime, what it owns, and a local that holds one.
 use mathlib.Core.Path.{_≡_, refl}
 use Prim.Native.Nat.{ℕ, _<_, _^_}
 use mathlib.Core.List.{List, [], _∷_}

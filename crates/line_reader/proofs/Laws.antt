@@ -1,4 +1,4 @@
--- What one reader takes, one after the other. Assumes nothing.
+-- What one reader takes, one after the other.
 use mathlib.Core.Path.{_≡_, refl, sym, ap, _∙_, subst}
 use mathlib.Core.Bool.{Bool, true, false, _&&_, not, true≢false}
 use mathlib.Core.List.{List}

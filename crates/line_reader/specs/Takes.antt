@@ -1,4 +1,5 @@
--- Document 01, "The event program": "The line reader keeps its line and its position". Assumes nothing: these are definitions.
+-- Trusted: document 01, "The line reader keeps its line and its position": what a reader leaves; tied to the fields of
+-- the line by proofs/Laws.
 use Prim.Native.Nat.{ℕ}
 use mathlib.Core.Path.{_≡_}
 use mathlib.Core.Bool.{Bool}

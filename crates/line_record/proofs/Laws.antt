@@ -1,4 +1,4 @@
--- A group, the rows of the groups and the record line, with premises as the code has them. Assumes nothing.
+-- A group, the rows of the groups and the record line, with premises as the code has them.
 use mathlib.Core.Path.{_≡_, refl, sym, ap, _∙_}
 use mathlib.Core.Bool.{Bool, true, false, _&&_, _||_, not, true≢false, and-false}
 use mathlib.Core.List.{List, [], _∷_, _++_, append-assoc, append-nil}

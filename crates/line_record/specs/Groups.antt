@@ -1,4 +1,4 @@
--- Document 01, "The event program": what is read of a record line's groups CLIENT,REQUEST,KEY,VALUE. Assumes nothing: these are definitions.
+-- Bridge: what is read of a record line's groups CLIENT,REQUEST,KEY,VALUE; tied to `batchOf` by proofs/Laws.
 use mathlib.Core.Path.{_≡_}
 use mathlib.Core.Bool.{true, false}
 use mathlib.Core.List.{List, [], _∷_}

@@ -1,4 +1,4 @@
--- What every call shares: whether a node is ready, and what is due from the grounds that apply. Assumes nothing.
+-- What every call shares: whether a node is ready, and what is due from the grounds that apply.
 use mathlib.Core.Path.{_≡_, refl, sym, ap, _∙_}
 use mathlib.Core.Bool.{Bool, true, false, not, _&&_, _||_}
 use mathlib.Core.List.{List, [], _∷_, _++_}

@@ -1,4 +1,4 @@
--- A table's part of the buffer lent and put back: what the node and the buffer stand for then. Assumes nothing.
+-- A table's part of the buffer lent and put back: what the node and the buffer stand for then.
 use mathlib.Core.Path.{_≡_}
 use mathlib.Core.List.{List}
 use Prim.Native.Nat.{ℕ, _≤_}

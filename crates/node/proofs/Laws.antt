@@ -1,4 +1,4 @@
--- A fresh node: tests, words filled, and what the buffer then stands for. Assumes nothing.
+-- A fresh node: tests, words filled, and what the buffer then stands for.
 use mathlib.Core.Path.{_≡_, refl, sym, ap, _∙_}
 use mathlib.Core.Bool.{Bool, true, false, not, _&&_}
 use mathlib.Core.List.{List, [], _∷_, _++_}

@@ -1,4 +1,5 @@
--- The instance of a slot, and an instance put back, of the replica that a node and its buffer stand for. Assumes nothing.
+-- The instance of a slot, and an instance put back, of the replica that a node and its buffer stand for. Assumes
+-- nothing.
 use mathlib.Core.Path.{_≡_, ap, _∙_}
 use mathlib.Core.List.{List}
 use mathlib.Core.Option.{none, some}

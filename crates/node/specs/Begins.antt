@@ -1,4 +1,4 @@
--- `Node::fresh`: the starting state, or 2. Assumes nothing: these are definitions.
+-- Trusted: document 01, "A fresh node has ballot 0, no leader, no slots": `Node::fresh`, or 2.
 use mathlib.Core.Path.{_≡_}
 use mathlib.Core.Bool.{Bool, true, false, _&&_}
 use mathlib.Core.List.{List, []}

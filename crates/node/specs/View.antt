@@ -1,4 +1,5 @@
--- The replica that a node and its lent buffer stand for, on any words. Assumes nothing: these are definitions.
+-- Trusted: the replica that a node and its lent buffer stand for, on any words. The buffer: guard pairs, the peers'
+-- exec bars, the roster's rows, the slots, the written keys.
 use mathlib.Core.Bool.{Bool, false, _&&_}
 use mathlib.Core.List.{List, [], _∷_}
 use mathlib.Core.Option.{Option}

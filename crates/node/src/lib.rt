@@ -1,4 +1,5 @@
-// A replica's core: what is short goes by value, the tables stand in one lent buffer of words that counts as part of the node.
+// A replica's core: what is short goes by value, the tables stand in one lent buffer of words that counts as part of
+// the node.
 use ids::Ballot;
 use ids::Leader;
 use ids::Replica;

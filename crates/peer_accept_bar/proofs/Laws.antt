@@ -1,4 +1,4 @@
--- The pair that a guard alters, and the bars counted one by one. Assumes nothing.
+-- The pair that a guard alters, and the bars counted one by one.
 use mathlib.Core.Path.{_≡_, refl, sym, ap, _∙_}
 use mathlib.Core.Logic.{_≢_}
 use mathlib.Core.Bool.{Bool, true, false, not}

@@ -1,4 +1,4 @@
--- `peer_accept_bar` in lent words: the guard numbers, then the guard bars. Assumes nothing: these are definitions.
+-- Trusted: the guard pairs (`peer_accept_bar`) that lent words stand for: all numbers, then all bars.
 use mathlib.Core.List.{List, map}
 use Prim.Native.Nat.{ℕ, _+_, _-_}
 use lib.ListN.{getD, set}

@@ -1,4 +1,5 @@
-// `peer_accept_bar` of conflease.rs: a guard's number and bar for each replica, in lent words, and the reading bar worked out from them.
+// `peer_accept_bar` of conflease.rs: a guard's number and bar for each replica, in lent words, and the reading bar
+// worked out from them.
 use ids::Ballot;
 use ids::Replica;
 use ids::Slot;

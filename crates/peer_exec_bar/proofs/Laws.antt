@@ -1,4 +1,5 @@
--- What the proofs of this crate share, and that the lists say what the machine says of a whole replica. Assumes nothing.
+-- What the proofs of this crate share, and that the lists say what the machine says of a whole replica. Assumes
+-- nothing.
 use mathlib.Core.Path.{_≡_, refl, sym, ap, _∙_}
 use mathlib.Core.Bool.{Bool, true, false, not, _||_}
 use mathlib.Core.List.{List}

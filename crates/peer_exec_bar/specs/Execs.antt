@@ -1,5 +1,5 @@
--- `peer_exec_bar` as a list, one bar for each replica, and what a heartbeat's exec and snap bar make of it and of the snap bar (the end of `heard_heartbeat`).
--- The machine says the same of a whole replica: proofs/Laws ties the two. Assumes nothing: these are definitions.
+-- Bridge: `peer_exec_bar` as a list, one bar for each replica, and what a heartbeat's exec and snap bar make of it and
+-- of the snap bar (the end of `heard_heartbeat`); tied to `heardExecBar` by proofs/Laws.
 use mathlib.Core.Path.{_≡_}
 use mathlib.Core.Bool.{Bool, _||_}
 use mathlib.Core.List.{List}

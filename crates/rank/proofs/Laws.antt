@@ -1,5 +1,5 @@
--- Sorting and counting: the element at place k of the sorted list is at most v just where more than k elements are at most v.
--- Assumes nothing.
+-- Sorting and counting: the element at place k of the sorted list is at most v just where more than k elements are at
+-- most v.
 use Prim.Native.Nat.{ℕ, zero, suc, _+_, _-_, _≤_, _<_}
 use mathlib.Core.Bool.{Bool, true, false}
 use mathlib.Core.List.{List, [], _∷_}

@@ -1,4 +1,4 @@
--- A list of numbers in ascending order, equal ones each kept. Assumes nothing: these are definitions.
+-- Trusted: a list of numbers in ascending order, equal ones each kept ("the quorum-th smallest").
 use Prim.Native.Nat.{ℕ, _+_}
 use mathlib.Core.List.{List, [], _∷_}
 use lib.Dec.{leb}

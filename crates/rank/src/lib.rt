@@ -1,5 +1,5 @@
-// The k-th smallest of a list of bars, equal ones each counted. A search by value: it goes over the list once for each halving of the
-// distance between the smallest and the largest bar.
+// The k-th smallest of a list of bars, equal ones each counted. A search by value: it goes over the list once for each
+// halving of the distance between the smallest and the largest bar.
 ghost use mathlib.Core.Path.{_≡_};
 ghost use Prim.Native.Nat.{ℕ, _-_, _≤_, _<_};
 ghost use lib.ListN.{length, getD};

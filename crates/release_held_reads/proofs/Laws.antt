@@ -1,4 +1,4 @@
--- A slot's held reads answered one by one, and its queue emptied. Assumes nothing.
+-- A slot's held reads answered one by one, and its queue emptied.
 use mathlib.Core.Path.{_≡_, refl, sym, ap, _∙_}
 use mathlib.Core.Bool.{Bool, true, false, not}
 use mathlib.Core.List.{List, [], _∷_, _++_, map}

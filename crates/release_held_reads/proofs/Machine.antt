@@ -1,4 +1,5 @@
--- `release_held_read_reqs` of the machine, by the slot's instance; a place whose queue is emptied holds that instance without its reads. Assumes nothing.
+-- `release_held_read_reqs` of the machine, by the slot's instance; a place whose queue is emptied holds that instance
+-- without its reads.
 use mathlib.Core.Path.{_≡_, refl, sym, ap}
 use mathlib.Core.Bool.{Bool, true, false}
 use mathlib.Core.List.{List, [], _∷_, map}

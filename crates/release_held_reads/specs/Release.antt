@@ -1,4 +1,5 @@
--- `release_held_read_reqs` for one slot, over what it reads of the replica: quorum, leader and the slot's instance. Assumes nothing: these are definitions.
+-- Bridge: `release_held_read_reqs` for one slot, over what it reads of the replica: quorum, leader and the slot's
+-- instance; tied to `releaseHeldReadReqs` by proofs/Machine.
 use mathlib.Core.Path.{_≡_}
 use mathlib.Core.Bool.{Bool, not}
 use mathlib.Core.List.{List, [], map}
@@ -29,7 +30,7 @@ answersOf quorum leader i = map (answerTo (isBound quorum i) leader (i .reqs)) (
 abbrev pub emptied : Instance → Instance
 emptied i = ifNone i .replicaBk then i else λ b. withReplicaBk (withHolding [] b) i
 
--- what a release of the slot at place c comes to: so many items r, the slots' words t, and the area after
+-- what a release of the slot at place c leaves: so many items r, the slots' words t, and the area after
 pub record Releases (quorum : ℕ) (leader : Option ℕ) (c place : ℕ) (s area : List ℕ) (r : ℕ) (t area′ : List ℕ) : Type 0 where
   pub count : r ≡ length (answersOf quorum leader (instIn s c))
   pub items : area′ ≡ writes area (place * 6) (encode (answersOf quorum leader (instIn s c)))

@@ -1,4 +1,5 @@
-// localread.rs: whether the write of a slot is bound to commit, and the reads that the slot holds, answered. The slots stand in lent words of crate insts.
+// localread.rs: whether the write of a slot is bound to commit, and the reads that the slot holds, answered. The slots
+// stand in lent words of crate insts.
 use ids::Leader;
 use inst_cell::Cell;
 use inst_cell::ReplicaBk;
@@ -115,7 +116,8 @@ pub fn holding(s: &[u64], c: usize) -> usize
     insts::count_reads(s, c)
 }
 
-// `release_held_read_reqs` for the slot at place c: its items from a place of the area on, and its queue emptied. Returns how many items.
+// `release_held_read_reqs` for the slot at place c: its items from a place of the area on, and its queue emptied.
+// Returns how many items.
 pub fn release(
     s: &mut [u64],
     c: usize,

@@ -1,4 +1,4 @@
--- What the steps of the program leave, with the premises as the code has them. Assumes nothing.
+-- What the steps of the program leave, with the premises as the code has them.
 use mathlib.Core.Path.{_≡_, refl, sym}
 use mathlib.Core.Bool.{Bool, true, false, true≢false}
 use mathlib.Core.List.{List, [], _∷_, _++_}

@@ -1,4 +1,4 @@
--- What a read comes to. Assumes nothing: these are definitions.
+-- Trusted: what a read of the input brought.
 use mathlib.Core.Bool.{Bool}
 use Prim.Native.Nat.{ℕ, zero, suc}
 use lib.IntN.{ℤ, pos, negsuc}
@@ -8,7 +8,8 @@ use Rattle.stream_turns.specs.TurnList.{Fills}
 use Rattle.replay.specs.declared.Filled.{Filled}
 use Rattle.replay.specs.declared.Filled.the-variants.{Piece, Ended, Failed}
 
--- A read that answers 0 has met the end of the input. One that fails has not: it is read again if a signal interrupted it.
+-- A read that answers 0 has met the end of the input. One that fails has not: it is read again if a signal interrupted
+-- it.
 unfoldable pub filledAs : ℤ → Bool → ℕ → ℕ → Filled
 filledAs (pos zero) interrupted have end = Ended
 filledAs (pos (suc k)) interrupted have end = Piece end

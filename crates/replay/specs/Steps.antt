@@ -1,4 +1,4 @@
--- What the program's steps leave, whatever was read and written. Assumes nothing: these are definitions.
+-- Bridge: what the program's steps leave, whatever was read and written; tied to `TurnList` by proofs/Laws.
 use mathlib.Core.Path.{_≡_}
 use mathlib.Core.Bool.{false}
 use mathlib.Core.List.{List}

@@ -12,7 +12,7 @@ ghost use Rattle.layout.specs.Layout.{rosterWords, nodeWords};
 ghost use Rattle.replay.specs.Reads.{filledAs, Filling};
 ghost use Rattle.replay.specs.Steps.{Stands, Steps};
 
-// What a read came to: the bytes of the buffer now end there, the input has ended, or the read failed.
+// What a read brought: the bytes of the buffer now end there, the input has ended, or the read failed.
 enum Filled {
     Piece(usize),
     Ended,
@@ -39,8 +39,8 @@ fn flush(out: &[u8], used: usize) -> bool
     wrote
 }
 
-// What a read that answered `got` came to: the bytes ended at `have` before it, and if it got any, end at `end`. One that a
-// signal interrupted is a piece without bytes.
+// What a read that answered `got` brought: the bytes ended at `have` before it, and if it got any, end at `end`. One
+// that a signal interrupted is a piece without bytes.
 fn outcome(got: isize, interrupted: bool, have: usize, end: usize) -> Filled
     ensures { λ r. ⌜ r ≡ filledAs got interrupted have end ⌝ }
 {
@@ -67,8 +67,8 @@ fn fill(buf: &mut [u8], have: usize) -> Filled
     outcome(got, interrupted, have, end)
 }
 
-// A turn over the bytes that wait, and its text written; or, where no line ends in them, a read. At the end of the input,
-// the last line.
+// A turn over the bytes that wait, and its text written; or, where no line ends in them, a read. At the end of the
+// input, the last line.
 fn step(
     buf: &mut [u8],
     from: Stream,
@@ -125,8 +125,8 @@ fn step(
     }
 }
 
-// A proved loop has to end, and nothing says that the input does: so it counts its steps down, from a number that no run
-// uses up.
+// A proved loop has to end, and nothing says that the input does: so it counts its steps down, from a number that no
+// run uses up.
 fn run(
     buf: &mut [u8],
     mem: &mut [u64],

@@ -1,4 +1,5 @@
--- The batch as it is lent: how many requests, a key by its clamped start and length, whether one is long, and the batch loaded request by request. Assumes nothing.
+-- The batch as it is lent: how many requests, a key by its clamped start and length, whether one is long, and the batch
+-- loaded request by request.
 use mathlib.Core.Path.{_≡_, refl, sym, ap, _∙_}
 use mathlib.Core.Bool.{Bool, true, false, _||_}
 use mathlib.Core.List.{List, []}

@@ -1,4 +1,4 @@
--- The batch as *record* is lent it: rows of six words, and the text that the keys are parts of. Assumes nothing: these are definitions.
+-- Trusted: the batch as *record* is lent it: rows of six words, and the text that the keys are parts of.
 use mathlib.Core.Path.{_≡_}
 use mathlib.Core.Bool.{Bool}
 use mathlib.Core.List.{List}
@@ -12,7 +12,8 @@ use Rattle.bodega.specs.Grounds.{any}
 use Rattle.roster_conf.specs.Edit.{longKey}
 use Rattle.inst_reqs.specs.Batch.{commandAt, requestsOf}
 
--- the request at word p: client, request, kind, value, start and length of its key; what lies past the end of the text is not there
+-- the request at word p: client, request, kind, value, start and length of its key; what lies past the end of the text
+-- is not there
 unfoldable pub givenFrom : List ℕ → List ℕ → ℕ → machine.Request
 givenFrom rows text p = record {
   client = getD rows p 0;

@@ -1,5 +1,6 @@
-// The batch as the caller of *record* lends it: six words a request (client, request, kind, value, start and length of its key), and the text that the keys are parts of.
-// A kind of 1 is a Put. Any words are a batch: what lies past the end of the text is not there.
+// The batch as the caller of *record* lends it: six words a request (client, request, kind, value, start and length of
+// its key), and the text that the keys are parts of. A kind of 1 is a Put. Any words are a batch: what lies past the
+// end of the text is not there.
 use inst_reqs::Request;
 use inst_reqs::command_at;
 use key_words::Key;

@@ -1,4 +1,5 @@
--- What the proofs of this crate share: two rosters compared part by part, a mask that does not fit found row by row, rows copied. Assumes nothing.
+-- What the proofs of this crate share: two rosters compared part by part, a mask that does not fit found row by row,
+-- rows copied.
 use mathlib.Core.Path.{_≡_, refl, sym, ap, _∙_}
 use mathlib.Core.Bool.{Bool, true, false, not, _&&_, _||_, and-false, and-true}
 use mathlib.Core.List.{List, _∷_, []}

@@ -1,4 +1,5 @@
-// The roster that a heartbeat carries, beside the node's own: whether they are the same, whether one names replicas that are not there, and its rows copied.
+// The roster that a heartbeat carries, beside the node's own: whether they are the same, whether one names replicas
+// that are not there, and its rows copied.
 use ids::Ballot;
 use ids::Leader;
 use ids::Replica;

@@ -1,4 +1,4 @@
--- The first ground that applies is the lowest; where there is no refusal, none applies. Assumes nothing.
+-- The first ground that applies is the lowest; where there is no refusal, none applies.
 use mathlib.Core.Path.{_≡_, refl, sym, _∙_}
 use mathlib.Core.Bool.{Bool, true, false}
 use mathlib.Core.Logic.{inl, inr, ⊎-elim}

@@ -1,4 +1,5 @@
--- What the proofs of the edits share: from the code's tests to the ground that applies, and from what is stored to the roster. Assumes nothing.
+-- What the proofs of the edits share: from the code's tests to the ground that applies, and from what is stored to the
+-- roster.
 use mathlib.Core.Path.{_≡_, refl, sym, ap, _∙_}
 use mathlib.Core.Bool.{Bool, true, false, not, _&&_}
 use mathlib.Core.List.{List}

@@ -1,4 +1,4 @@
--- What holds of every roster that edits make: one list for what it stores, at most 64 ranges. Assumes nothing.
+-- What holds of every roster that edits make: one list for what it stores, at most 64 ranges.
 use mathlib.Core.Path.{_≡_, refl, sym, _∙_}
 use mathlib.Core.Bool.{true, false}
 use mathlib.Core.List.{List, _∷_, []}

@@ -1,4 +1,5 @@
--- `set_responders` and `set_full` in two parts: the range that is asked for, and what storing it comes to. Assumes nothing: these are definitions.
+-- Bridge: `set_responders` and `set_full` in two parts, the range that is asked for and what storing it leaves; tied
+-- to `editResult` by proofs/Laws.
 use Prim.Native.Nat.{ℕ}
 use mathlib.Core.List.{List}
 use mathlib.Core.Path.{_≡_}

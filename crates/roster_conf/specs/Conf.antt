@@ -1,4 +1,4 @@
--- keyrange.rs: `RespondersConf`, a roster. Assumes nothing: these are definitions.
+-- Trusted: keyrange.rs, `RespondersConf`, a roster (document 01, port order 3).
 use Prim.Native.Nat.{ℕ, _-_, _^_}
 use mathlib.Core.Bool.{Bool, true, false, _&&_}
 use mathlib.Core.List.{List, [], _∷_}
@@ -39,7 +39,8 @@ setResponders a b mask c = record { leader = c .leader; ranges = overwrite (c .r
 abbrev pub setFull : ℕ → Conf → Conf
 setFull mask c = setResponders 0 (2 ^ 128 - 1) mask c
 
--- `into_filtered`: "clears its bit in each range and in the default, clears it as leader, and joins ranges that became equal"
+-- `into_filtered`: "clears its bit in each range and in the default, clears it as leader, and joins ranges that became
+-- equal"
 abbrev pub leaderWithout : ℕ → Option ℕ → Option ℕ
 leaderWithout id leader = ifNone leader then none else λ l. if eqb l id then none else some l
 

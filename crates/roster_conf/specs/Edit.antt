@@ -1,4 +1,4 @@
--- The edits of a roster (document 01's draft lines), and why one is turned away. Assumes nothing: these are definitions.
+-- Trusted: the edits of a roster (document 01's draft lines), and why one is refused.
 use Prim.Native.Nat.{ℕ}
 use mathlib.Core.Bool.{Bool, true, false, _||_, not}
 use mathlib.Core.List.{List, []}

@@ -1,4 +1,4 @@
--- A list of edits, refused ones included. Assumes nothing: these are definitions.
+-- Trusted: a list of edits, refused ones included, and what holds of every roster that edits make.
 use Prim.Native.Nat.{ℕ, _≤_}
 use mathlib.Core.Path.{_≡_}
 use mathlib.Core.Bool.{Bool, true, _&&_}

@@ -1,4 +1,4 @@
--- What every public edit meets: a roster is the struct and its lent words, 64 rows of five. Assumes nothing: these are definitions.
+-- Trusted: the one statement that every public edit meets: a roster is the struct and its lent words, 64 rows of five.
 use Prim.Native.Nat.{ℕ, _*_, _≤_}
 use mathlib.Core.Path.{_≡_}
 use mathlib.Core.Bool.{Bool, _&&_}

@@ -1,4 +1,4 @@
--- Document 01, "Why a call is turned away": grounds by number, ascending, and the first that applies. Assumes nothing: these are definitions.
+-- Trusted: document 01, "Why a call is turned away": grounds by number, ascending, and the first that applies.
 use Prim.Native.Nat.{ℕ, _<_}
 use mathlib.Core.Bool.{Bool, true}
 use mathlib.Core.List.{List, _∷_, []}

@@ -1,4 +1,4 @@
--- What the proofs of this crate share: rows of words as ranges, a push at the end of a table, and passes over one. Assumes nothing.
+-- What the proofs of this crate share: rows of words as ranges, a push at the end of a table, and passes over one.
 use mathlib.Core.Path.{_≡_, refl, sym, ap, _∙_}
 use mathlib.Core.Bool.{Bool, true, false, _&&_}
 use mathlib.Core.Logic.{inl, inr}

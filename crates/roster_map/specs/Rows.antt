@@ -1,4 +1,5 @@
--- A table of ranges in lent words, five to a row: start high and low, end high and low, mask. Assumes nothing: these are definitions.
+-- Trusted: the table of ranges that lent words stand for, five to a row: start high and low, end high and low, mask.
+-- What storing a list leaves is a bridge, tied by roster_conf/proofs/Laws.
 use Prim.Native.Nat.{ℕ, _+_, _*_, _^_, _≤_}
 use mathlib.Core.Bool.{Bool, false}
 use mathlib.Core.List.{List, _∷_, []}
@@ -68,7 +69,7 @@ abbrev pub size : Stored → ℕ
 size (Rows n) = n
 size Full = 0
 
--- what storing l in the words s comes to: the words t, and how many rows they are, where there are not too many
+-- what storing l in the words s leaves: the words t, and how many rows they are, where there are not too many
 pub record Stores (l : List Range) (s t : List ℕ) (r : Stored) : Type 0 where
   pub outcome : shown r t ≡ capped l
   pub refused : r ≡ Full → t ≡ s

@@ -1,5 +1,5 @@
--- What writing a range over a canonical table means: at each number in the range its mask, at any other what the table said; and the result is canonical. Two canonical tables that say the same are the same.
--- Assumes nothing.
+-- What writing a range over a canonical table means: at each number in the range its mask, at any other what the table
+-- said; and the result is canonical. Two canonical tables that say the same are the same.
 use mathlib.Core.Path.{_≡_, refl, sym, ap, _∙_}
 use mathlib.Core.Bool.{Bool, true, false, _&&_, not}
 use mathlib.Core.Option.{Option, none, some}

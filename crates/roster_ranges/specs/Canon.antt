@@ -1,4 +1,5 @@
--- When a table is the one list for what it stores: ascending, disjoint, and touching ranges with equal masks are one. Assumes nothing: these are definitions.
+-- Trusted: when a table is the one list for what it stores: ascending, disjoint, and touching ranges with equal masks
+-- are one.
 use Prim.Native.Nat.{ℕ, _+_, _≤_}
 use mathlib.Core.Path.{_≡_}
 use mathlib.Core.Bool.{Bool, true, false, _&&_, not}

@@ -1,4 +1,5 @@
--- Tables of key ranges, each with a mask: what the crate rangemap's documentation says of `RangeInclusiveMap`. Assumes nothing: these are definitions.
+-- Trusted: tables of key ranges, each with a mask: what the crate rangemap's documentation says of
+-- `RangeInclusiveMap`.
 use Prim.Native.Nat.{ℕ, _+_, _-_}
 use mathlib.Core.Bool.{Bool, _&&_}
 use mathlib.Core.List.{List, [], _∷_, _++_}
@@ -24,7 +25,8 @@ at (r ∷ l) n = if inside r n then some (r .mask) else at l n
 abbrev pub maskAt : ℕ → List Range → ℕ → ℕ
 maskAt d l n = ifNone at l n then d else λ m. m
 
--- `r` after the last range of a table. "Touching ranges with equal masks are one": joined where it goes on at the next key with the same mask
+-- `r` after the last range of a table. "Touching ranges with equal masks are one": joined where it goes on at the next
+-- key with the same mask
 abbrev pub goesOn : Range → Range → Bool
 goesOn x r = eqb (x .mask) (r .mask) && eqb (x .to + 1) (r .from)
 

@@ -1,1 +1,2 @@
-// What a table of key ranges is and means: definitions in specs/, theorems in proofs/. The code over lent words is the crate roster_map.
+// What a table of key ranges is and means: definitions in specs/, theorems in proofs/. The code over lent words is the
+// crate roster_map.

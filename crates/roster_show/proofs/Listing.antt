@@ -1,4 +1,4 @@
--- The listing, span by span. Assumes nothing.
+-- The listing, span by span.
 use mathlib.Core.Path.{_≡_, refl, sym, ap, _∙_}
 use mathlib.Core.Bool.{Bool, true, false, not}
 use mathlib.Core.List.{List, _∷_, _++_, []}

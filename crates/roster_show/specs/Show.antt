@@ -1,4 +1,4 @@
--- `show`: "spans ascend, `rest` is last". Assumes nothing: these are definitions.
+-- Trusted: document 01, "For `show`, spans ascend, `rest` is last".
 use Prim.Native.Nat.{ℕ}
 use mathlib.Core.List.{List, _∷_, _++_, map, []}
 use lib.Dec.{ltb}

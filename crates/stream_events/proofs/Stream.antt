@@ -1,4 +1,4 @@
--- A stream of event lines in pieces is answered as its lines are, one after the other. Assumes nothing.
+-- A stream of event lines in pieces is answered as its lines are, one after the other.
 use mathlib.Core.Path.{_≡_, refl, sym, ap, _∙_}
 use mathlib.Core.Bool.{Bool, true, false}
 use mathlib.Core.List.{List, [], _∷_, _++_, append-assoc, append-nil}

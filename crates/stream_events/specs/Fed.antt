@@ -1,4 +1,4 @@
--- What the functions of lines answer and leave. Assumes nothing: these are definitions.
+-- Trusted: what the functions of a stream's lines answer and leave.
 use mathlib.Core.Path.{_≡_}
 use mathlib.Core.Bool.{Bool, true, false}
 use mathlib.Core.List.{List, []}
@@ -18,7 +18,8 @@ use Rattle.stream_events.specs.declared.Place.{Place}
 use Rattle.stream_events.specs.declared.Fed.{Fed}
 use Rattle.stream_events.specs.Lines.{State, lineOutput, lastState}
 
--- the buffers that are lent for every line: long enough, with an area of 546 places, and a draft that edits can have made
+-- the buffers that are lent for every line: long enough, with an area of 546 places, and a draft that edits can have
+-- made
 pub record Lent (h : Host) (mem rows area groups : List ℕ) : Type 0 where
   pub isSound : sound (h .draft) mem rows ≡ true
   pub areaSize : places area ≡ items
@@ -39,7 +40,8 @@ pub record WritesLastLine (c : LineState) (mem rows : List ℕ) (b : Begun) (out
   pub text : Wrote out 0 (lastLine lineOutput (stateOf c mem rows) b) 65536 (r .end) out′
   pub lent : Lent (r .state .host) mem′ rows′ area′ groups′
 
--- the lines from a place in a piece up to the next place were answered; then no line ends in the piece any more, or the output is too full for one
+-- the lines from a place in a piece up to the next place were answered; then no line ends in the piece any more, or the
+-- output is too full for one
 pub record WritesLines (piece : Bytes) (p : Place) (mem rows : List ℕ) (out : Bytes) (r : Fed) (mem′ rows′ area′ groups′ : List ℕ) (out′ : Bytes) : Type 0 where
   pub answered : record { bytes = out′; used = r .used; state = stateOf (r .place .state) mem′ rows′; begun = record { long = r .place .long; line = [] } }
       ≡ outputAfter out 0 (streamed lineOutput (stateOf (p .state) mem rows) (record { long = p .long; line = [] }) (take (r .place .at - p .at) (drop (p .at) piece)))

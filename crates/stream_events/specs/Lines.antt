@@ -1,4 +1,4 @@
--- Document 01, "The event program": what is written for a stream of event lines. Assumes nothing: these are definitions.
+-- Trusted: document 01, "The event program": what is written for a stream of event lines.
 use Prim.Native.Nat.{ℕ, _+_, _-_, _^_, _<_}
 use mathlib.Core.Path.{_≡_}
 use mathlib.Core.Bool.{_||_}
@@ -37,7 +37,8 @@ lastState s b = if b .long || ltb 0 (length (b .line)) then lineOutput s b .next
 
 -- ---- the same without pieces
 
--- the lines of a stream: each up to its newline, and a last one without a newline if it has a byte; acc is what its first line has already
+-- the lines of a stream: each up to its newline, and a last one without a newline if it has a byte; acc is what its
+-- first line has already
 unfoldable pub linesFrom : Bytes → Bytes → List Bytes
 linesFrom acc [] = if ltb 0 (length acc) then acc ∷ [] else []
 linesFrom acc (c ∷ s) = if eqb c 10 then acc ∷ linesFrom [] s else linesFrom (acc ++ (c ∷ [])) s
@@ -45,6 +46,7 @@ linesFrom acc (c ∷ s) = if eqb c 10 then acc ∷ linesFrom [] s else linesFrom
 abbrev pub linesOf : Bytes → List Bytes
 linesOf s = linesFrom [] s
 
--- a stream of fewer lines than the number can count, in whatever pieces it comes, is answered as its lines are one after the other
+-- a stream of fewer lines than the number can count, in whatever pieces it comes, is answered as its lines are one
+-- after the other
 abbrev pub PiecesAsWhole : Type 0
 PiecesAsWhole = (ps : List Bytes) → length (linesOf (concat ps)) < 2 ^ 64 - 1 → piecewise lineOutput start noneBegun ps ≡ answerLines freshHost 1 (linesOf (concat ps))

@@ -1,4 +1,5 @@
--- What the proofs of the pieces share, with the premises as the code has them, and how a run of bytes goes line by line. Assumes nothing.
+-- What the proofs of the pieces share, with the premises as the code has them, and how a run of bytes goes line by
+-- line.
 use mathlib.Core.Path.{_≡_, refl, sym, ap, _∙_}
 use mathlib.Core.Bool.{Bool, true, false}
 use mathlib.Core.List.{List, [], _∷_, _++_, append-assoc, append-nil}

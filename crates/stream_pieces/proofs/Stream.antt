@@ -1,4 +1,5 @@
--- A stream that comes in pieces, cut anywhere, is answered as a whole is, wherever no byte of a long line changes its answer. Assumes nothing.
+-- A stream that comes in pieces, cut anywhere, is answered as a whole is, wherever no byte of a long line changes its
+-- answer.
 use mathlib.Core.Path.{_≡_, refl, sym, ap, _∙_}
 use mathlib.Core.Bool.{Bool, true, false}
 use mathlib.Core.List.{List, [], _∷_, _++_, append-assoc}

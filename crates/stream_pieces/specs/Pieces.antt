@@ -1,4 +1,4 @@
--- A line of a stream that comes in pieces. Assumes nothing: these are definitions.
+-- Trusted: a line of a stream that comes in pieces ("exceeds 1,024 bytes").
 use Prim.Native.Nat.{ℕ, zero, suc}
 use mathlib.Core.Bool.{Bool, true, false}
 use mathlib.Core.List.{List, [], _∷_, _++_}

@@ -1,4 +1,4 @@
--- What is written for a stream of lines, as a whole and read in pieces, whatever a line's answer is. Assumes nothing: these are definitions.
+-- Trusted: what is written for a stream of lines, as a whole and read in pieces, whatever a line's answer is.
 use mathlib.Core.Path.{_≡_}
 use Prim.Native.Nat.{ℕ, _+_, _<_}
 use mathlib.Core.Bool.{true, _||_}

@@ -1,4 +1,4 @@
--- What a turn leaves, with the premises as the code has them. Assumes nothing.
+-- What a turn leaves, with the premises as the code has them.
 use mathlib.Core.Path.{_≡_, refl, sym, ap, _∙_}
 use mathlib.Core.Bool.{true, false, true≢false}
 use mathlib.Core.List.{List, [], append-nil}

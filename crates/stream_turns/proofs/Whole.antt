@@ -1,4 +1,4 @@
--- A stream answered turn by turn is answered as its lines are, one after the other. Assumes nothing.
+-- A stream answered turn by turn is answered as its lines are, one after the other.
 use mathlib.Core.Path.{_≡_, refl, sym, ap, _∙_}
 use mathlib.Core.Bool.{Bool, true, false, true≢false}
 use mathlib.Core.List.{List, [], _∷_, _++_, append-assoc, append-nil}
@@ -99,7 +99,7 @@ filled-up s buf buf′ end l z f =
     ∙ ap (λ (x : Bytes). x ++ l) (ap (λ (x : Bytes). x ++ drop (s .end) (take end buf′)) (sym (f .same) ∙ sym (take-take (s .end) end buf′ (f .order))) ∙ take-append-drop (s .end) (take end buf′)))
 
 module _ (view : Streamed State → Bytes) (same : (x : State) (b : Begun) (l : Bytes) → view (streamed lineOutput x (kept b) l) ≡ view (streamed lineOutput x b l)) (ahead : (x : Bytes) (q : Streamed State) → view (prepend x q) ≡ x ++ view q) where
-  -- what the whole comes to, is what was written, and then what the bytes that wait and the rest come to
+  -- what the whole leaves, is what was written, and then what the bytes that wait and the rest leave
   abbrev Goes : List Bytes → Bytes → Stream → Bytes → List ℕ → List ℕ → Type 0
   Goes ps text s buf mem rows = (l : Bytes) → view (streamed lineOutput start noneBegun (concat ps ++ l)) ≡ text ++ view (streamedOn s mem rows (waiting s buf ++ l))
 

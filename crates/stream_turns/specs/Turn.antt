@@ -1,4 +1,4 @@
--- What a turn answers and leaves. Assumes nothing: these are definitions.
+-- Trusted: what a turn answers and leaves.
 use mathlib.Core.Path.{_≡_}
 use mathlib.Core.Bool.{true, false}
 use mathlib.Core.List.{List, []}
@@ -25,7 +25,7 @@ pub record Begins (s : Stream) : Type 0 where
 abbrev pub waiting : Stream → Bytes → Bytes
 waiting s buf = drop (s .place .at) (take (s .end) buf)
 
--- what some of these bytes come to
+-- what some of these bytes leave
 abbrev pub streamedOn : Stream → List ℕ → List ℕ → Bytes → Streamed State
 streamedOn s mem rows l = streamed lineOutput (stateOf (s .place .state) mem rows) (record { long = s .place .long; line = [] }) l
 

@@ -1,4 +1,4 @@
--- Every list of turns, each by the statement of `turn`, and what their texts come to. Assumes nothing: these are definitions.
+-- Trusted: every list of turns, each by the statement of `turn`, and what their texts are together.
 use mathlib.Core.Path.{_≡_}
 use mathlib.Core.Bool.{true, false}
 use mathlib.Core.List.{List, [], _∷_, _++_}
@@ -25,9 +25,9 @@ pub record Fills (buf : Bytes) (have end : ℕ) (buf′ : Bytes) : Type 0 where
 abbrev pub filled : Stream → ℕ → Stream
 filled s end = record { place = s .place; end = end; more = true }
 
--- From the start these pieces were read, and the turns' texts came to this: where the stream and its buffers stand then.
--- Each turn begins from what the last one left; the output before it is free, and so are the answer area and the groups.
--- Nothing is read while lines may end in the bytes.
+-- From the start these pieces were read, and the turns' texts came to this: where the stream and its buffers stand
+-- then. Each turn begins from what the last one left; the output before it is free, and so are the answer area and the
+-- groups. Nothing is read while lines may end in the bytes.
 pub data TurnList : List Bytes → Bytes → Stream → Bytes → List ℕ → List ℕ → Type 0 where
   none : {s : Stream} {buf : Bytes} {mem rows : List ℕ} → Begins s → TurnList [] [] s buf mem rows
   read : {ps : List Bytes} {text : Bytes} {s : Stream} {buf : Bytes} {mem rows : List ℕ} (end : ℕ) (buf′ : Bytes)
@@ -35,8 +35,8 @@ pub data TurnList : List Bytes → Bytes → Stream → Bytes → List ℕ → L
   turn : {ps : List Bytes} {text : Bytes} {s : Stream} {buf : Bytes} {mem rows : List ℕ} (out : Bytes) (r : TurnResult) (buf′ : Bytes) (mem′ rows′ area′ groups′ : List ℕ) (out′ : Bytes)
       → TurnList ps text s buf mem rows → TurnLeaves buf s mem rows out r buf′ mem′ rows′ area′ groups′ out′ → TurnList ps (text ++ take (r .used) out′) (r .stream) buf′ mem′ rows′
 
--- Whatever the pieces are, the texts and then that of the last line, when the input has ended, are what document 01 says
--- of the stream's lines.
+-- Whatever the pieces are, the texts and then that of the last line, when the input has ended, are what document 01
+-- says of the stream's lines.
 abbrev pub TurnsAsWhole : Type 0
 TurnsAsWhole = (ps : List Bytes) (text : Bytes) (s : Stream) (buf : Bytes) (mem rows : List ℕ) (out : Bytes) (r : LineWritten) (mem′ rows′ area′ groups′ : List ℕ) (out′ : Bytes)
     → TurnList ps text s buf mem rows → s .more ≡ false

@@ -39,8 +39,8 @@ impl Stream {
     }
 }
 
-// Answers the lines that end in the bytes, while the output has room for any answer. Where it has room for all, keeps the
-// line that has begun.
+// Answers the lines that end in the bytes, while the output has room for any answer. Where it has room for all, keeps
+// the line that has begun.
 pub fn turn(
     buf: &mut [u8],
     from: Stream,

@@ -1,4 +1,4 @@
--- The sum goes on from one list to the next, and a turn of the loops. Assumes nothing.
+-- The sum goes on from one list to the next, and a turn of the loops.
 use mathlib.Core.Path.{_≡_, refl, sym, ap, _∙_}
 use mathlib.Core.List.{List, [], _∷_, _++_}
 use Prim.Native.Nat.{ℕ, zero, suc, _+_, _-_, _*_, _/_, _%_, _≤_, _<_, min}

@@ -1,5 +1,5 @@
--- The numbers of a node and its buffer, and of a roster and its rows, of which a sum is made: on any words.
--- A word past the end is 0. Assumes nothing: these are definitions.
+-- Trusted: the numbers of a node and its buffer, and of a roster and its rows, of which a sum is made: on any words. A
+-- word past the end is 0.
 use Prim.Native.Nat.{ℕ, zero, suc, _+_, _-_, _*_, _%_, min}
 use mathlib.Core.List.{List, [], _∷_, _++_}
 use lib.Dec.{eqb}

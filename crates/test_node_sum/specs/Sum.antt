@@ -1,6 +1,5 @@
--- A sum that tells two lists of numbers apart: of the text in which each number stands in decimal behind a comma.
--- The text's bytes, each and one more, are digits to the base 257, and the sum is that number modulo a prime.
--- Assumes nothing: these are definitions.
+-- Trusted: a sum that tells two lists of numbers apart: of the text in which each number stands in decimal behind a
+-- comma. The text's bytes, each and one more, are digits to the base 257, and the sum is that number modulo a prime.
 use Prim.Native.Nat.{ℕ, _+_, _*_, _%_}
 use mathlib.Core.List.{List, [], _∷_}
 use Rattle.decimal.specs.Digits.{decimal}

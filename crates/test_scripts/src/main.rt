@@ -1,5 +1,6 @@
-// Replays the recorded answers of the original Rust (oracle/README.md, "Recorded answers"), which are standard input: answers each script's event lines
-// from the fresh state, as a whole and cut in the middle, and compares what is written with what was recorded, byte for byte.
+// Replays the recorded answers of the original Rust (oracle/README.md, "Recorded answers"), which are standard input:
+// answers each script's event lines from the fresh state, as a whole and cut in the middle, and compares what is
+// written with what was recorded, byte for byte.
 mod scripts;
 
 use scripts::Script;

@@ -1,4 +1,5 @@
-// The recorded scripts: for each a line `script,NAME,INPUT,OUTPUT`, INPUT bytes of event lines, OUTPUT bytes of answers, and at once the next script.
+// The recorded scripts: for each a line `script,NAME,INPUT,OUTPUT`, INPUT bytes of event lines, OUTPUT bytes of
+// answers, and at once the next script.
 use line_fields::Field;
 ghost use Prim.Native.Nat.{_<_, _≤_};
 ghost use lib.ListN.{length};

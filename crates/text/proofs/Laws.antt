@@ -1,4 +1,4 @@
--- Text after text: digits, bytes, fields. Assumes nothing.
+-- Text after text: digits, bytes, fields.
 use mathlib.Core.Path.{_≡_, refl, sym, ap, _∙_}
 use mathlib.Core.List.{[], _∷_, _++_, append-assoc}
 use Prim.Native.Nat.{ℕ, _+_, _/_, _%_, _^_, _≤_, _<_}

@@ -1,4 +1,4 @@
--- What a writer of text into lent bytes answers and leaves. Assumes nothing: these are definitions.
+-- Trusted: what a writer of text into lent bytes answers and leaves.
 use mathlib.Core.Path.{_≡_}
 use Prim.Native.Nat.{ℕ, _+_, _≤_}
 use lib.ListN.{length}

@@ -1,4 +1,4 @@
--- Words copied one by one. Assumes nothing.
+-- Words copied one by one.
 use mathlib.Core.Path.{_≡_, sym, ap, _∙_}
 use mathlib.Core.List.{List}
 use Prim.Native.Nat.{ℕ, _+_, _≤_, _<_}

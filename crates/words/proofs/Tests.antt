@@ -1,4 +1,4 @@
--- Both sides of a true `&&` and of a false `||`. Assumes nothing.
+-- Both sides of a true `&&` and of a false `||`.
 use mathlib.Core.Path.{_≡_, refl, sym}
 use mathlib.Core.Bool.{Bool, true, false, _&&_, _||_, true≢false}
 

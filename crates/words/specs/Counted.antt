@@ -1,4 +1,5 @@
--- A table in lent words: how many rows in word 0, read as at most lim, and then rows of w words; f reads the row at a word.
+-- Trusted: a table in lent words: how many rows in word 0, read as at most lim, and then rows of w words; f reads the
+-- row at a word.
 use mathlib.Core.Path.{_≡_, sym, ap, _∙_}
 use mathlib.Core.Logic.{_⊎_, inl, inr, _≢_}
 use mathlib.Core.List.{List, [], _∷_, _++_}

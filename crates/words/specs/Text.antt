@@ -1,4 +1,4 @@
--- Bytes, and those of an ASCII text. Assumes nothing: these are definitions.
+-- Trusted: bytes, and those of an ASCII text.
 use Prim.Native.Nat.{ℕ}
 use Prim.Native.Char.{code}
 use Prim.Native.String.{String}

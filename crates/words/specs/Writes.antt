@@ -1,4 +1,4 @@
--- A run of stores, and what stays as it was.
+-- Trusted: a run of stores into a list, and what stays as it was; the laws below it are proved.
 use mathlib.Core.Path.{_≡_, refl, sym, ap, _∙_}
 use mathlib.Core.Logic.{_⊎_, inl, inr, ⊎-elim, _≢_}
 use mathlib.Core.List.{List, [], _∷_, _++_}

@@ -1,4 +1,4 @@
--- A book that is cleared. Assumes nothing.
+-- A book that is cleared.
 use mathlib.Core.Path.{refl}
 use Rattle.accept_notices.proofs.cleared.Statement.{statement}
 use Rattle.accept_notices.proofs.cleared.Tie as tie

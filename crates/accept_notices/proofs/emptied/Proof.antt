@@ -1,6 +1,6 @@
--- `notice_book::emptied` meets its contract: a walk of its MIR, by hand. The book is copied to a local, which is lent to `clear` for a lifetime
--- that is made for the call (`lends-ref`), and taken back at its last value (`ref-back`). All that the proof knows of `clear` is its contract.
--- Assumes nothing.
+-- `notice_book::emptied` meets its contract: a walk of its MIR, by hand. The book is copied to a local, which is lent
+-- to `clear` for a lifetime that is made for the call (`lends-ref`), and taken back at its last value (`ref-back`). All
+-- that the proof knows of `clear` is its contract.
 use mathlib.Core.Path.{_≡_, refl}
 use Prim.Native.Nat.{ℕ}
 use mathlib.Core.List.{[], _∷_}

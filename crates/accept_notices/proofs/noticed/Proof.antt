@@ -1,6 +1,6 @@
--- `notice_book::noticed` meets its contract: a walk of its MIR, by hand. The book is copied to a local, which is lent to `take_notice` for a lifetime
--- that is made for the call (`lends-ref`), and taken back at its last value (`ref-back`). All that the proof knows of `take_notice` is its contract.
--- Assumes nothing.
+-- `notice_book::noticed` meets its contract: a walk of its MIR, by hand. The book is copied to a local, which is lent
+-- to `take_notice` for a lifetime that is made for the call (`lends-ref`), and taken back at its last value
+-- (`ref-back`). All that the proof knows of `take_notice` is its contract.
 use mathlib.Core.Path.{refl}
 use Prim.Native.Nat.{ℕ}
 use mathlib.Core.List.{[], _∷_}

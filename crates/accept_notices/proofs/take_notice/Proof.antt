@@ -1,6 +1,6 @@
--- `notice_book::take_notice` meets its contract: a walk of its MIR, by hand. The borrow is opened, the book is copied out, `taken` is called on it, what it
--- returned is stored whole, and the borrow is closed at that book. All that the proof knows of `taken` is that it meets its contract.
--- Assumes nothing.
+-- `notice_book::take_notice` meets its contract: a walk of its MIR, by hand. The borrow is opened, the book is copied
+-- out, `taken` is called on it, what it returned is stored whole, and the borrow is closed at that book. All that the
+-- proof knows of `taken` is that it meets its contract.
 use mathlib.Core.Path.{refl}
 use Prim.Native.Nat.{ℕ}
 use mathlib.Core.List.{[], _∷_, List}
@@ -99,7 +99,8 @@ module _ {M : Type 1} (𝓤 : URA M) (H : Heap 𝓤) (A : Atoms 𝓤) (W : Given
         move ! (13 ∷ []) $ fsplit ! $ fsplit3 ! $ drop ! $ move ! (15 ∷ []) $ split ! $ move ! (2 ∷ 3 ∷ 0 ∷ []) $
         opens ! tt T.the-row {h = h} b o (λ vs. spelt ! T.the-row (Is T.the-row) (shows 𝓤 H A T.the-row) (LL.vals T.the-type T′.the-laws) (LL.tells T.the-type T′.the-laws) fullShare h vs b o $
         move ! (1 ∷ []) $ peeks ! T.the-row (Is T.the-row) (shows 𝓤 H A T.the-row) h (T′.lowered h ∷ []) (λ was. move ! (1 ∷ 0 ∷ []) $
-        -- [the book's cell; what it owns; the open borrow; obs; auth; true; what the arguments own; the locals, the last first, two places each]
+        -- [the book's cell; what it owns; the open borrow; obs; auth; true; what the arguments own; the locals, the
+        -- last first, two places each]
         assigns ! (of-opd ! (load ! (from ! (hop ! (look ! 15 refl) (stop !))) (look-raw ! 0 refl))) (from ! (stop !)) (init ! 7 refl (LL.lawful T.the-type T′.the-laws 𝓤 H A W .typed h _ was .0)) $
         use0 W (raw (Callee 𝓤 H A at-mem run .pre to)) (asked was) $
         calls-at ! fm (Callee 𝓤 H A at-mem run) known to (and-then ! (load ! (from ! (stop !)) (look ! 8 refl)) (and-then ! (load ! (from ! (stop !)) (look ! 14 refl)) (and-then ! (load ! (from ! (stop !)) (look ! 12 refl)) (no-more !)))) (λ v.

@@ -1,6 +1,8 @@
--- `reader::field_from` meets its contract: a walk of its MIR, by hand. A `LineReader` is made in a local, which is lent to `next_field`, and taken back.
--- The struct holds a borrow at κ, so it is lent for a lifetime within κ: the meet ν ∷ κ of κ and of a lifetime ν that is made for the call. Its token is made of a share of each (`lft-carve`, `lft-meet`), and the end of ν is the end of the meet (`dead-incl`).
--- All that the proof knows of `next_field` is that it meets its contract. Assumes nothing.
+-- `reader::field_from` meets its contract: a walk of its MIR, by hand. A `LineReader` is made in a local, which is lent
+-- to `next_field`, and taken back. The struct holds a borrow at κ, so it is lent for a lifetime within κ: the meet ν ∷
+-- κ of κ and of a lifetime ν that is made for the call. Its token is made of a share of each (`lft-carve`, `lft-meet`),
+-- and the end of ν is the end of the meet (`dead-incl`). All that the proof knows of `next_field` is that it meets its
+-- contract.
 use mathlib.Core.Path.{refl}
 use Prim.Native.Nat.{ℕ, _<_, _^_}
 use mathlib.Core.List.{List, [], _∷_}
@@ -95,7 +97,8 @@ module _ {M : Type 1} (𝓤 : URA M) (H : Heap 𝓤) (A : Atoms 𝓤) (W : Given
         alloc1 ! (λ l₀. alloc1 ! (λ l₁. alloc1 ! (λ l₂. alloc1 ! (λ l₃. alloc1 ! (λ l₄. alloc0 ! $ params1 ! $ pass1 ! (init ! 6 refl (shr-slice-lawful 𝓤 H A W (named 0) κ u8 .typed s (v ∷ []) p .0)) $ pass1 ! (init ! 4 refl (tt, record { fits = ok })) $ pass0 ! $
         assigns ! (agg ! (and-then ! (load ! (from ! (stop !)) (look ! 6 refl)) (and-then ! (load ! (from ! (stop !)) (look ! 4 refl)) (no-more !)))) (from ! (stop !)) (init ! 2 refl (tt, (shr-slice-lawful 𝓤 H A W (named 0) κ u8 .typed s (v ∷ []) p .0 .1, (record { fits = ok }, tt)))) $
         assigns ! (addr ! (from ! (stop !))) (from ! (stop !)) (init ! 0 refl (tt, tt)) $
-        -- what the struct owns is made of a copy of what the slice owns, and with the local's cell it is a reader in memory
+        -- what the struct owns is made of a copy of what the slice owns, and with the local's cell it is a reader in
+        -- memory
         move ! (2 ∷ []) $ move ! (11 ∷ []) $ fsplit ! $ use1 W (‵ (OwnLine κ s) ⊛ ‵ (OwnLine κ s)) (shr-slice-copy 𝓤 H A W (named 0) κ u8 .twice s (v ∷ [])) $ split ! $
         use1 W (‵ (Own κ h)) (made-of 𝓤 H A W κ s n ok) $ move ! (3 ∷ 0 ∷ []) $ use2 W (‵ (partAt (R κ) fullShare h l₃ 0)) (lies-in 𝓤 H A W κ h l₃) $
         -- a token of the meet
@@ -105,7 +108,8 @@ module _ {M : Type 1} (𝓤 : URA M) (H : Heap 𝓤) (A : Atoms 𝓤) (W : Given
         -- [the meet's token; the way back; κ's token; true; the reader; what s owns; …; _4; …]: the reader is lent
         move ! (4 ∷ []) $ use1 W (later (some (λ (δ : GName). ‵ (MutRef (named 0) (ν ∷ κ) (R κ) .own (lent δ l₃ h) (vptr l₃ 0 ∷ [])) ⊛ ‵ (flent (ν ∷ κ) (Body (mem (R κ)) l₃ 0 δ))))) (lends-ref 𝓤 H A W (R κ) (named 0) (ν ∷ κ) h l₃ 0) $ await ! tt $ pick ! (λ δ. split ! $
         move ! (2 ∷ 4 ∷ 0 ∷ []) $ use3 W (raw (Callee 𝓤 H A at-mem run .pre (to ν δ l₃))) (asks-reader 𝓤 H A W κ ν q (lent δ l₃ h) (vptr l₃ 0)) $
-        -- [what the call asks; the lender's part; the way back; true; what s owns; …; _4; …; …; _2; …; _1; …; room for _0; …]
+        -- [what the call asks; the lender's part; the way back; true; what s owns; …; _4; …; …; _2; …; _1; …; room for
+        -- _0; …]
         calls-at ! fm (Callee 𝓤 H A at-mem run) known (to ν δ l₃) (and-then ! (load ! (from ! (stop !)) (look ! 6 refl)) (no-more !)) (λ u.
         use1 W (later (some (λ (f : Field). ((‵ (flft (ν ∷ κ) (PosShare·left q)) ⊛ ‵ (flft κ (PosShare·right q)) ⊛ ‵ ftrue) ⊛ ‵ (S.the-row .own f (u ∷ []))) ⊛ raw (ensured 𝓤 H A callee.ended (callee.clauses 𝓤 H A at-mem run) (ν ∷ κ, (κ, tt)) (lent δ l₃ h, tt) tt f)))) (id⊢ 𝓤 _) $ await ! tt $ pick ! (λ f.
         split ! $ move ! (1 ∷ []) $ use1 W (some (λ (zs : LineReader × Unit {0}). ‵ (lasts callee.ended (ν ∷ κ, (κ, tt)) (lent δ l₃ h, tt) zs) ⊛ raw (fact 𝓤 (TakesField h f (zs .0))))) (id⊢ 𝓤 _) $ pick ! (λ zs.
@@ -119,7 +123,8 @@ module _ {M : Type 1} (𝓤 : URA M) (H : Heap 𝓤) (A : Atoms 𝓤) (W : Given
         move ! (0 ∷ 6 ∷ 4 ∷ []) $ use3 W (later (‵ (partAt (R κ) fullShare (zs .0) l₃ 0))) (ref-back 𝓤 H A W (R κ) (ν ∷ κ) δ (zs .0) l₃ 0) $ await ! tt $
         use1 W (‵ (fat fullShare (T′.mir erased) l₃ 0 (T′.lowered (zs .0))) ⊛ ‵ (Own κ (zs .0))) (lies-out 𝓤 H A W κ (zs .0) l₃) $ split ! $
         move ! (3 ∷ []) $ split ! $ move ! (4 ∷ 0 ∷ []) $ use2 W (‵ (flft κ q)) (W .lfts .lft-join κ q) $
-        -- [the token; true; the local's cell; what it owns; the field; …; true; what s owns; …; _4; …; …; _2; …; _1; …; _0; …]
+        -- [the token; true; the local's cell; what it owns; the field; …; true; what s owns; …; _4; …; …; _2; …; _1; …;
+        -- _0; …]
         returns ! (look ! 16 refl) $ forget ! 2 refl $ forget ! 9 refl $ forget ! 12 refl $ forget ! 14 refl $ forget ! 16 refl $
         move ! (16 ∷ 17 ∷ []) $ free1 ! $ move ! (14 ∷ 15 ∷ []) $ free1 ! $ move ! (12 ∷ 13 ∷ []) $ free1 ! $ move ! (2 ∷ 11 ∷ []) $ free1 ! $ move ! (8 ∷ 9 ∷ []) $ free1 ! $ free0 ! $
         keep ! (0 ∷ 3 ∷ 6 ∷ []) $ by ! (exits f u (e .reads))))))))))))))

@@ -1,6 +1,7 @@
--- `reader::next_numbers` meets its contract: a walk of its MIR, by hand. The borrow is opened, the line and the position are read from the struct, `numbers_at` is called on them and on `out`, the position is stored, and the borrow is closed at the struct with the new position.
--- `out` goes to the callee for good, at its own lifetime, share and name. All that the proof knows of `numbers_at` is that it meets its contract.
--- Assumes nothing.
+-- `reader::next_numbers` meets its contract: a walk of its MIR, by hand. The borrow is opened, the line and the
+-- position are read from the struct, `numbers_at` is called on them and on `out`, the position is stored, and the
+-- borrow is closed at the struct with the new position. `out` goes to the callee for good, at its own lifetime, share
+-- and name. All that the proof knows of `numbers_at` is that it meets its contract.
 use mathlib.Core.Path.{_≡_, refl, ap}
 use Prim.Native.Nat.{ℕ, _≤_, _<_, _^_}
 use mathlib.Core.List.{List, [], _∷_}
@@ -123,7 +124,8 @@ module _ {M : Type 1} (𝓤 : URA M) (H : Heap 𝓤) (A : Atoms 𝓤) (W : Given
         opens ! tt (R κ′) {h = h} b o (λ vs. spelt ! (R κ′) (Is (R κ′)) (shows 𝓤 H A (R κ′)) (LL.vals (D κ′) (L κ′)) (LL.tells (D κ′) (L κ′)) fullShare h vs b o $
         use1 W (‵ (fat fullShare (T′.mir erased) b o (T′.lowered h))) (W .laws .raw-at fullShare (T′.mir erased) b o (T′.lowered h)) $
         move ! (1 ∷ []) $ peeks ! (R κ′) (Is (R κ′)) (shows 𝓤 H A (R κ′)) h (T′.lowered h ∷ []) (λ was. move ! (1 ∷ 0 ∷ []) $
-        -- [the struct's cell; what it owns; the open borrow; obs; auth; the other tokens; what k and out own; _8; …; _7; …; _6; …; _5; …; _4; …; _3; …; _2; …; _1; …; room for _0; …]
+        -- [the struct's cell; what it owns; the open borrow; obs; auth; the other tokens; what k and out own; _8; …;
+        -- _7; …; _6; …; _5; …; _4; …; _3; …; _2; …; _1; …; room for _0; …]
         assigns ! (of-opd ! (load ! (from ! (hop ! (look ! 21 refl) (fld ! refl (stop !)))) (look-in ! 0 (sub ! 0 refl (whole !))))) (from ! (stop !)) (init ! 13 refl (tt, LL.lawful (D κ′) (L κ′) 𝓤 H A W .typed h _ was .0 .1 .0)) $
         assigns ! (of-opd ! (load ! (from ! (hop ! (look ! 21 refl) (fld ! refl (stop !)))) (look-in ! 0 (sub ! 1 refl (whole !))))) (from ! (stop !)) (init ! 11 refl (tt, LL.lawful (D κ′) (L κ′) 𝓤 H A W .typed h _ was .0 .1 .1 .0)) $
         assigns ! (addr ! (from ! (fld ! refl (hop ! (look-in ! 17 (sub ! 0 refl (whole !))) (stop !))))) (from ! (stop !)) (init ! 9 refl (tt, tt)) $
@@ -136,7 +138,8 @@ module _ {M : Type 1} (𝓤 : URA M) (H : Heap 𝓤) (A : Atoms 𝓤) (W : Given
         split ! $ move ! (1 ∷ []) $ use1 W (some (λ (zs : Unit {0} × (Unit {0} × (Unit {0} × (List ℕ × Unit {0})))). ‵ (lasts callee.ended (κ′, (κ″, tt)) (h .line, (h .at, (k, (out ys, tt)))) zs) ⊛ raw (fact 𝓤 (Read f (zs .1 .1 .1 .0))))) (id⊢ 𝓤 _) $ pick ! (λ zs.
         split ! $ move ! (1 ∷ []) $ heard ! (Read f (zs .1 .1 .1 .0)) (λ e. fsplit ! $ move ! (1 ∷ []) $ fsplit ! $ move ! (1 ∷ []) $ fsplit ! $ move ! (1 ∷ []) $ fsplit ! $ fsplit ! $ move ! (1 ∷ []) $ feqL ! (λ l.
         move ! (5 ∷ []) $ split ! $ move ! (1 ∷ []) $ peeks ! S.the-row (Is S.the-row) (shows 𝓤 H A S.the-row) f (u ∷ []) (λ is.
-        -- [the result of the call; the other tokens; what says the last list; …; what the struct owns; its cell; the open borrow; obs; auth; _8; …]
+        -- [the result of the call; the other tokens; what says the last list; …; what the struct owns; its cell; the
+        -- open borrow; obs; auth; _8; …]
         land ! (from ! (stop !)) (init ! 20 refl (LL.lawful S.the-type S′.the-laws 𝓤 H A W .typed f _ is .0)) $
         rewrite ! 20 (λ (y : Val). ‵ (fat fullShare S′.mir l₄ 0 y)) (ap only (LL.tells S.the-type S′.the-laws f _ is)) refl $ rewrite ! 0 (λ (us : List Val). ‵ (S.the-row .own f us)) (LL.tells S.the-type S′.the-laws f _ is) refl $
         peeks ! S.the-row (Is S.the-row) (shows 𝓤 H A S.the-row) f (S′.lowered f ∷ []) (λ is′.

@@ -1,6 +1,7 @@
--- `reader::numbers_field_from` meets its contract: a walk of its MIR, by hand. A `LineReader` is made in a local, and three numbers and a field are taken from it.
--- The reader is lent to each call for a lifetime within its line's, as in `field_from`, and comes back for the next one.
--- All that the proof knows of the calls is that they meet their contracts. Assumes nothing.
+-- `reader::numbers_field_from` meets its contract: a walk of its MIR, by hand. A `LineReader` is made in a local, and
+-- three numbers and a field are taken from it. The reader is lent to each call for a lifetime within its line's, as in
+-- `field_from`, and comes back for the next one. All that the proof knows of the calls is that they meet their
+-- contracts.
 use mathlib.Core.Path.{refl, ap}
 use Prim.Native.Nat.{ℕ, _<_, _^_}
 use mathlib.Core.List.{List, [], _∷_}
@@ -148,7 +149,8 @@ module _ {M : Type 1} (𝓤 : URA M) (H : Heap 𝓤) (A : Atoms 𝓤) (W : Given
         move ! (7 ∷ 0 ∷ []) $ use2 W (‵ (flft (ν₂ ∷ []) fullShare)) (wandE 𝓤 (wand 𝓤 (A .lft (ν₂ ∷ []) (PosShare·left q)) (A .lft (ν₂ ∷ []) fullShare)) (A .lft (ν₂ ∷ []) (PosShare·left q)) (A .lft (ν₂ ∷ []) fullShare) (id⊢ 𝓤 _)) $ lft-end ! tt $ use1 W (‵ (fdead (ν₂ ∷ κ))) (W .lfts .dead-incl (ν₂ ∷ κ) (ν₂ ∷ []) (meet-⊑-left (ν₂ ∷ []) κ)) $
         move ! (0 ∷ 6 ∷ 4 ∷ []) $ use3 W (later (‵ (partAt (R κ) fullShare (zs₂ .0) l₃ 0))) (ref-back 𝓤 H A W (R κ) (ν₂ ∷ κ) δ₂ (zs₂ .0) l₃ 0) $ await ! tt $
         move ! (2 ∷ []) $ split ! $ move ! (3 ∷ 0 ∷ []) $ use2 W (‵ (flft κ q)) (W .lfts .lft-join κ q) $
-        -- call 3: [κ; t1; part; own2; lrest1; t0; own1; lrest0; true0; OwnLine; rest; _11; _10; _9; _8; _7; _6; _5; _4; _2; _1; _0]
+        -- call 3: [κ; t1; part; own2; lrest1; t0; own1; lrest0; true0; OwnLine; rest; _11; _10; _9; _8; _7; _6; _5; _4;
+        -- _2; _1; _0]
         assigns ! (addr ! (from ! (stop !))) (from ! (stop !)) (init ! 13 refl (tt, tt)) $
         move ! (0 ∷ []) $ use1 W (‵ (flft κ (PosShare·left q)) ⊛ ‵ (flft κ (PosShare·right q))) (W .lfts .lft-split κ q) $ split ! $ lft-new ! tt (λ ν₃.
         use1 W (‵ (flft (ν₃ ∷ []) (PosShare·left q)) ⊛ raw (wand 𝓤 (A .lft (ν₃ ∷ []) (PosShare·left q)) (A .lft (ν₃ ∷ []) fullShare))) (W .lfts .lft-carve ν₃ (PosShare·left q)) $ split ! $ move ! (0 ∷ 2 ∷ []) $ use2 W (‵ (flft (ν₃ ∷ κ) (PosShare·left q))) (W .lfts .lft-meet (ν₃ ∷ []) κ (PosShare·left q)) $
@@ -166,7 +168,8 @@ module _ {M : Type 1} (𝓤 : URA M) (H : Heap 𝓤) (A : Atoms 𝓤) (W : Given
         move ! (7 ∷ 0 ∷ []) $ use2 W (‵ (flft (ν₃ ∷ []) fullShare)) (wandE 𝓤 (wand 𝓤 (A .lft (ν₃ ∷ []) (PosShare·left q)) (A .lft (ν₃ ∷ []) fullShare)) (A .lft (ν₃ ∷ []) (PosShare·left q)) (A .lft (ν₃ ∷ []) fullShare) (id⊢ 𝓤 _)) $ lft-end ! tt $ use1 W (‵ (fdead (ν₃ ∷ κ))) (W .lfts .dead-incl (ν₃ ∷ κ) (ν₃ ∷ []) (meet-⊑-left (ν₃ ∷ []) κ)) $
         move ! (0 ∷ 6 ∷ 4 ∷ []) $ use3 W (later (‵ (partAt (R κ) fullShare (zs₃ .0) l₃ 0))) (ref-back 𝓤 H A W (R κ) (ν₃ ∷ κ) δ₃ (zs₃ .0) l₃ 0) $ await ! tt $
         move ! (2 ∷ []) $ split ! $ move ! (3 ∷ 0 ∷ []) $ use2 W (‵ (flft κ q)) (W .lfts .lft-join κ q) $
-        -- call 4: [κ; t2; part; own3; lrest2; t1; own2; lrest1; t0; own1; lrest0; true0; OwnLine; rest; _11; _10; _9; _8; _7; _6; _5; _4; _2; _1; _0]
+        -- call 4: [κ; t2; part; own3; lrest2; t1; own2; lrest1; t0; own1; lrest0; true0; OwnLine; rest; _11; _10; _9;
+        -- _8; _7; _6; _5; _4; _2; _1; _0]
         assigns ! (addr ! (from ! (stop !))) (from ! (stop !)) (init ! 14 refl (tt, tt)) $
         move ! (0 ∷ []) $ use1 W (‵ (flft κ (PosShare·left q)) ⊛ ‵ (flft κ (PosShare·right q))) (W .lfts .lft-split κ q) $ split ! $ lft-new ! tt (λ ν₄.
         use1 W (‵ (flft (ν₄ ∷ []) (PosShare·left q)) ⊛ raw (wand 𝓤 (A .lft (ν₄ ∷ []) (PosShare·left q)) (A .lft (ν₄ ∷ []) fullShare))) (W .lfts .lft-carve ν₄ (PosShare·left q)) $ split ! $ move ! (0 ∷ 2 ∷ []) $ use2 W (‵ (flft (ν₄ ∷ κ) (PosShare·left q))) (W .lfts .lft-meet (ν₄ ∷ []) κ (PosShare·left q)) $

@@ -1,6 +1,7 @@
--- `reader::numbers_from` meets its contract: a walk of its MIR, by hand. A `LineReader` is made in a local, which is lent to `next_numbers`, and taken back; its position is read.
--- The reader is lent for a lifetime within its line's, as in `field_from`. `out` goes to the callee for good, at its own lifetime, share and name.
--- All that the proof knows of `next_numbers` is that it meets its contract. Assumes nothing.
+-- `reader::numbers_from` meets its contract: a walk of its MIR, by hand. A `LineReader` is made in a local, which is
+-- lent to `next_numbers`, and taken back; its position is read. The reader is lent for a lifetime within its line's, as
+-- in `field_from`. `out` goes to the callee for good, at its own lifetime, share and name. All that the proof knows of
+-- `next_numbers` is that it meets its contract.
 use mathlib.Core.Path.{_≡_, refl, ap}
 use mathlib.Core.Bool.{Bool}
 use Prim.Native.Nat.{ℕ, _≤_, _<_, _^_}

@@ -4,7 +4,7 @@ use Rattle.stream_pieces.proofs.Laws as pieces
 use Rattle.test_calls.proofs.line_end.Statement.{statement}
 use Rattle.test_calls.proofs.line_end.Tie as tie
 
--- `line_end` ends within the file. Assumes nothing.
+-- `line_end` ends within the file.
 
 line-end-requires : tie.Need-line-end-requires
 line-end-requires c κs = search needs

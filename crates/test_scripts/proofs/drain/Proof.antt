@@ -1,4 +1,4 @@
--- `drain` ends and does nothing undefined. Assumes nothing.
+-- `drain` ends and does nothing undefined.
 use mathlib.Core.Path.{_≡_, _∙_}
 use native.Mathlib.Omega.{arith}
 use borrow.Author.Tests.{not-false}

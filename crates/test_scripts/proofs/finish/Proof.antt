@@ -1,4 +1,4 @@
--- `finish` ends and does nothing undefined. Assumes nothing.
+-- `finish` ends and does nothing undefined.
 use native.Mathlib.Omega.{arith}
 use borrow.Author.Needs.{needs}
 use Rattle.test_scripts.proofs.finish.Statement.{statement}

@@ -1,4 +1,4 @@
--- `hear` ends and does nothing undefined. Assumes nothing.
+-- `hear` ends and does nothing undefined.
 use mathlib.Core.Path.{_∙_}
 use borrow.Author.Needs.{needs}
 use Rattle.test_scripts.proofs.hear.Statement.{statement}

@@ -1,4 +1,4 @@
--- `put` ends, does nothing undefined and returns the end. Assumes nothing.
+-- `put` ends, does nothing undefined and returns the end.
 use mathlib.Core.Path.{_≡_}
 use Prim.Native.Nat.{_-_, _≤_}
 use lib.ListN.{length}

@@ -1,4 +1,4 @@
--- `replay_all` ends and does nothing undefined. Assumes nothing.
+-- `replay_all` ends and does nothing undefined.
 use Prim.Native.Nat.{_-_, _≤_}
 use lib.ListN.{length}
 use borrow.Author.Needs.{needs}

@@ -1,4 +1,4 @@
--- `run` ends and does nothing undefined. Assumes nothing.
+-- `run` ends and does nothing undefined.
 use mathlib.Core.Path.{sym}
 use native.Mathlib.Omega.{arith}
 use Rattle.stream_events.proofs.Laws as law

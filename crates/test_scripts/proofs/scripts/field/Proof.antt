@@ -1,4 +1,4 @@
--- `field` ends and does nothing undefined. Assumes nothing.
+-- `field` ends and does nothing undefined.
 use native.Mathlib.Omega.{arith}
 use borrow.Author.Needs.{needs}
 use Rattle.test_scripts.proofs.scripts.field.Statement.{statement}

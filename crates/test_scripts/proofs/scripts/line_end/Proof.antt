@@ -1,4 +1,4 @@
--- `line_end` ends within the file. Assumes nothing.
+-- `line_end` ends within the file.
 use native.Mathlib.Omega.{arith}
 use borrow.Author.Needs.{needs}
 use Rattle.stream_pieces.proofs.Laws as pieces
