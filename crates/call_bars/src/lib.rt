@@ -149,11 +149,7 @@ pub fn bars(
     ensures { λ r. ⌜ Answers ready view (Bars (start .0) (accept .0) (commit .0) (exec .0)) node (now (mem .entry)) (now (area .entry)) (givenOf r) (now (mem .exit)) (now (area .entry)) ⌝ }
 {
     if !is_ready(node, mem) {
-        return Answered {
-            number: 2,
-            count: 0,
-            node,
-        };
+        return Answered::refused(node, 2);
     }
     let from = node.start_slot;
     let refusal = bars_refusal(
@@ -168,11 +164,7 @@ pub fn bars(
         exec,
     );
     if refusal != 0 {
-        return Answered {
-            number: refusal,
-            count: 0,
-            node,
-        };
+        return Answered::refused(node, refusal);
     }
     execute(
         &mut mem[layout::SLOTS_AT..layout::WRITTEN_AT],
@@ -185,9 +177,5 @@ pub fn bars(
     next.commit_bar = commit;
     next.exec_bar = exec;
     next.slots = node.slots - (start.0 - from.0) as usize;
-    Answered {
-        number: 0,
-        count: 0,
-        node: next,
-    }
+    Answered::taken(next, 0)
 }

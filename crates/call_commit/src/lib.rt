@@ -34,26 +34,14 @@ pub fn commit(
     ensures { λ r. ⌜ Answers ready view (CommitNotice (peer .0) (ballot .0) (bar .0)) node (now (mem .entry)) (now (area .entry)) (givenOf r) (now (mem .exit)) (now (area .exit)) ⌝ }
 {
     if !node::is_ready(node, mem) {
-        return Answered {
-            number: 2,
-            count: 0,
-            node,
-        };
+        return Answered::refused(node, 2);
     }
     let refusal = commit_refusal(node.population, peer, bar);
     if refusal != 0 {
-        return Answered {
-            number: refusal,
-            count: 0,
-            node,
-        };
+        return Answered::refused(node, refusal);
     }
     if ballot.0 != node.bal_max_seen.0 {
-        return Answered {
-            number: 0,
-            count: 0,
-            node,
-        };
+        return Answered::taken(node, 0);
     }
     let count = advance_commit_bar::count_commits(
         &mem[layout::SLOTS_AT..layout::WRITTEN_AT],
@@ -64,11 +52,7 @@ pub fn commit(
         bar,
     );
     if area.len() / 6 < count {
-        return Answered {
-            number: 20,
-            count: 0,
-            node,
-        };
+        return Answered::refused(node, 20);
     }
     advance_commit_bar::advance(
         &mut mem[layout::SLOTS_AT..layout::WRITTEN_AT],
@@ -80,9 +64,5 @@ pub fn commit(
         ballot,
         bar,
     );
-    Answered {
-        number: 0,
-        count,
-        node,
-    }
+    Answered::taken(node, count)
 }

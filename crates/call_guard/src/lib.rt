@@ -37,19 +37,11 @@ pub fn guard(
     ensures { λ r. ⌜ Answers ready view (Guard (peer .0) (number .0) (bar .0)) node (now (mem .entry)) (now (area .entry)) (givenOf r) (now (mem .exit)) (now (area .entry)) ⌝ }
 {
     if !node::is_ready(node, mem) {
-        return Answered {
-            number: 2,
-            count: 0,
-            node,
-        };
+        return Answered::refused(node, 2);
     }
     let refusal = guard_refusal(node.population, node.id, peer, bar);
     if refusal != 0 {
-        return Answered {
-            number: refusal,
-            count: 0,
-            node,
-        };
+        return Answered::refused(node, refusal);
     }
     let ballot = node.bal_max_seen;
     let old = node.peer_accept_max;
@@ -65,9 +57,5 @@ pub fn guard(
     );
     let mut next = node;
     next.peer_accept_max = max;
-    Answered {
-        number: 0,
-        count: 0,
-        node: next,
-    }
+    Answered::taken(next, 0)
 }

@@ -41,11 +41,7 @@ fn heard_bars(
     ensures { λ r. ⌜ Does (heardBars (peer .0) (ballot .0) (commit .0) (exec .0) (snap .0) (view node (now (mem .entry)))) place (now (mem .entry)) (now (area .entry)) (givenOf r) (now (mem .exit)) (now (area .exit)) ⌝ }
 {
     if exec.0 < node.exec_bar.0 {
-        return Answered {
-            number: 0,
-            count: 0,
-            node,
-        };
+        return Answered::taken(node, 0);
     }
     let end = advance_commit_bar::advance(
         &mut mem[layout::SLOTS_AT..layout::WRITTEN_AT],
@@ -70,11 +66,7 @@ fn heard_bars(
     );
     let mut next = node;
     next.snap_bar = heard;
-    Answered {
-        number: 0,
-        count: end - place,
-        node: next,
-    }
+    Answered::taken(next, end - place)
 }
 
 // How many items that has.
@@ -320,11 +312,7 @@ fn heard_conf(
     ensures { λ r. ⌜ Does (confBy installing (rosterOf conf (now (rows .entry))) (ballot .0) (view node (now (mem .entry)))) 0 (now (mem .entry)) (now (area .entry)) (givenOf r) (now (mem .exit)) (now (area .exit)) ⌝ }
 {
     if !installing {
-        return Answered {
-            number: 0,
-            count: 0,
-            node,
-        };
+        return Answered::taken(node, 0);
     }
     heard_new_conf::heard_new_conf(node, mem, area, ballot, conf, rows)
 }
@@ -360,11 +348,7 @@ fn heard(
         snap,
     );
     let next = second.node;
-    Answered {
-        number: 0,
-        count: first.count + second.count,
-        node: next,
-    }
+    Answered::taken(next, first.count + second.count)
 }
 
 pub fn heartbeat(
@@ -383,18 +367,10 @@ pub fn heartbeat(
     ensures { λ r. ⌜ Answers (λ n m. ready n m && fitting attached (conf .count) (now (rows .entry))) view (Heartbeat (peer .0) (ballot .0) (carried attached (rosterOf conf (now (rows .entry)))) (commit .0) (exec .0) (snap .0)) node (now (mem .entry)) (now (area .entry)) (givenOf r) (now (mem .exit)) (now (area .exit)) ⌝ }
 {
     if !node::is_ready(node, mem) {
-        return Answered {
-            number: 2,
-            count: 0,
-            node,
-        };
+        return Answered::refused(node, 2);
     }
     if !is_fitting(attached, conf, rows) {
-        return Answered {
-            number: 2,
-            count: 0,
-            node,
-        };
+        return Answered::refused(node, 2);
     }
     let seen = node.bal_max_seen;
     let refusal = early_refusal(
@@ -410,34 +386,18 @@ pub fn heartbeat(
         snap,
     );
     if refusal != 0 {
-        return Answered {
-            number: refusal,
-            count: 0,
-            node,
-        };
+        return Answered::refused(node, refusal);
     }
     let installing = is_installing(node, mem, peer, ballot, attached, conf, rows);
     if lacks_slot(node, mem, ballot, installing, conf) {
-        return Answered {
-            number: 15,
-            count: 0,
-            node,
-        };
+        return Answered::refused(node, 15);
     }
     if ballot.0 < node.bal_max_seen.0 {
-        return Answered {
-            number: 0,
-            count: 0,
-            node,
-        };
+        return Answered::taken(node, 0);
     }
     let count = count_items(node, mem, ballot, installing, conf, commit, exec);
     if area.len() / 6 < count {
-        return Answered {
-            number: 20,
-            count: 0,
-            node,
-        };
+        return Answered::refused(node, 20);
     }
     heard(
         node,

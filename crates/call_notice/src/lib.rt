@@ -94,11 +94,7 @@ pub fn notice(
     ensures { λ r. ⌜ Answers ready view (Notice (peer .0) (slot .0) (ballot .0)) node (now (mem .entry)) (now (area .entry)) (givenOf r) (now (mem .exit)) (now (area .exit)) ⌝ }
 {
     if !node::is_ready(node, mem) {
-        return Answered {
-            number: 2,
-            count: 0,
-            node,
-        };
+        return Answered::refused(node, 2);
     }
     let conf = node.bodega_conf;
     let leader = conf.leader;
@@ -108,27 +104,15 @@ pub fn notice(
     let current = is_current(node, ballot);
     let refusal = notice_refusal(node.population, current, start, peer, slot);
     if refusal != 0 {
-        return Answered {
-            number: refusal,
-            count: 0,
-            node,
-        };
+        return Answered::refused(node, refusal);
     }
     if slot.0 < start.0 {
-        return Answered {
-            number: 0,
-            count: 0,
-            node,
-        };
+        return Answered::taken(node, 0);
     }
     if seen.0 < ballot.0 {
         let led = node::is_leader(node);
         if !put_lead(area, led) {
-            return Answered {
-                number: 20,
-                count: 0,
-                node,
-            };
+            return Answered::refused(node, 20);
         }
         let without = filtered(
             conf,
@@ -139,18 +123,10 @@ pub fn notice(
         let mut next = node;
         next.bodega_conf = without;
         next.bal_max_seen = ballot;
-        return Answered {
-            number: 0,
-            count: lead_count(led),
-            node: next,
-        };
+        return Answered::taken(next, lead_count(led));
     }
     if !current {
-        return Answered {
-            number: 0,
-            count: 0,
-            node,
-        };
+        return Answered::taken(node, 0);
     }
     let k = (slot.0 - start.0) as usize;
     let held = node.slots;
@@ -165,11 +141,7 @@ pub fn notice(
         ballot,
     );
     if area.len() / 6 < due {
-        return Answered {
-            number: 20,
-            count: 0,
-            node,
-        };
+        return Answered::refused(node, 20);
     }
     let count = accept_notice_at::notice_at(
         &mut mem[layout::SLOTS_AT..layout::WRITTEN_AT],
@@ -184,9 +156,5 @@ pub fn notice(
     );
     let mut next = node;
     next.slots = accept_notice_at::held_after(held, k);
-    Answered {
-        number: 0,
-        count,
-        node: next,
-    }
+    Answered::taken(next, count)
 }

@@ -26,24 +26,12 @@ pub fn prepared(node: Node, mem: &[u64], area: &[u64], ballot: Ballot) -> Answer
     ensures { λ r. ⌜ Answers ready view (Prepared (ballot .0)) node (now (mem .entry)) (now (area .entry)) (givenOf r) (now (mem .entry)) (now (area .entry)) ⌝ }
 {
     if !node::is_ready(node, mem) {
-        return Answered {
-            number: 2,
-            count: 0,
-            node,
-        };
+        return Answered::refused(node, 2);
     }
     if !may_prepare(node, ballot) {
-        return Answered {
-            number: 13,
-            count: 0,
-            node,
-        };
+        return Answered::refused(node, 13);
     }
     let mut next = node;
     next.bal_prepared = ballot;
-    Answered {
-        number: 0,
-        count: 0,
-        node: next,
-    }
+    Answered::taken(next, 0)
 }

@@ -21,41 +21,21 @@ pub fn read(
     ensures { λ r. ⌜ Answers ready view (Read leases (record { client = client; request = request; key = now (key .entry) })) node (now (mem .entry)) (now (area .entry)) (givenOf r) (now (mem .exit)) (now (area .exit)) ⌝ }
 {
     if !is_ready(node, mem) {
-        return Answered {
-            number: 2,
-            count: 0,
-            node,
-        };
+        return Answered::refused(node, 2);
     }
     let Packed::Key(packed) = key_words::pack(key) else {
-        return Answered {
-            number: 5,
-            count: 0,
-            node,
-        };
+        return Answered::refused(node, 5);
     };
     let answer = inspect_latest_write::read_answer(node, mem, leases, key, packed);
     if inspect_latest_write::overfills(node, mem, answer) {
-        return Answered {
-            number: 19,
-            count: 0,
-            node,
-        };
+        return Answered::refused(node, 19);
     }
     let item = inspect_latest_write::item_of(node, client, request, answer);
     if !items::put_item(area, 0, item) {
-        return Answered {
-            number: 20,
-            count: 0,
-            node,
-        };
+        return Answered::refused(node, 20);
     }
     let ReadAnswer::HeldBy(_slot, c) = answer else {
-        return Answered {
-            number: 0,
-            count: 1,
-            node,
-        };
+        return Answered::taken(node, 1);
     };
     let held = ReadReq {
         client,
@@ -63,9 +43,5 @@ pub fn read(
         key: packed,
     };
     insts::push_read(&mut mem[layout::SLOTS_AT..layout::WRITTEN_AT], c, held);
-    Answered {
-        number: 0,
-        count: 1,
-        node,
-    }
+    Answered::taken(node, 1)
 }

@@ -229,16 +229,6 @@ fn recorded(node: Node, mem: &mut [u64], slot: Slot, ballot: Ballot, words: &[u6
     next
 }
 
-fn refused(node: Node, number: u64) -> Answered
-    ensures { λ r. ⌜ r ≡ record { number = number; count = 0; node = node } ⌝ }
-{
-    Answered {
-        number,
-        count: 0,
-        node,
-    }
-}
-
 pub fn record(
     node: Node,
     mem: &mut [u64],
@@ -252,18 +242,14 @@ pub fn record(
 {
     let early = early_refusal(node, mem, slot, rows, text);
     if early != 0 {
-        return refused(node, early);
+        return Answered::refused(node, early);
     }
     let mut words = [0u64; layout::BATCH_WORDS];
     req_batch::load(rows, text, &mut words);
     let late = late_refusal(node, mem, slot, ballot, &words);
     if late != 0 {
-        return refused(node, late);
+        return Answered::refused(node, late);
     }
     let next = recorded(node, mem, slot, ballot, &words);
-    Answered {
-        number: 0,
-        count: 0,
-        node: next,
-    }
+    Answered::taken(next, 0)
 }

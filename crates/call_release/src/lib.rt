@@ -28,29 +28,17 @@ pub fn release(node: Node, mem: &mut [u64], area: &mut [u64], slot: Slot) -> Ans
     ensures { λ r. ⌜ Answers ready view (Release (slot .0)) node (now (mem .entry)) (now (area .entry)) (givenOf r) (now (mem .exit)) (now (area .exit)) ⌝ }
 {
     if !node::is_ready(node, mem) {
-        return Answered {
-            number: 2,
-            count: 0,
-            node,
-        };
+        return Answered::refused(node, 2);
     }
     let start = node.start_slot;
     let refusal = release_refusal(start, node.slots, slot);
     if refusal != 0 {
-        return Answered {
-            number: refusal,
-            count: 0,
-            node,
-        };
+        return Answered::refused(node, refusal);
     }
     let c = (slot.0 % layout::PLACES) as usize;
     let held = release_held_reads::holding(&mem[layout::SLOTS_AT..layout::WRITTEN_AT], c);
     if area.len() / 6 < held {
-        return Answered {
-            number: 20,
-            count: 0,
-            node,
-        };
+        return Answered::refused(node, 20);
     }
     let conf = node.bodega_conf;
     let leader = conf.leader;
@@ -62,9 +50,5 @@ pub fn release(node: Node, mem: &mut [u64], area: &mut [u64], slot: Slot) -> Ans
         area,
         0,
     );
-    Answered {
-        number: 0,
-        count,
-        node,
-    }
+    Answered::taken(node, count)
 }

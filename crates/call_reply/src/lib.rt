@@ -404,11 +404,7 @@ pub fn reply(
     ensures { λ r. ⌜ Answers ready view (Reply (peer .0) (slot .0) (ballot .0)) node (now (mem .entry)) (now (area .entry)) (givenOf r) (now (mem .exit)) (now (area .exit)) ⌝ }
 {
     if !is_ready(node, mem) {
-        return Answered {
-            number: 2,
-            count: 0,
-            node,
-        };
+        return Answered::refused(node, 2);
     }
     let start = node.start_slot;
     let prepared = node.bal_prepared;
@@ -422,19 +418,11 @@ pub fn reply(
         ballot,
     );
     if refusal != 0 {
-        return Answered {
-            number: refusal,
-            count: 0,
-            node,
-        };
+        return Answered::refused(node, refusal);
     }
     let conf = node.bodega_conf;
     if !awaits(node, slot, ballot) {
-        return Answered {
-            number: 0,
-            count: 0,
-            node,
-        };
+        return Answered::taken(node, 0);
     }
     let c = (slot.0 % layout::PLACES) as usize;
     let ack = ack_in(mem, c, peer, ballot, node.quorum, conf);
@@ -449,15 +437,7 @@ pub fn reply(
         ack,
     );
     let Taken::Items(items) = taken else {
-        return Answered {
-            number: 20,
-            count: 0,
-            node,
-        };
+        return Answered::refused(node, 20);
     };
-    Answered {
-        number: 0,
-        count: items,
-        node,
-    }
+    Answered::taken(node, items)
 }

@@ -30,16 +30,6 @@ struct Asked {
     end: usize,
 }
 
-fn malformed(node: Node) -> Answered
-    ensures { λ r. ⌜ r ≡ record { number = 1; count = 0; node = node } ⌝ }
-{
-    Answered {
-        number: 1,
-        count: 0,
-        node,
-    }
-}
-
 fn no_call() -> Asked
     ensures { λ r. ⌜ r ≡ noCall ⌝ }
 {
@@ -189,7 +179,7 @@ pub fn call_line(
 {
     let a = call_at(kind, line, at);
     if !a.good {
-        return malformed(node);
+        return Answered::refused(node, 1);
     }
     let call = a.call;
     let start = a.start;
@@ -258,7 +248,7 @@ pub fn heard_line(
 {
     let f = heard_fields(line, at);
     if !f.good {
-        return malformed(node);
+        return Answered::refused(node, 1);
     }
     let peer = f.peer;
     let ballot = f.ballot;

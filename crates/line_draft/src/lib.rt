@@ -188,38 +188,24 @@ pub fn show_line(
 
 // ---- the node
 
-fn refused(node: Node, number: u64) -> Answered
-    ensures { λ r. ⌜ r ≡ record { number = number; count = 0; node = node } ⌝ }
-{
-    Answered {
-        number,
-        count: 0,
-        node,
-    }
-}
-
 // The node in place of one that no call made.
 fn begin(node: Node, mem: &mut [u64], id: u64, population: u64, quorum: u64) -> Answered
     ensures { λ r. ⌜ (nodeWords ≤ length (now (mem .entry)) → BeginsBy (inRange id population quorum) id population quorum node (now (mem .entry)) r (now (mem .exit))) ⌝ }
 {
     if 255 < id {
-        return refused(node, 2);
+        return Answered::refused(node, 2);
     }
     if 255 < population {
-        return refused(node, 2);
+        return Answered::refused(node, 2);
     }
     if 255 < quorum {
-        return refused(node, 2);
+        return Answered::refused(node, 2);
     }
     let Fresh::Made(made) = Node::fresh(mem, Replica(id as u8), population as u8, quorum as u8)
     else {
-        return refused(node, 2);
+        return Answered::refused(node, 2);
     };
-    Answered {
-        number: 0,
-        count: 0,
-        node: made,
-    }
+    Answered::taken(made, 0)
 }
 
 pub fn node_line(node: Node, mem: &mut [u64], line: &[u8], at: usize) -> Answered
@@ -227,10 +213,10 @@ pub fn node_line(node: Node, mem: &mut [u64], line: &[u8], at: usize) -> Answere
 {
     let mut a = [0u64; 3];
     if !line_reader::numbers(line, at, 3, &mut a) {
-        return refused(node, 1);
+        return Answered::refused(node, 1);
     }
     if node::is_ready(node, mem) {
-        return refused(node, 2);
+        return Answered::refused(node, 2);
     }
     begin(node, mem, a[0], a[1], a[2])
 }

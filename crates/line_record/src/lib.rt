@@ -119,16 +119,6 @@ fn groups_at(line: &[u8], at: usize, groups: &mut [u64]) -> Groups
     }
 }
 
-fn malformed(node: Node) -> Answered
-    ensures { λ r. ⌜ r ≡ record { number = 1; count = 0; node = node } ⌝ }
-{
-    Answered {
-        number: 1,
-        count: 0,
-        node,
-    }
-}
-
 // The fields after the line's name: SLOT,BALLOT and the groups.
 pub fn record_line(
     node: Node,
@@ -144,11 +134,11 @@ pub fn record_line(
     let mut a = [0u64; 2];
     let n = line_reader::numbers_from(line, at, 2, &mut a);
     if !n.good {
-        return malformed(node);
+        return Answered::refused(node, 1);
     }
     let batch = groups_at(line, n.next, groups);
     if !batch.good {
-        return malformed(node);
+        return Answered::refused(node, 1);
     }
     let words = batch.count * 6;
     let to = Slot(a[0]);

@@ -9,13 +9,17 @@ use Rattle.call_bars.proofs.bars.Tie as tie
 is-ready-requires : tie.Need-is-ready-requires
 is-ready-requires c κs = search needs
 
+refused-requires : tie.Need-refused-requires
+refused-requires c κs = search needs
+
 same-length : tie.Need-same-length
 same-length c = search needs
 
 returns : tie.Need-returns
-returns c =
+returns d =
+    let c = d .before in
     let a = c .before .before .before .before .before .args in
-    calls.gives-2 (Bars (a .start .0) (a .accept .0) (a .commit .0) (a .exec .0)) (a .node) (a .mem .now) (a .area .now) _ (c .before .is-ready .ensures) (c .if1 .taken)
+    rw (d .refused .ensures) (calls.gives-2 (Bars (a .start .0) (a .accept .0) (a .commit .0) (a .exec .0)) (a .node) (a .mem .now) (a .area .now) _ (c .before .is-ready .ensures) (c .if1 .taken))
 
 sub-bars-refusal : tie.Need-sub-bars-refusal
 sub-bars-refusal c = search needs
@@ -35,15 +39,19 @@ bars-refusal-requires c κs =
     let a = i .before .before .before .before .before .before .args in
     law.asked (a .node) (a .mem .now) (a .area .now) (a .start) (a .accept) (a .commit) (a .exec) _ (i .before .before .is-ready .ensures) (i .before .if1 .left)
 
+refused-requires-2 : tie.Need-refused-requires-2
+refused-requires-2 c κs = search needs
+
 same-length-2 : tie.Need-same-length-2
 same-length-2 c = search needs
 
 returns-2 : tie.Need-returns-2
-returns-2 c =
+returns-2 d =
+    let c = d .before in
     let j = c in
     let i = j .before .before .before .before in
     let a = i .before .before .before .before .before .before .args in
-    law.bars-refused (a .node) (a .mem .now) (a .area .now) (a .start) (a .accept) (a .commit) (a .exec) _ (i .before .before .is-ready .ensures) (i .before .if1 .left) _ (j .before .bars-refusal .ensures) (c .if2 .taken)
+    rw (d .refused2 .ensures) (law.bars-refused (a .node) (a .mem .now) (a .area .now) (a .start) (a .accept) (a .commit) (a .exec) _ (i .before .before .is-ready .ensures) (i .before .if1 .left) _ (j .before .bars-refusal .ensures) (c .if2 .taken))
 
 sub-execute : tie.Need-sub-execute
 sub-execute c = search needs
@@ -85,27 +93,33 @@ sub-next-2 c =
     let a = i .before .before .before .before .before .before .before .before .args in
     omega (arith, law.kept-bars (a .node) (a .mem .now) (a .area .now) (a .start) (a .accept) (a .commit) (a .exec) _ (i .before .before .before .before .is-ready .ensures) (i .before .before .before .if1 .left) _ (j .before .before .before .bars-refusal .ensures) (j .before .before .if2 .left))
 
+taken-requires : tie.Need-taken-requires
+taken-requires c κs = search needs
+
 same-length-3 : tie.Need-same-length-3
 same-length-3 c = search needs
 
 returns-3 : tie.Need-returns-3
-returns-3 c =
+returns-3 d =
+    let c = d .before in
     let j = c .before .before .before .before .before .before .before in
     let i = j .before .before .before .before in
     let a = i .before .before .before .before .before .before .before .before .args in
-    law.bars-moved (a .node) (a .mem .now) (a .area .now) (a .start) (a .accept) (a .commit) (a .exec) _ (i .before .before .before .before .is-ready .ensures) (i .before .before .before .if1 .left) _ (j .before .before .before .bars-refusal .ensures) (j .before .before .if2 .left) _ (c .before .before .before .before .before .execute .ensures)
+    rw (d .taken .ensures) (law.bars-moved (a .node) (a .mem .now) (a .area .now) (a .start) (a .accept) (a .commit) (a .exec) _ (i .before .before .before .before .is-ready .ensures) (i .before .before .before .if1 .left) _ (j .before .before .before .bars-refusal .ensures) (j .before .before .if2 .left) _ (c .before .before .before .before .before .execute .ensures))
 
 pub bars-spec : {M : Type 1} → statement M
 bars-spec =
     tie.close
     (tie.spec
     is-ready-requires
+    refused-requires
     same-length
     returns
     sub-bars-refusal
     part-bars-refusal-start
     part-bars-refusal-end
     bars-refusal-requires
+    refused-requires-2
     same-length-2
     returns-2
     sub-execute
@@ -115,5 +129,6 @@ bars-spec =
     execute-requires
     sub-next
     sub-next-2
+    taken-requires
     same-length-3
     returns-3)

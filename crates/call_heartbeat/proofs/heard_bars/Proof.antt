@@ -5,11 +5,15 @@ use Rattle.call_heartbeat.proofs.heard_bars.Tie as tie
 use Rattle.call_heartbeat.proofs.Bars as law
 use Rattle.heard_new_conf.proofs.Laws.{readied}
 
+taken-requires : tie.Need-taken-requires
+taken-requires c κs = search needs
+
 returns : tie.Need-returns
-returns c =
+returns d =
+    let c = d .before in
     let q = c .before .before .before .before .before in
     let a = q .args in
-    law.low-does (a .node) (a .mem .now) (q .pre .0) (a .ballot .0) (a .commit .0) (a .exec .0) (a .area .now) (a .place) (a .peer .0) (q .pre .1) (a .snap .0) (c .if1 .taken)
+    rw (d .taken .ensures) (law.low-does (a .node) (a .mem .now) (q .pre .0) (a .ballot .0) (a .commit .0) (a .exec .0) (a .area .now) (a .place) (a .peer .0) (q .pre .1) (a .snap .0) (c .if1 .taken))
 
 sub-advance : tie.Need-sub-advance
 sub-advance c = search needs
@@ -47,11 +51,11 @@ heard-peer-requires c κs =
     let a = q .args in
     law.heard-room (a .node) (a .mem .now) (q .pre .0) (a .ballot .0) (a .commit .0) (a .exec .0) (a .area .now) (a .place) (a .peer .0) (q .pre .1) (a .snap .0) (c .before .before .before .before .before .before .before .before .before .before .if1 .left) (q .pre .2) _ _ _ (c .before .before .before .before .before .before .before .advance .ensures)
 
-sub-t17 : tie.Need-sub-t17
-sub-t17 c =
-    let q = c .before .before .before .before .before .before .before .before .before .before .before .before .before .before .before .before .before .before in
-    let a = q .args in
-    law.no-less (a .node) (a .mem .now) (q .pre .0) (a .ballot .0) (a .commit .0) (a .exec .0) (a .area .now) (a .place) (a .peer .0) (q .pre .1) (a .snap .0) (c .before .before .before .before .before .before .before .before .before .before .before .before .before .if1 .left) (q .pre .2) _ _ _ (c .before .before .before .before .before .before .before .before .before .before .advance .ensures)
+sub-taken : tie.Need-sub-taken
+sub-taken c = search needs
+
+taken-requires-2 : tie.Need-taken-requires-2
+taken-requires-2 c κs = search needs
 
 same-length : tie.Need-same-length
 same-length c = search needs
@@ -60,15 +64,17 @@ same-length-2 : tie.Need-same-length-2
 same-length-2 c = search needs
 
 returns-2 : tie.Need-returns-2
-returns-2 c =
+returns-2 d =
+    let c = d .before in
     let q = c .before .before .before .before .before .before .before .before .before .before .before .before .before .before .before .before .before .before in
     let a = q .args in
-    law.high-does (a .node) (a .mem .now) (q .pre .0) (a .ballot .0) (a .commit .0) (a .exec .0) (a .area .now) (a .place) (a .peer .0) (q .pre .1) (a .snap .0) (c .before .before .before .before .before .before .before .before .before .before .before .before .before .if1 .left) (q .pre .2) _ _ _ (c .before .before .before .before .before .before .before .before .before .before .advance .ensures) _ _ (search needs) (c .before .before .heard-peer .ensures)
+    rw (d .taken2 .ensures) (law.high-does (a .node) (a .mem .now) (q .pre .0) (a .ballot .0) (a .commit .0) (a .exec .0) (a .area .now) (a .place) (a .peer .0) (q .pre .1) (a .snap .0) (c .before .before .before .before .before .before .before .before .before .before .before .before .before .if1 .left) (q .pre .2) _ _ _ (c .before .before .before .before .before .before .before .before .before .before .advance .ensures) _ _ (search needs) (c .before .before .heard-peer .ensures))
 
 pub heard-bars-spec : {M : Type 1} → statement M
 heard-bars-spec =
     tie.close
     (tie.spec
+    taken-requires
     returns
     sub-advance
     part-advance-start
@@ -78,7 +84,8 @@ heard-bars-spec =
     part-heard-peer-start
     part-heard-peer-end
     heard-peer-requires
-    sub-t17
+    sub-taken
+    taken-requires-2
     same-length
     same-length-2
     returns-2)

@@ -3,11 +3,15 @@ use borrow.Author.Needs.{needs}
 use Rattle.call_heartbeat.proofs.heard_conf.Statement.{statement}
 use Rattle.call_heartbeat.proofs.heard_conf.Tie as tie
 
+taken-requires : tie.Need-taken-requires
+taken-requires c κs = search needs
+
 returns : tie.Need-returns
-returns c =
+returns d =
+    let c = d .before in
     let q = c .before .before .before .before in
     let a = q .args in
-    law.conf-same (a .node) (a .mem .now) (a .area .now) (q .pre .0) (a .ballot .0) (a .installing) (a .conf) (a .rows .now) (c .if1 .taken)
+    rw (d .taken .ensures) (law.conf-same (a .node) (a .mem .now) (a .area .now) (q .pre .0) (a .ballot .0) (a .installing) (a .conf) (a .rows .now) (c .if1 .taken))
 
 heard-new-conf-requires : tie.Need-heard-new-conf-requires
 heard-new-conf-requires c κs =
@@ -28,4 +32,6 @@ returns-2 c =
     law.conf-does (a .node) (a .mem .now) (a .area .now) (q .pre .0) (a .ballot .0) (a .installing) (a .conf) (a .rows .now) (c .before .before .before .before .before .before .before .if1 .left) _ _ _ (c .before .before .before .before .heard-new-conf .ensures)
 
 pub heard-conf-spec : {M : Type 1} → statement M
-heard-conf-spec = tie.close (tie.spec returns heard-new-conf-requires same-length same-length-2 returns-2)
+heard-conf-spec =
+    tie.close
+    (tie.spec taken-requires returns heard-new-conf-requires same-length same-length-2 returns-2)

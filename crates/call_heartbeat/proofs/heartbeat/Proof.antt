@@ -6,26 +6,34 @@ use Rattle.call_heartbeat.proofs.heartbeat.Tie as tie
 is-ready-requires : tie.Need-is-ready-requires
 is-ready-requires c κs = search needs
 
+refused-requires : tie.Need-refused-requires
+refused-requires c κs = search needs
+
 same-length : tie.Need-same-length
 same-length c = search needs
 
 returns : tie.Need-returns
-returns c =
+returns d =
+    let c = d .before in
     let a = c .before .before .before .before .before .before .args in
-    law.not-ready (a .node) (a .mem .now) (a .area .now) (a .peer .0) (a .ballot .0) (a .attached) (a .conf) (a .rows .now) (a .commit .0) (a .exec .0) (a .snap .0) _ (c .before .is-ready .ensures) (c .if1 .taken)
+    rw (d .refused .ensures) (law.not-ready (a .node) (a .mem .now) (a .area .now) (a .peer .0) (a .ballot .0) (a .attached) (a .conf) (a .rows .now) (a .commit .0) (a .exec .0) (a .snap .0) _ (c .before .is-ready .ensures) (c .if1 .taken))
 
 is-fitting-requires : tie.Need-is-fitting-requires
 is-fitting-requires c κs = search needs
+
+refused-requires-2 : tie.Need-refused-requires-2
+refused-requires-2 c κs = search needs
 
 same-length-2 : tie.Need-same-length-2
 same-length-2 c = search needs
 
 returns-2 : tie.Need-returns-2
-returns-2 c =
+returns-2 d =
+    let c = d .before in
     let fit = c .before in
     let i = fit .before in
     let a = i .before .before .before .before .before .before .args in
-    law.not-fitting (a .node) (a .mem .now) (a .area .now) (a .peer .0) (a .ballot .0) (a .attached) (a .conf) (a .rows .now) (a .commit .0) (a .exec .0) (a .snap .0) _ (i .before .is-ready .ensures) (i .if1 .left) _ (fit .is-fitting .ensures) (c .if2 .taken)
+    rw (d .refused2 .ensures) (law.not-fitting (a .node) (a .mem .now) (a .area .now) (a .peer .0) (a .ballot .0) (a .attached) (a .conf) (a .rows .now) (a .commit .0) (a .exec .0) (a .snap .0) _ (i .before .is-ready .ensures) (i .if1 .left) _ (fit .is-fitting .ensures) (c .if2 .taken))
 
 early-refusal-requires : tie.Need-early-refusal-requires
 early-refusal-requires c κs =
@@ -35,17 +43,21 @@ early-refusal-requires c κs =
     let a = i .before .before .before .before .before .before .args in
     law.both-ready (a .node) (a .mem .now) (a .area .now) (a .peer .0) (a .ballot .0) (a .attached) (a .conf) (a .rows .now) (a .commit .0) (a .exec .0) (a .snap .0) _ (i .before .is-ready .ensures) (i .if1 .left) _ (fit .is-fitting .ensures) (q .if2 .left) .1
 
+refused-requires-3 : tie.Need-refused-requires-3
+refused-requires-3 c κs = search needs
+
 same-length-3 : tie.Need-same-length-3
 same-length-3 c = search needs
 
 returns-3 : tie.Need-returns-3
-returns-3 c =
+returns-3 d =
+    let c = d .before in
     let y = c .before in
     let q = y .before .before in
     let fit = q .before in
     let i = fit .before in
     let a = i .before .before .before .before .before .before .args in
-    law.beat-refused (a .node) (a .mem .now) (a .area .now) (a .peer .0) (a .ballot .0) (a .attached) (a .conf) (a .rows .now) (a .commit .0) (a .exec .0) (a .snap .0) _ (i .before .is-ready .ensures) (i .if1 .left) _ (fit .is-fitting .ensures) (q .if2 .left) _ (y .early-refusal .ensures) (c .if3 .taken)
+    rw (d .refused3 .ensures) (law.beat-refused (a .node) (a .mem .now) (a .area .now) (a .peer .0) (a .ballot .0) (a .attached) (a .conf) (a .rows .now) (a .commit .0) (a .exec .0) (a .snap .0) _ (i .before .is-ready .ensures) (i .if1 .left) _ (fit .is-fitting .ensures) (q .if2 .left) _ (y .early-refusal .ensures) (c .if3 .taken))
 
 is-installing-requires : tie.Need-is-installing-requires
 is-installing-requires c κs =
@@ -68,11 +80,15 @@ lacks-slot-requires c κs =
     let a = i .before .before .before .before .before .before .args in
     law.both-ready (a .node) (a .mem .now) (a .area .now) (a .peer .0) (a .ballot .0) (a .attached) (a .conf) (a .rows .now) (a .commit .0) (a .exec .0) (a .snap .0) _ (i .before .is-ready .ensures) (i .if1 .left) _ (fit .is-fitting .ensures) (q .if2 .left) .0
 
+refused-requires-4 : tie.Need-refused-requires-4
+refused-requires-4 c κs = search needs
+
 same-length-4 : tie.Need-same-length-4
 same-length-4 c = search needs
 
 returns-4 : tie.Need-returns-4
-returns-4 c =
+returns-4 d =
+    let c = d .before in
     let l = c .before in
     let w = l .before .before in
     let r = w .before .before in
@@ -81,13 +97,17 @@ returns-4 c =
     let fit = q .before in
     let i = fit .before in
     let a = i .before .before .before .before .before .before .args in
-    law.beat-15 (a .node) (a .mem .now) (a .area .now) (a .peer .0) (a .ballot .0) (a .attached) (a .conf) (a .rows .now) (a .commit .0) (a .exec .0) (a .snap .0) _ (i .before .is-ready .ensures) (i .if1 .left) _ (fit .is-fitting .ensures) (q .if2 .left) _ (y .early-refusal .ensures) (r .if3 .left) _ (w .is-installing .ensures) _ (l .lacks-slot .ensures) (c .if4 .taken)
+    rw (d .refused4 .ensures) (law.beat-15 (a .node) (a .mem .now) (a .area .now) (a .peer .0) (a .ballot .0) (a .attached) (a .conf) (a .rows .now) (a .commit .0) (a .exec .0) (a .snap .0) _ (i .before .is-ready .ensures) (i .if1 .left) _ (fit .is-fitting .ensures) (q .if2 .left) _ (y .early-refusal .ensures) (r .if3 .left) _ (w .is-installing .ensures) _ (l .lacks-slot .ensures) (c .if4 .taken))
+
+taken-requires : tie.Need-taken-requires
+taken-requires c κs = search needs
 
 same-length-5 : tie.Need-same-length-5
 same-length-5 c = search needs
 
 returns-5 : tie.Need-returns-5
-returns-5 c =
+returns-5 d =
+    let c = d .before in
     let e = c .before .before .before in
     let l = e .before in
     let w = l .before .before in
@@ -97,7 +117,7 @@ returns-5 c =
     let fit = q .before in
     let i = fit .before in
     let a = i .before .before .before .before .before .before .args in
-    law.lower-taken (a .node) (a .mem .now) (a .area .now) (a .peer .0) (a .ballot .0) (a .attached) (a .conf) (a .rows .now) (a .commit .0) (a .exec .0) (a .snap .0) _ (i .before .is-ready .ensures) (i .if1 .left) _ (fit .is-fitting .ensures) (q .if2 .left) _ (y .early-refusal .ensures) (r .if3 .left) _ (w .is-installing .ensures) _ (l .lacks-slot .ensures) (e .if4 .left) (c .if5 .taken)
+    rw (d .taken .ensures) (law.lower-taken (a .node) (a .mem .now) (a .area .now) (a .peer .0) (a .ballot .0) (a .attached) (a .conf) (a .rows .now) (a .commit .0) (a .exec .0) (a .snap .0) _ (i .before .is-ready .ensures) (i .if1 .left) _ (fit .is-fitting .ensures) (q .if2 .left) _ (y .early-refusal .ensures) (r .if3 .left) _ (w .is-installing .ensures) _ (l .lacks-slot .ensures) (e .if4 .left) (c .if5 .taken))
 
 count-items-requires : tie.Need-count-items-requires
 count-items-requires c κs =
@@ -113,11 +133,15 @@ count-items-requires c κs =
     let a = i .before .before .before .before .before .before .args in
     law.both-ready (a .node) (a .mem .now) (a .area .now) (a .peer .0) (a .ballot .0) (a .attached) (a .conf) (a .rows .now) (a .commit .0) (a .exec .0) (a .snap .0) _ (i .before .is-ready .ensures) (i .if1 .left) _ (fit .is-fitting .ensures) (q .if2 .left) .0
 
+refused-requires-5 : tie.Need-refused-requires-5
+refused-requires-5 c κs = search needs
+
 same-length-6 : tie.Need-same-length-6
 same-length-6 c = search needs
 
 returns-6 : tie.Need-returns-6
-returns-6 c =
+returns-6 d =
+    let c = d .before in
     let k = c .before in
     let g = k .before .before in
     let e = g .before .before .before in
@@ -129,7 +153,7 @@ returns-6 c =
     let fit = q .before in
     let i = fit .before in
     let a = i .before .before .before .before .before .before .args in
-    law.beat-20 (a .node) (a .mem .now) (a .area .now) (a .peer .0) (a .ballot .0) (a .attached) (a .conf) (a .rows .now) (a .commit .0) (a .exec .0) (a .snap .0) _ (i .before .is-ready .ensures) (i .if1 .left) _ (fit .is-fitting .ensures) (q .if2 .left) _ (y .early-refusal .ensures) (r .if3 .left) _ (w .is-installing .ensures) _ (l .lacks-slot .ensures) (e .if4 .left) (g .if5 .left) _ (k .count-items .ensures) (c .if6 .taken)
+    rw (d .refused5 .ensures) (law.beat-20 (a .node) (a .mem .now) (a .area .now) (a .peer .0) (a .ballot .0) (a .attached) (a .conf) (a .rows .now) (a .commit .0) (a .exec .0) (a .snap .0) _ (i .before .is-ready .ensures) (i .if1 .left) _ (fit .is-fitting .ensures) (q .if2 .left) _ (y .early-refusal .ensures) (r .if3 .left) _ (w .is-installing .ensures) _ (l .lacks-slot .ensures) (e .if4 .left) (g .if5 .left) _ (k .count-items .ensures) (c .if6 .taken))
 
 heard-requires : tie.Need-heard-requires
 heard-requires c κs =
@@ -175,21 +199,27 @@ heartbeat-spec =
     tie.close
     (tie.spec
     is-ready-requires
+    refused-requires
     same-length
     returns
     is-fitting-requires
+    refused-requires-2
     same-length-2
     returns-2
     early-refusal-requires
+    refused-requires-3
     same-length-3
     returns-3
     is-installing-requires
     lacks-slot-requires
+    refused-requires-4
     same-length-4
     returns-4
+    taken-requires
     same-length-5
     returns-5
     count-items-requires
+    refused-requires-5
     same-length-6
     returns-6
     heard-requires

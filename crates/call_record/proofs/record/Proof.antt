@@ -43,11 +43,17 @@ slice-aggregate-recorded c = search needs
 recorded-requires : tie.Need-recorded-requires
 recorded-requires c κs = let a = c .before .before .before .before .before .before .before .before .before .before .before .before .before .before .before .before .args in (law.is-made (a .node) (a .mem .now) (a .area .now) (a .slot .0) (a .ballot .0) (a .rows .now) (a .text .now) _ (c .before .before .before .before .before .before .before .before .before .before .early-refusal .ensures) (c .before .before .before .before .before .before .before .before .before .if1 .left), sym (c .before .before .before .late-refusal .ensures) ∙ c .before .before .if2 .left, c .before .before .before .before .before .before .words2 .given)
 
+taken-requires : tie.Need-taken-requires
+taken-requires c κs = search needs
+
 same-length-3 : tie.Need-same-length-3
 same-length-3 c = search needs
 
 returns-3 : tie.Need-returns-3
-returns-3 c = let a = c .before .before .before .before .before .before .before .before .before .before .before .before .before .before .before .before .before .before .before .args in law.is-recorded (a .node) (a .mem .now) (a .area .now) (a .slot .0) (a .ballot .0) (a .rows .now) (a .text .now) _ (c .before .before .before .before .before .before .before .before .before .before .before .before .before .early-refusal .ensures) (c .before .before .before .before .before .before .before .before .before .before .before .before .if1 .left) _ (c .before .before .before .before .before .before .before .before .before .before .load .ensures .requests) _ (c .before .before .before .before .before .before .late-refusal .ensures) (c .before .before .before .before .before .if2 .left) _ _ (c .before .before .recorded .ensures)
+returns-3 d =
+    let c = d .before in
+    let a = c .before .before .before .before .before .before .before .before .before .before .before .before .before .before .before .before .before .before .before .args in
+    rw (d .taken .ensures) (law.is-recorded (a .node) (a .mem .now) (a .area .now) (a .slot .0) (a .ballot .0) (a .rows .now) (a .text .now) _ (c .before .before .before .before .before .before .before .before .before .before .before .before .before .early-refusal .ensures) (c .before .before .before .before .before .before .before .before .before .before .before .before .if1 .left) _ (c .before .before .before .before .before .before .before .before .before .before .load .ensures .requests) _ (c .before .before .before .before .before .before .late-refusal .ensures) (c .before .before .before .before .before .if2 .left) _ _ (c .before .before .recorded .ensures))
 
 pub record-spec : {M : Type 1} → statement M
 record-spec =
@@ -66,5 +72,6 @@ record-spec =
     returns-2
     slice-aggregate-recorded
     recorded-requires
+    taken-requires
     same-length-3
     returns-3)

@@ -9,25 +9,33 @@ use Rattle.call_release.proofs.release.Tie as tie
 is-ready-requires : tie.Need-is-ready-requires
 is-ready-requires c κs = search needs
 
+refused-requires : tie.Need-refused-requires
+refused-requires c κs = search needs
+
 same-length : tie.Need-same-length
 same-length c = search needs
 
 returns : tie.Need-returns
-returns c =
+returns d =
+    let c = d .before in
     let a = c .before .before .before .before .before .args in
-    gives-2 (Release (a .slot .0)) (a .node) (a .mem .now) (a .area .now) _ (c .before .is-ready .ensures) (c .if1 .taken)
+    rw (d .refused .ensures) (gives-2 (Release (a .slot .0)) (a .node) (a .mem .now) (a .area .now) _ (c .before .is-ready .ensures) (c .if1 .taken))
 
 release-refusal-requires : tie.Need-release-refusal-requires
 release-refusal-requires c κs = search needs
+
+refused-requires-2 : tie.Need-refused-requires-2
+refused-requires-2 c κs = search needs
 
 same-length-2 : tie.Need-same-length-2
 same-length-2 c = search needs
 
 returns-2 : tie.Need-returns-2
-returns-2 c =
+returns-2 d =
+    let c = d .before in
     let g = c .before in
     let a = g .before .before .before .before .before .before .before .args in
-    law.release-refused (a .node) (a .mem .now) (a .area .now) (a .slot .0) _ (g .before .before .before .is-ready .ensures) (g .before .before .if1 .left) _ (g .release-refusal .ensures) (c .if2 .taken)
+    rw (d .refused2 .ensures) (law.release-refused (a .node) (a .mem .now) (a .area .now) (a .slot .0) _ (g .before .before .before .is-ready .ensures) (g .before .before .if1 .left) _ (g .release-refusal .ensures) (c .if2 .taken))
 
 sub-holding : tie.Need-sub-holding
 sub-holding c = search needs
@@ -44,14 +52,18 @@ part-holding-end c =
 holding-requires : tie.Need-holding-requires
 holding-requires c κs = search needs
 
+refused-requires-3 : tie.Need-refused-requires-3
+refused-requires-3 c κs = search needs
+
 same-length-3 : tie.Need-same-length-3
 same-length-3 c = search needs
 
 returns-3 : tie.Need-returns-3
-returns-3 c =
+returns-3 d =
+    let c = d .before in
     let g = c .before .before .before .before .before .before in
     let a = g .before .before .before .before .before .before .before .args in
-    law.release-20 (a .node) (a .mem .now) (a .area .now) (a .slot .0) _ (g .before .before .before .is-ready .ensures) (g .before .before .if1 .left) _ (g .release-refusal .ensures) (c .before .before .before .before .before .if2 .left) _ (c .before .holding .ensures) (c .if3 .taken)
+    rw (d .refused3 .ensures) (law.release-20 (a .node) (a .mem .now) (a .area .now) (a .slot .0) _ (g .before .before .before .is-ready .ensures) (g .before .before .if1 .left) _ (g .release-refusal .ensures) (c .before .before .before .before .before .if2 .left) _ (c .before .holding .ensures) (c .if3 .taken))
 
 sub-release : tie.Need-sub-release
 sub-release c = search needs
@@ -71,6 +83,9 @@ release-requires c κs =
     let a = g .before .before .before .before .before .before .before .args in
     law.room (a .node) (a .mem .now) (a .area .now) (a .slot .0) _ (g .before .before .before .is-ready .ensures) (g .before .before .if1 .left) _ (g .release-refusal .ensures) (c .before .before .before .before .before .before .before .before .if2 .left) _ (c .before .before .before .before .holding .ensures) (c .before .before .before .if3 .left)
 
+taken-requires : tie.Need-taken-requires
+taken-requires c κs = search needs
+
 same-length-4 : tie.Need-same-length-4
 same-length-4 c = search needs
 
@@ -78,31 +93,36 @@ same-length-5 : tie.Need-same-length-5
 same-length-5 c = search needs
 
 returns-4 : tie.Need-returns-4
-returns-4 c =
+returns-4 d =
+    let c = d .before in
     let g = c .before .before .before .before .before .before .before .before .before .before .before .before .before .before in
     let a = g .before .before .before .before .before .before .before .args in
-    law.release-taken (a .node) (a .mem .now) (a .area .now) (a .slot .0) _ (g .before .before .before .is-ready .ensures) (g .before .before .if1 .left) _ (g .release-refusal .ensures) (c .before .before .before .before .before .before .before .before .before .before .before .before .before .if2 .left) _ (c .before .before .before .before .before .before .before .before .before .holding .ensures) (c .before .before .before .before .before .before .before .before .if3 .left) _ _ _ (c .before .before .before .before .release .ensures)
+    rw (d .taken .ensures) (law.release-taken (a .node) (a .mem .now) (a .area .now) (a .slot .0) _ (g .before .before .before .is-ready .ensures) (g .before .before .if1 .left) _ (g .release-refusal .ensures) (c .before .before .before .before .before .before .before .before .before .before .before .before .before .if2 .left) _ (c .before .before .before .before .before .before .before .before .before .holding .ensures) (c .before .before .before .before .before .before .before .before .if3 .left) _ _ _ (c .before .before .before .before .release .ensures))
 
 pub release-spec : {M : Type 1} → statement M
 release-spec =
     tie.close
     (tie.spec
     is-ready-requires
+    refused-requires
     same-length
     returns
     release-refusal-requires
+    refused-requires-2
     same-length-2
     returns-2
     sub-holding
     part-holding-start
     part-holding-end
     holding-requires
+    refused-requires-3
     same-length-3
     returns-3
     sub-release
     part-release-start
     part-release-end
     release-requires
+    taken-requires
     same-length-4
     same-length-5
     returns-4)

@@ -9,14 +9,18 @@ use Rattle.call_reply.proofs.reply.Tie as tie
 is-ready-requires : tie.Need-is-ready-requires
 is-ready-requires c κs = search needs
 
+refused-requires : tie.Need-refused-requires
+refused-requires c κs = search needs
+
 same-length : tie.Need-same-length
 same-length c = search needs
 
 returns : tie.Need-returns
-returns c =
+returns d =
+    let c = d .before in
     let i = c in
     let a = i .before .before .before .before .before .args in
-    calls.gives-2 (Reply (a .peer .0) (a .slot .0) (a .ballot .0)) (a .node) (a .mem .now) (a .area .now) _ (i .before .is-ready .ensures) (i .if1 .taken)
+    rw (d .refused .ensures) (calls.gives-2 (Reply (a .peer .0) (a .slot .0) (a .ballot .0)) (a .node) (a .mem .now) (a .area .now) _ (i .before .is-ready .ensures) (i .if1 .taken))
 
 reply-refusal-requires : tie.Need-reply-refusal-requires
 reply-refusal-requires c κs =
@@ -24,31 +28,39 @@ reply-refusal-requires c κs =
     let a = i .before .before .before .before .before .before .before .args in
     law.asked (a .node) (a .mem .now) (a .area .now) (a .peer .0) (a .slot .0) (a .ballot .0) _ (i .before .before .before .is-ready .ensures) (i .before .before .if1 .left)
 
+refused-requires-2 : tie.Need-refused-requires-2
+refused-requires-2 c κs = search needs
+
 same-length-2 : tie.Need-same-length-2
 same-length-2 c = search needs
 
 returns-2 : tie.Need-returns-2
-returns-2 c =
+returns-2 d =
+    let c = d .before in
     let k = c .before in
     let i = k .before in
     let a = i .before .before .before .before .before .before .before .args in
-    law.reply-refused (a .node) (a .mem .now) (a .area .now) (a .peer .0) (a .slot .0) (a .ballot .0) _ (i .before .before .before .is-ready .ensures) (i .before .before .if1 .left) _ (k .reply-refusal .ensures) (c .if2 .taken)
+    rw (d .refused2 .ensures) (law.reply-refused (a .node) (a .mem .now) (a .area .now) (a .peer .0) (a .slot .0) (a .ballot .0) _ (i .before .before .before .is-ready .ensures) (i .before .before .if1 .left) _ (k .reply-refusal .ensures) (c .if2 .taken))
 
 awaits-requires : tie.Need-awaits-requires
 awaits-requires c κs = search needs
+
+taken-requires : tie.Need-taken-requires
+taken-requires c κs = search needs
 
 same-length-3 : tie.Need-same-length-3
 same-length-3 c = search needs
 
 returns-3 : tie.Need-returns-3
-returns-3 c =
+returns-3 d =
+    let c = d .before in
     let l = c in
     let v = l .before in
     let j = v .before .before in
     let k = j .before in
     let i = k .before in
     let a = i .before .before .before .before .before .before .before .args in
-    law.not-awaited (a .node) (a .mem .now) (a .area .now) (a .peer .0) (a .slot .0) (a .ballot .0) _ (i .before .before .before .is-ready .ensures) (i .before .before .if1 .left) _ (k .reply-refusal .ensures) (j .if2 .left) _ (v .awaits .ensures) (l .if3 .taken)
+    rw (d .taken .ensures) (law.not-awaited (a .node) (a .mem .now) (a .area .now) (a .peer .0) (a .slot .0) (a .ballot .0) _ (i .before .before .before .is-ready .ensures) (i .before .before .if1 .left) _ (k .reply-refusal .ensures) (j .if2 .left) _ (v .awaits .ensures) (l .if3 .taken))
 
 ack-in-requires : tie.Need-ack-in-requires
 ack-in-requires c κs =
@@ -92,6 +104,9 @@ enum-known-taken c = search needs
 enum-told : tie.Need-enum-told
 enum-told c = search needs
 
+refused-requires-3 : tie.Need-refused-requires-3
+refused-requires-3 c κs = search needs
+
 same-length-4 : tie.Need-same-length-4
 same-length-4 c = search needs
 
@@ -99,7 +114,8 @@ same-length-5 : tie.Need-same-length-5
 same-length-5 c = search needs
 
 returns-4 : tie.Need-returns-4
-returns-4 c =
+returns-4 d =
+    let c = d .before in
     let t = c .before .before .before .before .before .before in
     let y = t .before .before .before in
     let l = y .before .before .before in
@@ -108,7 +124,10 @@ returns-4 c =
     let k = j .before in
     let i = k .before in
     let a = i .before .before .before .before .before .before .before .args in
-    law.reply-full (a .node) (a .mem .now) (a .area .now) (a .peer .0) (a .slot .0) (a .ballot .0) _ (i .before .before .before .is-ready .ensures) (i .before .before .if1 .left) _ (k .reply-refusal .ensures) (j .if2 .left) _ (v .awaits .ensures) (l .if3 .left) _ (y .ack-in .ensures) _ _ _ (t .take-reply .ensures) (c .enum-told .given .1)
+    rw (d .refused3 .ensures) (law.reply-full (a .node) (a .mem .now) (a .area .now) (a .peer .0) (a .slot .0) (a .ballot .0) _ (i .before .before .before .is-ready .ensures) (i .before .before .if1 .left) _ (k .reply-refusal .ensures) (j .if2 .left) _ (v .awaits .ensures) (l .if3 .left) _ (y .ack-in .ensures) _ _ _ (t .take-reply .ensures) (c .enum-told .given .1))
+
+taken-requires-2 : tie.Need-taken-requires-2
+taken-requires-2 c κs = search needs
 
 same-length-6 : tie.Need-same-length-6
 same-length-6 c = search needs
@@ -117,7 +136,8 @@ same-length-7 : tie.Need-same-length-7
 same-length-7 c = search needs
 
 returns-5 : tie.Need-returns-5
-returns-5 c =
+returns-5 d =
+    let c = d .before in
     let q = c .before in
     let t = q .before .before .before .before .before .before in
     let y = t .before .before .before in
@@ -127,19 +147,22 @@ returns-5 c =
     let k = j .before in
     let i = k .before in
     let a = i .before .before .before .before .before .before .before .args in
-    law.reply-taken (a .node) (a .mem .now) (a .area .now) (a .peer .0) (a .slot .0) (a .ballot .0) _ (i .before .before .before .is-ready .ensures) (i .before .before .if1 .left) _ (k .reply-refusal .ensures) (j .if2 .left) _ (v .awaits .ensures) (l .if3 .left) _ (y .ack-in .ensures) _ _ _ (t .take-reply .ensures) _ (q .taken .given .1)
+    rw (d .taken3 .ensures) (law.reply-taken (a .node) (a .mem .now) (a .area .now) (a .peer .0) (a .slot .0) (a .ballot .0) _ (i .before .before .before .is-ready .ensures) (i .before .before .if1 .left) _ (k .reply-refusal .ensures) (j .if2 .left) _ (v .awaits .ensures) (l .if3 .left) _ (y .ack-in .ensures) _ _ _ (t .take-reply .ensures) _ (q .taken2 .given .1))
 
 pub reply-spec : {M : Type 1} → statement M
 reply-spec =
     tie.close
     (tie.spec
     is-ready-requires
+    refused-requires
     same-length
     returns
     reply-refusal-requires
+    refused-requires-2
     same-length-2
     returns-2
     awaits-requires
+    taken-requires
     same-length-3
     returns-3
     ack-in-requires
@@ -149,9 +172,11 @@ reply-spec =
     take-reply-requires
     enum-known-taken
     enum-told
+    refused-requires-3
     same-length-4
     same-length-5
     returns-4
+    taken-requires-2
     same-length-6
     same-length-7
     returns-5)

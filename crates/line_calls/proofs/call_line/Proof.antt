@@ -7,8 +7,8 @@ use Rattle.line_calls.proofs.call_line.Tie as tie
 call-at-requires : tie.Need-call-at-requires
 call-at-requires c κs = search needs
 
-malformed-requires : tie.Need-malformed-requires
-malformed-requires c κs = search needs
+refused-requires : tie.Need-refused-requires
+refused-requires c κs = search needs
 
 returns : tie.Need-returns
 returns c = search (needs, law.not-asked)
@@ -42,7 +42,7 @@ call-line-spec =
     tie.close
     (tie.spec
     call-at-requires
-    malformed-requires
+    refused-requires
     returns
     slice-aggregate-apply
     sub-apply

@@ -7,8 +7,8 @@ use Rattle.line_calls.proofs.heard_line.Tie as tie
 heard-fields-requires : tie.Need-heard-fields-requires
 heard-fields-requires c κs = search needs
 
-malformed-requires : tie.Need-malformed-requires
-malformed-requires c κs = search needs
+refused-requires : tie.Need-refused-requires
+refused-requires c κs = search needs
 
 returns : tie.Need-returns
 returns c = λ w. search (needs, law.not-heard)
@@ -30,7 +30,7 @@ heard-line-spec =
     tie.close
     (tie.spec
     heard-fields-requires
-    malformed-requires
+    refused-requires
     returns
     apply-requires
     same-length

@@ -1,4 +1,3 @@
-use mathlib.Core.Path.{refl}
 use Rattle.line_draft.proofs.Laws as law
 use borrow.Author.Needs.{needs}
 use Rattle.line_draft.proofs.begin.Statement.{statement}
@@ -49,11 +48,17 @@ same-length c = search needs
 returns-4 : tie.Need-returns-4
 returns-4 c = let a = c .before .before .before .before .before .before .before .before .before .before .before .args in λ h. law.unmade (a .id) (a .population) (a .quorum) (a .node) (a .mem .now) _ h _ (c .before .before .before .before .before .fresh .ensures) _ _ (c .before .enum-told .given .1) (c .refused4 .ensures)
 
+taken-requires : tie.Need-taken-requires
+taken-requires c κs = search needs
+
 same-length-2 : tie.Need-same-length-2
 same-length-2 c = search needs
 
 returns-5 : tie.Need-returns-5
-returns-5 c = let a = c .before .before .before .before .before .before .before .before .before .before .before .args in λ h. law.made (a .id) (a .population) (a .quorum) (a .node) (a .mem .now) _ h _ (c .before .before .before .before .before .fresh .ensures) _ _ (search needs) (c .before .before .before .before .before .fresh .kept .0) refl
+returns-5 d =
+    let c = d .before in
+    let a = c .before .before .before .before .before .before .before .before .before .before .before .args in
+    λ h. law.made (a .id) (a .population) (a .quorum) (a .node) (a .mem .now) _ h _ (c .before .before .before .before .before .fresh .ensures) _ _ (search needs) (c .before .before .before .before .before .fresh .kept .0) (d .taken .ensures)
 
 pub begin-spec : {M : Type 1} → statement M
 begin-spec =
@@ -74,5 +79,6 @@ begin-spec =
     refused-requires-4
     same-length
     returns-4
+    taken-requires
     same-length-2
     returns-5)

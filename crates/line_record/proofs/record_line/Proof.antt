@@ -10,17 +10,17 @@ slice-aggregate-numbers-from c = search needs
 numbers-from-requires : tie.Need-numbers-from-requires
 numbers-from-requires c κs = search needs
 
-malformed-requires : tie.Need-malformed-requires
-malformed-requires c κs = search needs
+refused-requires : tie.Need-refused-requires
+refused-requires c κs = search needs
 
 returns : tie.Need-returns
-returns c = law.line-numbers _ _ _ _ _ _ _ _ (c .before .before .before .before .numbers-from .ensures) _ _ (c .before .if1 .taken) (c .malformed .ensures)
+returns c = law.line-numbers _ _ _ _ _ _ _ _ (c .before .before .before .before .numbers-from .ensures) _ _ (c .before .if1 .taken) (c .refused .ensures)
 
 groups-at-requires : tie.Need-groups-at-requires
 groups-at-requires c κs = search needs
 
-malformed-requires-2 : tie.Need-malformed-requires-2
-malformed-requires-2 c κs = search needs
+refused-requires-2 : tie.Need-refused-requires-2
+refused-requires-2 c κs = search needs
 
 same-length : tie.Need-same-length
 same-length c = search needs
@@ -28,7 +28,7 @@ same-length c = search needs
 returns-2 : tie.Need-returns-2
 returns-2 c =
     let g = c .before .before .before .before .before in
-    law.line-groups _ _ _ _ _ _ _ _ (g .before .before .before .before .before .numbers-from .ensures) (g .before .before .if1 .left) _ _ (g .groups-at .ensures) _ _ (c .before .if2 .taken) (c .malformed2 .ensures)
+    law.line-groups _ _ _ _ _ _ _ _ (g .before .before .before .before .before .numbers-from .ensures) (g .before .before .if1 .left) _ _ (g .groups-at .ensures) _ _ (c .before .if2 .taken) (c .refused2 .ensures)
 
 mul-words : tie.Need-mul-words
 mul-words c = omega (arith, c .before .before .before .before .before .groups-at .ensures .few)
@@ -73,10 +73,10 @@ record-line-spec =
     (tie.spec
     slice-aggregate-numbers-from
     numbers-from-requires
-    malformed-requires
+    refused-requires
     returns
     groups-at-requires
-    malformed-requires-2
+    refused-requires-2
     same-length
     returns-2
     mul-words
