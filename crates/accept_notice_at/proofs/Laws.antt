@@ -22,7 +22,7 @@ use Rattle.inst_cell.specs.declared.Cell.{Cell}
 use Rattle.inst_cell.specs.declared.NoticeBook.{NoticeBook}
 use Rattle.inst_cell.specs.declared.ReplicaBk.{ReplicaBk}
 use Rattle.inst_cell.specs.declared.ReplicaBk.the-variants as replica
-use Rattle.accept_notices.specs.Book.{bookWith, fresh, Takes}
+use Rattle.accept_notices.specs.Book.{bookWith, freshBook, Takes}
 use Rattle.insts.specs.Slots.{shortAt, batchAt, readsAt, seenReads, bookOf as slotBook, instOf, instIn, instsOf, Puts}
 use Rattle.insts.proofs.Laws.{puts-then, short-after, here-is, moved, inst-at, length-insts}
 use Rattle.release_held_reads.specs.Release.{holdingOf, answersOf, emptied, Releases}
@@ -36,7 +36,7 @@ module _ (bk : ReplicaBk) (r : NoticeBook) (peer ballot : ℕ) where
   abbrev Noted : Type 0
   Noted = (held : List machine.ReadReq) → bookWith r (seenReads (bookOf bk) held) ≡ noticedBook peer ballot (slotBook (bookOf bk) held)
 
-  pub new-book : (b : NoticeBook) → bk ≡ replica.None → b ≡ fresh → Takes peer ballot b r → Noted
+  pub new-book : (b : NoticeBook) → bk ≡ replica.None → b ≡ freshBook → Takes peer ballot b r → Noted
   new-book b e g f held = rw e (f [] ∙ ap (λ (k : NoticeBook). takeNotice peer ballot (bookWith k [])) g)
 
   pub old-book : (b : NoticeBook) → bk ≡ replica.Some b → Takes peer ballot b r → Noted

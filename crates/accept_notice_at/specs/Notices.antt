@@ -1,5 +1,5 @@
 -- Bridge: `handle_msg_accept_notice` at the slot of a notice, over what it reads of the replica: quorum, leader and
--- the instances; tied to `handleMsgAcceptNotice` by proofs/Machine.
+-- the instances; tied to `handleMsgAcceptNotice` by proofs/Machine and call_notice/proofs/Laws.
 use mathlib.Core.Path.{_≡_}
 use mathlib.Core.Bool.{Bool, false, _&&_, _||_, not}
 use mathlib.Core.List.{List, [], _++_}

@@ -12,8 +12,8 @@ abbrev pub bookWith : NoticeBook → List ReadReq → Book
 bookWith b held = record { bal = b .bal .0; notices = b .notices; holding = held }
 
 -- "a notice book (ballot 0, no notices)", `newBook` without its reads
-abbrev pub fresh : NoticeBook
-fresh = record { bal = record { 0 = 0 }; notices = 0 }
+abbrev pub freshBook : NoticeBook
+freshBook = record { bal = record { 0 = 0 }; notices = 0 }
 
 -- `accept_notices.clear()`: the ballot stays
 abbrev pub cleared : NoticeBook → NoticeBook

@@ -5,11 +5,11 @@ use ids::Ballot;
 use ids::Replica;
 use inst_cell::NoticeBook;
 ghost use mathlib.Core.Path.{_≡_};
-ghost use Rattle.accept_notices.specs.Book.{fresh, cleared, Takes};
+ghost use Rattle.accept_notices.specs.Book.{freshBook, cleared, Takes};
 
 // The book of a slot that had none.
 pub fn fresh() -> NoticeBook
-    ensures { λ r. ⌜ r ≡ fresh ⌝ }
+    ensures { λ r. ⌜ r ≡ freshBook ⌝ }
 {
     let none = Ballot(0);
     NoticeBook {

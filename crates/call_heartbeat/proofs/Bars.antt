@@ -8,7 +8,7 @@ use lib.ListN.{length, take, drop}
 use borrow.Author.Tests.{lt-ltb, le-ltb}
 use Rattle.layout.specs.Layout.{slotsAt, slotWords, execsAt, replicaPlaces, nodeWords}
 use Rattle.words.specs.Choice.{if_then_else_}
-use Rattle.words.specs.Tab.{run}
+use Rattle.words.specs.Tab.{wordsFrom}
 use Rattle.words.specs.Part.{part, splice, length-part, part-before}
 use Rattle.ids.specs.declared.Slot.{Slot}
 use Rattle.items.specs.Item.{Item, encode, places}
@@ -125,8 +125,8 @@ module _ (n : Node) (m : List ℕ) (y : ready n m ≡ true) (ballot commit exec 
         abbrev walked-to : machine.Replica
         walked-to = machine.withInsts (instsOf (n .«start_slot» .0) (n .slots) s′) (view n m)
 
-        due-is : due ≡ machine.done (machine.withSnap (snapLeft (n .population) (n .id .0) peer exec snap (run (n .population) (part m execsAt replicaPlaces) 0) (n .«snap_bar» .0))
-            (machine.withPeerExecBar (execsLeft (n .id .0) peer exec (run (n .population) (part m execsAt replicaPlaces) 0)) walked-to)) items
+        due-is : due ≡ machine.done (machine.withSnap (snapLeft (n .population) (n .id .0) peer exec snap (wordsFrom (n .population) (part m execsAt replicaPlaces) 0) (n .«snap_bar» .0))
+            (machine.withPeerExecBar (execsLeft (n .id .0) peer exec (wordsFrom (n .population) (part m execsAt replicaPlaces) 0)) walked-to)) items
         unfolding view part
         due-is =
             high-is h peer snap ∙ rw (advance-is (view n m) refl refl refl a) (rw (heard-peer peer exec snap walked-to, append-nil items))
@@ -141,17 +141,17 @@ module _ (n : Node) (m : List ℕ) (y : ready n m ≡ true) (ballot commit exec 
           execs-same : part m₁ execsAt replicaPlaces ≡ part m execsAt replicaPlaces
           execs-same = part-before m slotsAt slotWords s′ (omega (arith, r .long)) long execsAt replicaPlaces (omega arith)
 
-          next-is : view (snapped n x) m₂ ≡ machine.withSnap (x .0) (machine.withPeerExecBar (run (n .population) e′ 0) walked-to)
+          next-is : view (snapped n x) m₂ ≡ machine.withSnap (x .0) (machine.withPeerExecBar (wordsFrom (n .population) e′ 0) walked-to)
           unfolding view
           next-is =
               execs-back (snapped n x) m₁ size-1 e′ short
-              ∙ ap (λ (z : machine.Replica). machine.withSnap (x .0) (machine.withPeerExecBar (run (n .population) e′ 0) z)) (slots-back n m (r .long) s′ long)
+              ∙ ap (λ (z : machine.Replica). machine.withSnap (x .0) (machine.withPeerExecBar (wordsFrom (n .population) e′ 0) z)) (slots-back n m (r .long) s′ long)
 
-          bars-are : machine.withSnap (x .0) (machine.withPeerExecBar (run (n .population) e′ 0) walked-to) ≡ due .replica
+          bars-are : machine.withSnap (x .0) (machine.withPeerExecBar (wordsFrom (n .population) e′ 0) walked-to) ≡ due .replica
           unfolding part
           bars-are =
               ap (λ (z : List ℕ). machine.withSnap (x .0) (machine.withPeerExecBar z walked-to)) (b .execs)
-              ∙ ap (λ (z : ℕ). machine.withSnap z (machine.withPeerExecBar (execsLeft (n .id .0) peer exec (run (n .population) (part m₁ execsAt replicaPlaces) 0)) walked-to)) (b .answer)
+              ∙ ap (λ (z : ℕ). machine.withSnap z (machine.withPeerExecBar (execsLeft (n .id .0) peer exec (wordsFrom (n .population) (part m₁ execsAt replicaPlaces) 0)) walked-to)) (b .answer)
               ∙ rw execs-same (sym (ap (λ (d : machine.Done). d .replica) due-is))
 
           again : ready (snapped n x) m₂ ≡ true

@@ -16,7 +16,7 @@ use Rattle.layout.specs.Layout.{cellRow, slotPlaces, batchWords, slotWords, wri
 use Rattle.roster_conf.specs.Edits.{view as rosterOf}
 use Rattle.inst_cell.specs.Cell.{Notices, Short, bookOf as noticesOf}
 use Rattle.inst_cell.specs.declared.NoticeBook.{NoticeBook}
-use Rattle.accept_notices.specs.Book.{fresh}
+use Rattle.accept_notices.specs.Book.{freshBook}
 use Rattle.inst_cell.specs.declared.ReplicaBk.{ReplicaBk}
 use Rattle.inst_cell.specs.declared.ReplicaBk.the-variants.{None, Some}
 use Rattle.inst_reqs.specs.Batch.{requestsOf}
@@ -187,7 +187,7 @@ padded-to start n k s h g e = record { insts = e .0; size = e .1; within = omega
 -- ---- the slot's place
 
 module _ (leader : Bool) (o : ReplicaBk) (f : leader ≡ false) where
-  pub new-book : (b : NoticeBook) → o ≡ None → b ≡ fresh → some (record { bal = b .bal .0; notices = b .notices }) ≡ keptBook leader (noticesOf o)
+  pub new-book : (b : NoticeBook) → o ≡ None → b ≡ freshBook → some (record { bal = b .bal .0; notices = b .notices }) ≡ keptBook leader (noticesOf o)
   new-book b e g = rw g (sym (rw (f, e)))
 
   pub old-book : (b : NoticeBook) → o ≡ Some b → some (record { bal = b .bal .0; notices = b .notices }) ≡ keptBook leader (noticesOf o)

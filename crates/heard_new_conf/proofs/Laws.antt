@@ -10,7 +10,7 @@ use lib.Dec.{leb}
 use lib.ListN.{length, getD, set, take, drop, replicate, getD-replicate}
 use borrow.Author.Tests.{leb-true, not-true, not-false}
 use Rattle.words.specs.Choice.{if_then_else_}
-use Rattle.words.specs.Tab.{tab, run, tab-ext}
+use Rattle.words.specs.Tab.{tab, wordsFrom, tab-ext}
 use Rattle.words.specs.Part.{part, splice, Untouched, part-before, length-part}
 use Rattle.words.specs.Writes.{writes, length-writes, writes-same}
 use Rattle.ids.specs.Leader.{leaderOf}
@@ -262,7 +262,7 @@ module _ (n : Node) (m area : List ℕ) (e : ready n m ≡ true) where
         step-up-view z i =
             let after = leading n z k in
             execs-back after with-slots step-up-there f size-execs
-            ∙ ap (λ (a : machine.Replica). machine.withPeerExecBar (run (n .population) f 0) a) (slots-back after m (ok .long) s size-slots)
+            ∙ ap (λ (a : machine.Replica). machine.withPeerExecBar (wordsFrom (n .population) f 0) a) (slots-back after m (ok .long) s size-slots)
             ∙ rw (w .execs (n .population) (ok .few), v, x .insts, i)
 
         step-up-ready : (z : Ballot) → ready (leading n z k) mem′ ≡ true

@@ -75,7 +75,7 @@ Figured t u =
     ⊎ ((u .figure ≡ figureOf (t .quorum) (t .ballot) (u .pairs)) × ((k : ℕ) × (beats (at u k) (at t k) ≡ true)))
 
 -- what calls, of which each accepted guard is in `In`, do to a table
-pub record Turned (In : Fed → Type 0) (t u : Table) : Type 0 where
+pub record GuardsOnly (In : Fed → Type 0) (t u : Table) : Type 0 where
   pub population : u .population ≡ t .population
   pub quorum : u .quorum ≡ t .quorum
   pub ballot : u .ballot ≡ t .ballot
@@ -84,7 +84,7 @@ pub record Turned (In : Fed → Type 0) (t u : Table) : Type 0 where
   pub comes : (k : ℕ) → (at u k ≡ at t k) ⊎ ((number : ℕ) × (bar : ℕ) × In (accepted k number bar) × (at u k ≡ pair number bar))
   pub figured : Figured t u
 
-still-turned : {t u : Table} (f : Fed) → Still t u → Turned (λ g. g ≡ f) t u
+still-turned : {t u : Table} (f : Fed) → Still t u → GuardsOnly (λ g. g ≡ f) t u
 still-turned {t} {u} f s =
     record {
       population = s .population;
@@ -113,7 +113,7 @@ module _ (t : Table) (peer number bar : ℕ) (inside : peer < length (t .pairs))
   guarded-comes k true e = inr (number, bar, ap (λ (x : ℕ). accepted x number bar) (eqb-true k peer e), rw (eqb-true k peer e) here)
   guarded-comes k false e = inl (there k (eqb-false k peer e))
 
-  guarded-turned : Turned (λ g. g ≡ accepted peer number bar) t (guarded peer (pair number bar) t)
+  guarded-turned : GuardsOnly (λ g. g ≡ accepted peer number bar) t (guarded peer (pair number bar) t)
   guarded-turned =
       record {
         population = refl;
@@ -128,10 +128,10 @@ module _ (t : Table) (peer number bar : ℕ) (inside : peer < length (t .pairs))
 abbrev pub Inside : Table → (Fed → Type 0) → Type 0
 Inside t In = (peer number bar : ℕ) → In (accepted peer number bar) → peer < length (t .pairs)
 
-turned : (t : Table) (f : Fed) → not (f .taken && changes t (f .call)) ≡ true → Inside t (λ g. g ≡ f) → Turned (λ g. g ≡ f) t (feed t f)
+turned : (t : Table) (f : Fed) → not (f .taken && changes t (f .call)) ≡ true → Inside t (λ g. g ≡ f) → GuardsOnly (λ g. g ≡ f) t (feed t f)
 turned t f h i = go (turn t (f .call) (f .taken) h)
   where
-    go : Still t (feed t f) ⊎ Guarded t (feed t f) f → Turned (λ g. g ≡ f) t (feed t f)
+    go : Still t (feed t f) ⊎ Guarded t (feed t f) f → GuardsOnly (λ g. g ≡ f) t (feed t f)
     go (inl s) = still-turned f s
     go (inr g) =
         rw (g .next)
@@ -149,7 +149,7 @@ covered t k number bar h = go (alters t k (pair number bar)) refl
 
 -- ---- one call and the calls after it
 
-module _ {t u v : Table} {f : Fed} {fs : List Fed} (a : Turned (λ g. g ≡ f) t u) (b : Turned (λ g. List·Memᴰ g fs) u v) where
+module _ {t u v : Table} {f : Fed} {fs : List Fed} (a : GuardsOnly (λ g. g ≡ f) t u) (b : GuardsOnly (λ g. List·Memᴰ g fs) u v) where
   both-come : (k : ℕ) → (at v k ≡ at t k) ⊎ ((number : ℕ) × (bar : ℕ) × List·Memᴰ (accepted k number bar) (f ∷ fs) × (at v k ≡ pair number bar))
   both-come k = go (a .comes k) (b .comes k)
     where
@@ -173,7 +173,7 @@ module _ {t u v : Table} {f : Fed} {fs : List Fed} (a : Turned (λ g. g ≡ f) t
           inr (y .1 ∙ x .0 ∙ ap (figureOf (t .quorum) (t .ballot)) (sym (y .0)), (x .1 .0, beats-upto _ _ _ (x .1 .1) (b .grows (x .1 .0))))
       go (inr x) (inr y) = inr (worked (y .0), (x .1 .0, beats-upto _ _ _ (x .1 .1) (b .grows (x .1 .0))))
 
-  both : Turned (λ g. List·Memᴰ g (f ∷ fs)) t v
+  both : GuardsOnly (λ g. List·Memᴰ g (f ∷ fs)) t v
   both =
       record {
         population = b .population ∙ a .population;
@@ -190,7 +190,7 @@ module _ {t u v : Table} {f : Fed} {fs : List Fed} (a : Turned (λ g. g ≡ f) t
 abbrev pub InsideAll : Table → List Fed → Type 0
 InsideAll t fs = Inside t (λ g. List·Memᴰ g fs)
 
-pub all-turned : (t : Table) (fs : List Fed) → quiet t fs ≡ true → InsideAll t fs → Turned (λ g. List·Memᴰ g fs) t (feedAll t fs)
+pub all-turned : (t : Table) (fs : List Fed) → quiet t fs ≡ true → InsideAll t fs → GuardsOnly (λ g. List·Memᴰ g fs) t (feedAll t fs)
 unfolding quiet feedAll
 all-turned t [] h i =
     record {

@@ -188,21 +188,21 @@ SteppedUp d = Most items d × Each Unaccepting (d .replica)
 abbrev Nothing : Done → Type 0
 Nothing d = (d .items ≡ []) × (length (d .replica .insts) ≤ window)
 
-abbrev Heard : Done → Type 0
-Heard d = SteppedUp d ⊎ Nothing d
+abbrev SomeOrNone : Done → Type 0
+SomeOrNone d = SteppedUp d ⊎ Nothing d
 
 module _ (r : Replica) (w : length (r .insts) ≤ window) (s : Small r) where
-  new-conf-items : (ballot : ℕ) (c : Conf) → Heard (heardNewConf r ballot c)
+  new-conf-items : (ballot : ℕ) (c : Conf) → SomeOrNone (heardNewConf r ballot c)
   unfolding heardNewConf updatePeerAcceptMax
   new-conf-items ballot c =
-      of-if Heard (leads c (r .me .id))
+      of-if SomeOrNone (leads c (r .me .id))
       (inl (leader-items (adopted r ballot c) w s, leader-unaccepting (adopted r ballot c) s))
       (inr (refl, w))
 
-  conf-items : (peer ballot : ℕ) (conf : Option Conf) → Heard (heardConf r peer ballot conf)
+  conf-items : (peer ballot : ℕ) (conf : Option Conf) → SomeOrNone (heardConf r peer ballot conf)
   unfolding heardConf
   conf-items peer ballot conf =
-      of-none Heard conf (inr (refl, w)) (λ c. of-if Heard (installs r peer ballot c) (new-conf-items ballot c) (inr (refl, w)))
+      of-none SomeOrNone conf (inr (refl, w)) (λ c. of-if SomeOrNone (installs r peer ballot c) (new-conf-items ballot c) (inr (refl, w)))
 
   heartbeat-items : (peer ballot : ℕ) (conf : Option Conf) (commit exec snap : ℕ) → Most items (heardHeartbeat r peer ballot conf commit exec snap)
   unfolding heardHeartbeat

@@ -28,12 +28,12 @@ use Rattle.history.proofs.OrderFree.{Sized, sized-if, sized, guard-insi
 
 module _ {Node : Type 0} (view : Node → List ℕ → Replica) where
   -- what a step tells of its answer
-  record Tells (r : Replica) (s : Step) (g : Given Node) (mem′ : List ℕ) : Type 0 where
+  record Accords (r : Replica) (s : Step) (g : Given Node) (mem′ : List ℕ) : Type 0 where
     taken : isTaken s ≡ eqb (g .number) 0
     next : view (g .node) mem′ ≡ after r s
 
   tells : (ready : Node → List ℕ → Bool) (o : Option ℕ) (d : Done) (node : Node) (mem area : List ℕ) (g : Given Node) (mem′ area′ : List ℕ) → ((n : ℕ) → o ≡ some n → 0 < n)
-      → Follows ready view (stepBy o d) node mem area g mem′ area′ → Tells (view node mem) (stepBy o d) g mem′
+      → Follows ready view (stepBy o d) node mem area g mem′ area′ → Accords (view node mem) (stepBy o d) g mem′
   tells ready none d node mem area g mem′ area′ p f = record { taken = rw (f .number); next = f .next }
   tells ready (some n) d node mem area g mem′ area′ p f =
       record {

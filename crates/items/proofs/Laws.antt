@@ -15,7 +15,7 @@ use lib.ListN.{length, getD, length-append}
 use lib.Seq.{getD-append-add, take-at}
 use lib.Pow.{split}
 use Rattle.words.specs.Choice.{if_then_else_}
-use Rattle.words.specs.Tab.{run, run-part}
+use Rattle.words.specs.Tab.{wordsFrom, run-part}
 use Rattle.words.specs.Writes.{writes, length-writes, writes-other, writes-same, run-writes, run-agrees, writes-append}
 use Rattle.words.proofs.Tests.{and-both}
 use Rattle.inty.specs.Value.{valueOf}
@@ -58,7 +58,7 @@ pub at-none : (area : List ℕ) (place : ℕ) → length area / 6 ≤ place → 
 unfolding itemAt
 at-none area place h = sym (rw (le-ltb place (length area / 6) h))
 
-pub at-some : (area : List ℕ) (place : ℕ) (s : Six) (g : Got) → place < length area / 6 → sixOf s ≡ run 6 area (place * 6)
+pub at-some : (area : List ℕ) (place : ℕ) (s : Six) (g : Got) → place < length area / 6 → sixOf s ≡ wordsFrom 6 area (place * 6)
     → gotOf g ≡ decode (sixOf s) → gotOf g ≡ itemAt area place
 unfolding itemAt
 at-some area place s g h e f = f ∙ rw (lt-ltb place (length area / 6) h) (ap decode e)
@@ -164,16 +164,16 @@ place-room n place h = omega arith
 
 -- an item stands at a place exactly if there is such a place, and its words are there
 pub at-words : (area : List ℕ) (place : ℕ) (x : Item) → itemAt area place ≡ some x
-    → (place < places area) × (run 6 area (place * 6) ≡ itemWords x) × Fits x
+    → (place < places area) × (wordsFrom 6 area (place * 6) ≡ itemWords x) × Fits x
 unfolding itemAt
 at-words area place x e = go (ltb place (places area)) refl e
   where
-    go : (t : Bool) → ltb place (places area) ≡ t → (if t then decode (run 6 area (place * 6)) else none) ≡ some x
-        → (place < places area) × (run 6 area (place * 6) ≡ itemWords x) × Fits x
-    go true l e = let s = decode-sound (run 6 area (place * 6)) x e in (ltb-true place (places area) l, sym (s .0), s .1)
+    go : (t : Bool) → ltb place (places area) ≡ t → (if t then decode (wordsFrom 6 area (place * 6)) else none) ≡ some x
+        → (place < places area) × (wordsFrom 6 area (place * 6) ≡ itemWords x) × Fits x
+    go true l e = let s = decode-sound (wordsFrom 6 area (place * 6)) x e in (ltb-true place (places area) l, sym (s .0), s .1)
     go false l e = let z : _≡_ {A = ℕ} 0 1 = cc in absurd (omega arith)
 
-pub words-at : (area : List ℕ) (place : ℕ) (x : Item) → place < places area → run 6 area (place * 6) ≡ itemWords x → Fits x
+pub words-at : (area : List ℕ) (place : ℕ) (x : Item) → place < places area → wordsFrom 6 area (place * 6) ≡ itemWords x → Fits x
     → itemAt area place ≡ some x
 unfolding itemAt
 words-at area place x h e f = rw (lt-ltb place (places area) h) (ap decode e ∙ decode-words x f)
@@ -207,7 +207,7 @@ put-length area place x = elim (decLt place (places area)) [
 pub get-put : (area : List ℕ) (place : ℕ) (x : Item) → place < places area → Fits x → itemAt (putItem area place x .area) place ≡ some x
 get-put area place x h f =
     let l : place * 6 + length (itemWords x) ≤ length area = rw (length-item x) (place-room (length area) place h) in
-    let r : run 6 (writes area (place * 6) (itemWords x)) (place * 6) ≡ itemWords x = rw (length-item x) at (run-writes area (place * 6) (itemWords x) l) in
+    let r : wordsFrom 6 (writes area (place * 6) (itemWords x)) (place * 6) ≡ itemWords x = rw (length-item x) at (run-writes area (place * 6) (itemWords x) l) in
     let k : place < places (writes area (place * 6) (itemWords x)) = rw (length-writes area (place * 6) (itemWords x)) h in
     rw (put-area area place x h) (words-at (writes area (place * 6) (itemWords x)) place x k r f)
 
@@ -222,7 +222,7 @@ put-word area place x j o = elim (decLt place (places area)) [
 pub put-other : (area : List ℕ) (place : ℕ) (x : Item) (q : ℕ) → q ≢ place → itemAt (putItem area place x .area) q ≡ itemAt area q
 unfolding itemAt
 put-other area place x q n =
-    let r : run 6 (putItem area place x .area) (q * 6) ≡ run 6 area (q * 6) = run-agrees 6 (putItem area place x .area) area (q * 6) (λ j a b. put-word area place x j (apart j a b)) in
+    let r : wordsFrom 6 (putItem area place x .area) (q * 6) ≡ wordsFrom 6 area (q * 6) = run-agrees 6 (putItem area place x .area) area (q * 6) (λ j a b. put-word area place x j (apart j a b)) in
     rw (put-length area place x, r)
   where
     apart : (j : ℕ) → q * 6 ≤ j → j < q * 6 + 6 → (j < place * 6) ⊎ (place * 6 + 6 ≤ j)
@@ -230,14 +230,14 @@ put-other area place x q n =
 
 -- ---- a list of items
 
-run-past : (n : ℕ) (xs ys : List ℕ) (q : ℕ) → run n (xs ++ ys) (length xs + q) ≡ run n ys q
+run-past : (n : ℕ) (xs ys : List ℕ) (q : ℕ) → wordsFrom n (xs ++ ys) (length xs + q) ≡ wordsFrom n ys q
 run-past zero xs ys q = refl
 run-past (suc n) xs ys q =
     let e : length xs + q + 1 ≡ length xs + (q + 1) = omega arith in
     rw (getD-append-add xs ys q 0, e, run-past n xs ys (q + 1))
 
 -- the words of each
-encode-run : (xs : List Item) (i : ℕ) (d : Item) → i < length xs → run 6 (encode xs) (i * 6) ≡ itemWords (getD xs i d)
+encode-run : (xs : List Item) (i : ℕ) (d : Item) → i < length xs → wordsFrom 6 (encode xs) (i * 6) ≡ itemWords (getD xs i d)
 unfolding encode
 encode-run [] i d h = absurd (not-suc-le-zero h)
 encode-run (x ∷ xs) zero d h =
@@ -254,7 +254,7 @@ get-encoded area xs i d l h f =
     let ws : List ℕ = encode xs in
     let m : length ws ≡ length xs * 6 = length-encode xs in
     let k : i < places (writes area 0 ws) = rw (length-writes area 0 ws) (omega arith) in
-    let r : run 6 (writes area 0 ws) (i * 6) ≡ run 6 ws (i * 6) = run-agrees 6 (writes area 0 ws) ws (i * 6) (λ j a b. rw (zero-add j) at (writes-same area 0 ws j (omega arith) (omega arith))) in
+    let r : wordsFrom 6 (writes area 0 ws) (i * 6) ≡ wordsFrom 6 ws (i * 6) = run-agrees 6 (writes area 0 ws) ws (i * 6) (λ j a b. rw (zero-add j) at (writes-same area 0 ws j (omega arith) (omega arith))) in
     words-at (writes area 0 ws) i (getD xs i d) k (r ∙ encode-run xs i d h) f
 
 -- one more item after those that stand from a place on

@@ -6,7 +6,7 @@ use Prim.Native.Nat.{ℕ, _+_, _*_, _%_, _^_}
 use lib.Dec.{eqb, ltb}
 use lib.ListN.{getD}
 use Rattle.words.specs.Choice.{if_then_else_}
-use Rattle.words.specs.Tab.{run}
+use Rattle.words.specs.Tab.{wordsFrom}
 use Rattle.words.specs.Writes.{writes}
 use Rattle.items.specs.Item.{Item, Value, Absent, Store, Pass, Hold, Retry, Resend, Commit, Lead, Prelog, Prepare, Span, Rest, itemOf, itemWords, six, places}
 use Rattle.items.specs.declared.Six.{Six}
@@ -63,4 +63,4 @@ decode ws =
 
 -- what stands at a place: nothing where there is no such place, or its words are no item's
 unfoldable pub itemAt : List ℕ → ℕ → Option Item
-itemAt area place = if ltb place (places area) then decode (run 6 area (place * 6)) else none
+itemAt area place = if ltb place (places area) then decode (wordsFrom 6 area (place * 6)) else none

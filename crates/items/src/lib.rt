@@ -2,7 +2,7 @@
 ghost use mathlib.Core.Path.{_≡_};
 ghost use Rattle.items.specs.Item.{itemOf, itemWords};
 ghost use Rattle.items.specs.Area.{Put, putItem, itemAt, gotOf, sixOf, sameWords, named, decode};
-ghost use Rattle.words.specs.Tab.{run};
+ghost use Rattle.words.specs.Tab.{wordsFrom};
 ghost use Rattle.words.specs.Writes.{writes};
 ghost use Prim.Native.Nat.{_*_, _+_, _%_, _≤_};
 ghost use lib.ListN.{length};
@@ -242,7 +242,7 @@ fn store(area: &mut [u64], place: usize, w: Six)
 
 fn load(area: &[u64], place: usize) -> Six
     requires { ⌜ place * 6 + 6 ≤ length (now area) ⌝ }
-    ensures { λ r. ⌜ sixOf r ≡ run 6 (now (area .entry)) (place * 6) ⌝ }
+    ensures { λ r. ⌜ sixOf r ≡ wordsFrom 6 (now (area .entry)) (place * 6) ⌝ }
 {
     let p = place * 6;
     let p1 = p + 1;

@@ -14,7 +14,7 @@ use lib.ListN.{length, getD, take, replicate, length-take, List·getD-eq-default
 use lib.Pow.{pow-pos, shr-lt}
 use lib.Seq.{ext-getD, length-take-le, getD-take, take-take, take-all}
 use Rattle.words.specs.Choice.{if_then_else_}
-use Rattle.words.specs.Tab.{run, length-tab, getD-tab}
+use Rattle.words.specs.Tab.{wordsFrom, length-tab, getD-tab}
 use Rattle.words.specs.Writes.{writes, Agrees, writes-append, run-writes, run-agrees, length-writes, writes-same}
 use Rattle.keys.specs.Read.{isK, strip, sign, isDigit, number, digits, readKey}
 use Rattle.keys.specs.Same.{sameBytes}
@@ -53,7 +53,7 @@ sameKey-refl a = same-refl (wordsOf a)
 abbrev pub Bytes : List ℕ → Type 0
 Bytes k = (i : ℕ) → getD k i 0 < 256
 
-leBytes-leWord : (n : ℕ) (k : List ℕ) (q : ℕ) → Bytes k → leBytes n (leWord n k q) ≡ run n k q
+leBytes-leWord : (n : ℕ) (k : List ℕ) (q : ℕ) → Bytes k → leBytes n (leWord n k q) ≡ wordsFrom n k q
 leBytes-leWord zero k q b = refl
 leBytes-leWord (suc n) k q b =
     let x : (getD k q 0 + 256 * leWord n k (q + 1)) % 256 ≡ getD k q 0 = omega (arith, b q) in
@@ -63,19 +63,19 @@ leBytes-leWord (suc n) k q b =
 glue : {a a′ b b′ c c′ d d′ e e′ f f′ : List ℕ} → a ≡ a′ → b ≡ b′ → c ≡ c′ → d ≡ d′ → e ≡ e′ → f ≡ f′ → a ++ b ++ c ++ d ++ e ++ f ≡ a′ ++ b′ ++ c′ ++ d′ ++ e′ ++ f′
 glue p q r s t u = rw (p, q, r, s, t, u)
 
-bytes-pack : (k : List ℕ) → Bytes k → allBytes (packOf k) ≡ run 48 k 0
+bytes-pack : (k : List ℕ) → Bytes k → allBytes (packOf k) ≡ wordsFrom 48 k 0
 unfolding packOf allBytes
 bytes-pack k b =
     glue (leBytes-leWord 8 k 0 b) (leBytes-leWord 8 k 8 b) (leBytes-leWord 8 k 16 b) (leBytes-leWord 8 k 24 b) (leBytes-leWord 8 k 32 b) (leBytes-leWord 8 k 40 b)
 
-take-run : (k : List ℕ) (n m : ℕ) → n ≡ length k → n ≤ m → take n (run m k 0) ≡ k
+take-run : (k : List ℕ) (n m : ℕ) → n ≡ length k → n ≤ m → take n (wordsFrom m k 0) ≡ k
 take-run k n m e h =
-    let l : n ≤ length (run m k 0) = rw length-tab h in
-    let t : length (take n (run m k 0)) ≡ n = length-take-le n (run m k 0) l in
-    ext-getD 0 (take n (run m k 0)) k (t ∙ e)
+    let l : n ≤ length (wordsFrom m k 0) = rw length-tab h in
+    let t : length (take n (wordsFrom m k 0)) ≡ n = length-take-le n (wordsFrom m k 0) l in
+    ext-getD 0 (take n (wordsFrom m k 0)) k (t ∙ e)
     (λ i b.
     let c : i < n = omega (arith, t) in
-    getD-take n (run m k 0) i 0 c ∙ getD-tab (λ j. getD k j 0) 0 m i 0 (omega arith) ∙ rw zero-add)
+    getD-take n (wordsFrom m k 0) i 0 c ∙ getD-tab (λ j. getD k j 0) 0 m i 0 (omega arith) ∙ rw zero-add)
 
 unpack-pack : (k : List ℕ) → Bytes k → length k ≤ 48 → unpackOf (packOf k) ≡ k
 unfolding unpackOf packOf

@@ -8,7 +8,7 @@ use Prim.Native.Nat.{ℕ, zero, suc, _+_, _*_, _/_, _%_, _≤_, min}
 use lib.Dec.{leb}
 use lib.ListN.{length, getD, take, replicate}
 use Rattle.words.specs.Choice.{if_then_else_}
-use Rattle.words.specs.Tab.{run}
+use Rattle.words.specs.Tab.{wordsFrom}
 use Rattle.words.specs.Writes.{writes}
 use Rattle.ids.specs.Limits.{keyBytes}
 use Rattle.keys.specs.Same.{sameBytes}
@@ -28,7 +28,7 @@ keyOf w = record { len = getD w 0 0; w0 = getD w 1 0; w1 = getD w 2 0; w2 = getD
 
 -- the key at word at
 unfoldable pub keyAt : List ℕ → ℕ → Key
-keyAt s at = keyOf (run 7 s at)
+keyAt s at = keyOf (wordsFrom 7 s at)
 
 -- the same words
 unfoldable pub sameKey : Key → Key → Bool

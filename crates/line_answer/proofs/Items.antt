@@ -10,7 +10,7 @@ use lib.ListN.{length, getD, take, drop}
 use lib.Seq.{take-suc, take-all, take-add, take-at, drop-at, length-take-le}
 use lib.Pow.{split}
 use Rattle.words.specs.Text.{Bytes, bytes}
-use Rattle.words.specs.Tab.{run, run-part}
+use Rattle.words.specs.Tab.{wordsFrom, run-part}
 use Rattle.words.specs.Writes.{writes, length-writes, run-writes}
 use Rattle.decimal.specs.Digits.{decimal, decimalIn}
 use Rattle.items.specs.Item.{Item, Value, Absent, Store, Pass, Hold, Retry, Resend, Commit, Lead, Prelog, Prepare, Span, Rest, six, itemWords, encode, length-encode, encode-snoc}
@@ -97,12 +97,12 @@ module _ (area : List ℕ) (i : ℕ) (room : i * 6 + 6 ≤ length area) (l : Lis
   pub held-front : Holds area i front
   held-front = (sym front-long, sym (take-at (take (i * 6) area) (take 6 (drop (i * 6) area)) (i * 6) long) ∙ ap (take (i * 6)) words ∙ take-at (encode front) (itemWords last) (i * 6) code-long)
 
-  pub held-last : run 6 area (i * 6) ≡ itemWords last
+  pub held-last : wordsFrom 6 area (i * 6) ≡ itemWords last
   held-last =
       sym (run-part 6 area (i * 6) room) ∙ sym (drop-at (take (i * 6) area) (take 6 (drop (i * 6) area)) (i * 6) long) ∙ ap (drop (i * 6)) words
       ∙ drop-at (encode front) (itemWords last) (i * 6) code-long
 
-pub listed-more : {s o o′ : Bytes} {at e e′ i : ℕ} (area : List ℕ) → i * 6 + 6 ≤ length area → Listed s at area i e o → Printed o e (run 6 area (i * 6)) e′ o′
+pub listed-more : {s o o′ : Bytes} {at e e′ i : ℕ} (area : List ℕ) → i * 6 + 6 ≤ length area → Listed s at area i e o → Printed o e (wordsFrom 6 area (i * 6)) e′ o′
     → Listed s at area (i + 1) e′ o′
 listed-more {s} {o} {o′} {at} {e} {e′} {i} area room f g = record { within = omega arith; items = go }
   where

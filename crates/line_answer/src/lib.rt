@@ -5,7 +5,7 @@ ghost use mathlib.Core.List.{[], _∷_};
 ghost use Prim.Native.Nat.{_+_, _*_, _<_, _≤_};
 ghost use lib.ListN.{length};
 ghost use Rattle.words.specs.Text.{bytes};
-ghost use Rattle.words.specs.Tab.{run};
+ghost use Rattle.words.specs.Tab.{wordsFrom};
 ghost use Rattle.decimal.specs.Digits.{decimal};
 ghost use Rattle.inty.specs.Value.{valueOf};
 ghost use Rattle.text.specs.Wrote.{Wrote};
@@ -108,7 +108,7 @@ fn put_six(out: &mut [u8], at: usize, kind: u64, a: u64, b: u64, c: u64, d: u64,
 // The item at a place of an area.
 fn put_item(out: &mut [u8], at: usize, area: &[u64], place: usize) -> usize
     requires { ⌜ (at + 106 ≤ length (now out)) × (place * 6 + 6 ≤ length (now area)) ⌝ }
-    ensures { λ r. ⌜ Printed (now (out .entry)) at (run 6 (now (area .entry)) (place * 6)) r (now (out .exit)) ⌝ }
+    ensures { λ r. ⌜ Printed (now (out .entry)) at (wordsFrom 6 (now (area .entry)) (place * 6)) r (now (out .exit)) ⌝ }
 {
     let p = place * 6;
     let p1 = p + 1;

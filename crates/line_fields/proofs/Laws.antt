@@ -439,7 +439,7 @@ leading-le zero fs = rw (leading-none fs) (omega arith)
 leading-le (suc k) fs = (rw (add-one k) at (leading-by k fs (isNumber (getD fs 0 [])) refl (leading-le k (drop 1 fs))))
 
 -- i of k numbers are read, and the others begin at next
-pub record Took (s : Bytes) (at k : ℕ) (out₀ out : List ℕ) (next i : ℕ) : Type 0 where
+pub record ReadSoFar (s : Bytes) (at k : ℕ) (out₀ out : List ℕ) (next i : ℕ) : Type 0 where
   pub count : i ≤ k
   pub left : fieldsFrom s next ≡ drop i (fieldsFrom s at)
   pub lead : leading (k - i) (fieldsFrom s next) + i ≡ leading k (fieldsFrom s at)
@@ -449,13 +449,13 @@ pub record Took (s : Bytes) (at k : ℕ) (out₀ out : List ℕ) (next i : ℕ) 
   pub stands : i ≡ 0 → next ≡ at
   pub high : 0 < i → next ≤ length s + 1
 
-pub took-none : (s : Bytes) (at k : ℕ) (out : List ℕ) → Took s at k out out at 0
+pub took-none : (s : Bytes) (at k : ℕ) (out : List ℕ) → ReadSoFar s at k out out at 0
 took-none s at k out =
     let z : k - 0 ≡ k = omega arith in
     record { count = omega arith; left = refl; lead = rw (z, add-zero (leading k (fieldsFrom s at))); values = λ j h. absurd (omega arith); rest = λ j h. refl; size = refl; stands = λ _. refl; high = λ h. absurd (omega arith) }
 
-module _ (s : Bytes) (at k : ℕ) (out₀ out : List ℕ) (next i : ℕ) (p : Took s at k out₀ out next i) where
-  pub took-more : (r : NumberAt) → i < k → k ≤ length out₀ → ReadsNumberAt s next r → r .good ≡ true → Took s at k out₀ (set out i (r .value)) (r .next) (i + 1)
+module _ (s : Bytes) (at k : ℕ) (out₀ out : List ℕ) (next i : ℕ) (p : ReadSoFar s at k out₀ out next i) where
+  pub took-more : (r : NumberAt) → i < k → k ≤ length out₀ → ReadsNumberAt s next r → r .good ≡ true → ReadSoFar s at k out₀ (set out i (r .value)) (r .next) (i + 1)
   took-more r h l a g =
       let z : i < length out = omega (arith, p .size) in
       let f = a .first g in

@@ -4,7 +4,7 @@ use mathlib.Core.List.{List}
 use Prim.Native.Nat.{ℕ, _≤_}
 use native.Mathlib.Omega.{arith}
 use lib.ListN.{length}
-use Rattle.words.specs.Tab.{run}
+use Rattle.words.specs.Tab.{wordsFrom}
 use Rattle.words.specs.Part.{splice, Untouched, splice-untouched, part-here, part-before, part-after, length-splice}
 use Rattle.layout.specs.Layout.{replicaPlaces, slotWords, writtenWords, rosterWords, pairWords, execsAt, rowsAt, slotsAt, writtenAt, nodeWords}
 use Rattle.bodega.specs.Replica as machine
@@ -39,7 +39,7 @@ module _ (n : Node) (m : List ℕ) (h : nodeWords ≤ length m) (s : List ℕ) w
     pairs-ready = rw pairs-size
 
   module _ (l : length s ≡ replicaPlaces) where
-    pub execs-back : view n (splice m execsAt replicaPlaces s) ≡ machine.withPeerExecBar (run (n .population) s 0) (view n m)
+    pub execs-back : view n (splice m execsAt replicaPlaces s) ≡ machine.withPeerExecBar (wordsFrom (n .population) s 0) (view n m)
     unfolding view
     execs-back =
         rw (

@@ -23,7 +23,7 @@ use Rattle.node.specs.declared.Fresh.the-variants.{Made, Refused}
 use Rattle.bodega.specs.Replica.{pair, freshPair, fresh}
 use Rattle.roster_conf.specs.Conf.{empty}
 use Rattle.roster_conf.specs.Edits.{view as rosterOf}
-use Rattle.words.specs.Tab.{tab, run, tab-ext}
+use Rattle.words.specs.Tab.{tab, wordsFrom, tab-ext}
 use Rattle.words.proofs.Tests.{and-both}
 use Rattle.layout.specs.Layout.{replicaPlaces, writtenPlaces, barsAt, writtenRow, writtenWords, rosterWords, pairWords, execsAt, rowsAt, writtenAt, nodeWords}
 
@@ -175,7 +175,7 @@ module _ (s : List ℕ) (a : part s 0 replicaPlaces ≡ replicate replicaPlaces 
       (λ j x y. let l : j < replicas = omega arith in rw (number-0 j l, bar-beyond j l))
       ∙ tab-const freshPair 0 n
 
-fresh-execs : (n : ℕ) → n ≤ replicas → run n (replicate replicaPlaces 0) 0 ≡ replicate n 0
+fresh-execs : (n : ℕ) → n ≤ replicas → wordsFrom n (replicate replicaPlaces 0) 0 ≡ replicate n 0
 fresh-execs n h = tab-ext (λ i. getD (replicate replicaPlaces 0) i 0) (λ i. 0) 0 n (λ j a b. getD-replicate {A = ℕ} replicas j 0 0 (omega arith)) ∙ tab-const 0 0 n
 
 module _ (id population quorum : ℕ) (s : List ℕ) (t : Bool) (e : t ≡ leb size (length s) && inRange id population quorum) where
@@ -199,7 +199,7 @@ module _ (id population quorum : ℕ) (s : List ℕ) (t : Bool) (e : t ≡ leb s
       pairs : pairsOf population (part s′ 0 pairWords) ≡ replicate population freshPair
       pairs = fresh-pairs s′ (r .nums) (r .bars) population few
 
-      execs : run population (part s′ execsAt replicaPlaces) 0 ≡ replicate population 0
+      execs : wordsFrom population (part s′ execsAt replicaPlaces) 0 ≡ replicate population 0
       execs = rw (r .execs) (fresh-execs population few)
 
       -- no slots, every ballot and bar 0

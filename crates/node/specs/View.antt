@@ -7,7 +7,7 @@ use Prim.Native.Nat.{ℕ, _+_}
 use lib.Dec.{ltb, leb, eqb}
 use lib.ListN.{length}
 use Rattle.words.specs.Choice.{if_then_else_, ifNone_then_else_}
-use Rattle.words.specs.Tab.{run}
+use Rattle.words.specs.Tab.{wordsFrom}
 use Rattle.words.specs.Part.{part}
 use Rattle.ids.specs.Limits.{window, ranges, replicas, top}
 use Rattle.layout.specs.Layout.{replicaPlaces, slotWords, writtenWords, rosterWords, pairWords, execsAt, rowsAt, slotsAt, writtenAt, nodeWords}
@@ -33,7 +33,7 @@ view n m =
       bal = record { maxSeen = n .«bal_max_seen» .0; prepSent = n .«bal_prep_sent» .0; prepared = n .«bal_prepared» .0 };
       bar = record { start = n .«start_slot» .0; accept = n .«accept_bar» .0; commit = n .«commit_bar» .0; exec = n .«exec_bar» .0; snap = n .«snap_bar» .0 };
       peerAccept = record { bar = pairsOf (n .population) (part m 0 pairWords); max = n .«peer_accept_max» .0 };
-      peerExecBar = run (n .population) (part m execsAt replicaPlaces) 0;
+      peerExecBar = wordsFrom (n .population) (part m execsAt replicaPlaces) 0;
       conf = rosterOf (n .«bodega_conf») (part m rowsAt rosterWords);
       insts = instsOf (n .«start_slot» .0) (n .slots) (part m slotsAt slotWords);
       highestSlot = writtenOf (part m writtenAt writtenWords);

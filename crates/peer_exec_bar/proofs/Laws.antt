@@ -12,7 +12,7 @@ use lib.ListN.{length, getD, set}
 use lib.Seq.{getD-set-same, getD-set-other}
 use borrow.Author.Tests.{lt-ltb, le-ltb, eq-eqb, ne-eqb, not-true, not-false}
 use Rattle.words.specs.Choice.{if_then_else_}
-use Rattle.words.specs.Tab.{run, getD-tab, tab-set}
+use Rattle.words.specs.Tab.{wordsFrom, getD-tab, tab-set}
 use Rattle.bitmap.specs.Bitmap.{every}
 use Rattle.bitmap.proofs.Laws.{every-each}
 use Rattle.bodega.specs.Replica.{Replica, withSnap, withPeerExecBar}
@@ -28,31 +28,31 @@ every-not n f i h e = go (every n f) refl
     go true g = sym e ∙ every-each n f g i h
     go false g = refl
 
-bar-at : (s : List ℕ) (n i : ℕ) → i < n → getD (run n s 0) i 0 ≡ getD s i 0
+bar-at : (s : List ℕ) (n i : ℕ) → i < n → getD (wordsFrom n s 0) i 0 ≡ getD s i 0
 bar-at s n i h = getD-tab (λ j. getD s j 0) 0 n i 0 h ∙ rw zero-add
 
 module _ (s : List ℕ) (n id exec : ℕ) where
   abbrev pub hasPassed : ℕ → Bool
-  hasPassed p = eqb p id || leb exec (getD (run n s 0) p 0)
+  hasPassed p = eqb p id || leb exec (getD (wordsFrom n s 0) p 0)
 
   module _ (i : ℕ) (t : Bool) (h : i < n) (e : t ≡ eqb i id || leb exec (getD s i 0)) where
     here : hasPassed i ≡ t
     here = ap (λ (z : ℕ). eqb i id || leb exec z) (bar-at s n i h) ∙ sym e
 
-    pub one-behind : not t ≡ true → false ≡ allPassed n id exec (run n s 0)
+    pub one-behind : not t ≡ true → false ≡ allPassed n id exec (wordsFrom n s 0)
     one-behind f = every-not n hasPassed i h (here ∙ not-true t f)
 
     pub one-more : not t ≡ false → every i hasPassed ≡ true → every (i + 1) hasPassed ≡ true
     unfolding every
     one-more f g = rw (add-one i, g) (here ∙ not-false t f)
 
-  pub all-passed : (i : ℕ) → n ≤ i → i ≤ n → every i hasPassed ≡ true → true ≡ allPassed n id exec (run n s 0)
+  pub all-passed : (i : ℕ) → n ≤ i → i ≤ n → every i hasPassed ≡ true → true ≡ allPassed n id exec (wordsFrom n s 0)
   all-passed i h k g = let z : i ≡ n = omega arith in sym (rw z at g)
 
 -- ---- a peer's exec bar
 
 module _ (n id peer exec snap : ℕ) (s : List ℕ) (long : n ≤ length s) (h : peer < n) where
-  set-bar : run n (set s peer exec) 0 ≡ set (run n s 0) peer exec
+  set-bar : wordsFrom n (set s peer exec) 0 ≡ set (wordsFrom n s 0) peer exec
   set-bar =
       tab-set (λ j. getD s j 0) (λ j. getD (set s peer exec) j 0) 0 n peer exec h (rw zero-add (getD-set-same s peer exec 0 (omega arith)))
       (λ j a b ne. getD-set-other s peer j exec 0 (omega arith))
@@ -61,18 +61,18 @@ module _ (n id peer exec snap : ℕ) (s : List ℕ) (long : n ≤ length s) (h :
   unfolding snapHeard
   not-larger f =
       let e : ltb (getD s peer 0) exec ≡ false = le-ltb (getD s peer 0) exec f in
-      let g : ltb (getD (run n s 0) peer 0) exec ≡ false = rw (bar-at s n peer h) e in
+      let g : ltb (getD (wordsFrom n s 0) peer 0) exec ≡ false = rw (bar-at s n peer h) e in
       record { execs = sym (simp g); answer = sym (simp g); words = sym (simp e) }
 
   module _ (f : getD s peer 0 < exec) where
     larger : ltb (getD s peer 0) exec ≡ true
     larger = lt-ltb (getD s peer 0) exec f
 
-    larger-bar : ltb (getD (run n s 0) peer 0) exec ≡ true
+    larger-bar : ltb (getD (wordsFrom n s 0) peer 0) exec ≡ true
     larger-bar = rw (bar-at s n peer h) larger
 
-    module _ (t : Bool) (e : t ≡ allPassed n id exec (run n (set s peer exec) 0)) where
-      passed-is : allPassed n id exec (set (run n s 0) peer exec) ≡ t
+    module _ (t : Bool) (e : t ≡ allPassed n id exec (wordsFrom n (set s peer exec) 0)) where
+      passed-is : allPassed n id exec (set (wordsFrom n s 0) peer exec) ≡ t
       passed-is = ap (allPassed n id exec) (sym set-bar) ∙ sym e
 
       pub all-have : t ≡ true → Hears n id peer exec snap s exec (set s peer exec)

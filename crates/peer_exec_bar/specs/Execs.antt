@@ -7,7 +7,7 @@ use Prim.Native.Nat.{ℕ, max}
 use lib.Dec.{ltb, leb, eqb}
 use lib.ListN.{getD, set}
 use Rattle.words.specs.Choice.{if_then_else_}
-use Rattle.words.specs.Tab.{run}
+use Rattle.words.specs.Tab.{wordsFrom}
 use Rattle.bitmap.specs.Bitmap.{every}
 
 -- `passed_cnt == population`
@@ -25,8 +25,8 @@ snapHeard population id peer exec execs snap =
 
 -- the words and the answer that hearing an exec bar leaves; words past the population stay as they were
 pub record Hears (population id peer exec snap : ℕ) (before : List ℕ) (r : ℕ) (after : List ℕ) : Type 0 where
-  pub execs : run population after 0 ≡ execsHeard peer exec (run population before 0)
-  pub answer : r ≡ snapHeard population id peer exec (run population before 0) snap
+  pub execs : wordsFrom population after 0 ≡ execsHeard peer exec (wordsFrom population before 0)
+  pub answer : r ≡ snapHeard population id peer exec (wordsFrom population before 0) snap
   pub words : after ≡ execsHeard peer exec before
 
 -- a heartbeat of the replica's own says nothing; a larger snap bar stands
@@ -37,6 +37,6 @@ abbrev pub snapLeft : ℕ → ℕ → ℕ → ℕ → ℕ → List ℕ → ℕ �
 snapLeft population id peer exec snap execs own = if eqb peer id then own else max (snapHeard population id peer exec execs own) snap
 
 pub record HearsPeer (population id peer exec snap own : ℕ) (before : List ℕ) (r : ℕ) (after : List ℕ) : Type 0 where
-  pub execs : run population after 0 ≡ execsLeft id peer exec (run population before 0)
-  pub answer : r ≡ snapLeft population id peer exec snap (run population before 0) own
+  pub execs : wordsFrom population after 0 ≡ execsLeft id peer exec (wordsFrom population before 0)
+  pub answer : r ≡ snapLeft population id peer exec snap (wordsFrom population before 0) own
   pub words : after ≡ execsLeft id peer exec before

@@ -6,7 +6,7 @@ ghost use mathlib.Core.Bool.{_||_};
 ghost use Prim.Native.Nat.{_≤_, _<_, max};
 ghost use lib.Dec.{leb, eqb};
 ghost use lib.ListN.{length, getD};
-ghost use Rattle.words.specs.Tab.{run};
+ghost use Rattle.words.specs.Tab.{wordsFrom};
 ghost use Rattle.peer_exec_bar.specs.Execs.{allPassed, Hears, HearsPeer};
 
 fn has_passed(execs: &[u64], i: usize, id: Replica, exec: Slot) -> bool
@@ -22,7 +22,7 @@ fn has_passed(execs: &[u64], i: usize, id: Replica, exec: Slot) -> bool
 // `passed_cnt == population`.
 pub fn passed(execs: &[u64], population: u8, id: Replica, exec: Slot) -> bool
     requires { ⌜ population ≤ length (now execs) ⌝ }
-    ensures { λ r. ⌜ r ≡ allPassed population (id .0) (exec .0) (run population (now (execs .entry)) 0) ⌝ }
+    ensures { λ r. ⌜ r ≡ allPassed population (id .0) (exec .0) (wordsFrom population (now (execs .entry)) 0) ⌝ }
 {
     let n = population as usize;
     let mut i = 0;

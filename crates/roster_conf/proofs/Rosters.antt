@@ -13,7 +13,7 @@ use Rattle.bitmap.specs.Bitmap.{setTo}
 use Rattle.keys.specs.Read.{readKey}
 use Rattle.roster_ranges.specs.Range.{Range, at, overwrite}
 use Rattle.words.proofs.Tests.{and-both}
-use Rattle.roster_ranges.specs.Canon.{Canon, isCanon, Says, Sorted, mapped}
+use Rattle.roster_ranges.specs.Canon.{Canon, isCanon, StoredOver, Sorted, mapped}
 use Rattle.roster_ranges.proofs.Meaning.{overwrite-canon, overwrite-at, remasked-canon, remasked-at, remasked-length, canon-sorted, canon-true, true-canon, too-many, not-too-many}
 use Rattle.roster_conf.proofs.Grounds.{zero-one, none-apply}
 use Rattle.roster_conf.specs.Conf.{Conf, empty, setResponders, setFull, intoFiltered}
@@ -67,15 +67,15 @@ module _ (c : Conf) (start end : List ℕ) (mask a b : ℕ) (f : readKey start �
     range-canon = rw range-is (overwrite-canon (c .ranges) (range a b mask) h l)
 
     -- the new mask inside the range, outside what was stored there
-    pub range-means : Says (c .ranges) (range a b mask) (edit c (SetResponders start end mask) .ranges)
+    pub range-means : StoredOver (c .ranges) (range a b mask) (edit c (SetResponders start end mask) .ranges)
     range-means = rw range-is (overwrite-at (c .ranges) (range a b mask) h l)
 
     -- 17 is exactly: no list of 64 or fewer disjoint ranges stores the same masks at the same keys
-    pub range-17 : tooMany (edit c (SetResponders start end mask)) ≡ true → (m : List Range) → Sorted m → Says (c .ranges) (range a b mask) m → 64 < length m
+    pub range-17 : tooMany (edit c (SetResponders start end mask)) ≡ true → (m : List Range) → Sorted m → StoredOver (c .ranges) (range a b mask) m → 64 < length m
     range-17 e m s q =
         too-many 64 (c .ranges) (range a b mask) h l (ltb-true 64 (length (overwrite (c .ranges) (range a b mask))) (rw range-is at e)) m s q
 
-    pub range-17-only : ((m : List Range) → Sorted m → Says (c .ranges) (range a b mask) m → 64 < length m) → tooMany (edit c (SetResponders start end mask)) ≡ true
+    pub range-17-only : ((m : List Range) → Sorted m → StoredOver (c .ranges) (range a b mask) m → 64 < length m) → tooMany (edit c (SetResponders start end mask)) ≡ true
     range-17-only q = rw range-is (lt-ltb 64 (length (overwrite (c .ranges) (range a b mask))) (not-too-many 64 (c .ranges) (range a b mask) h l q))
 
 pub filter-means : (c : Conf) (r n : ℕ) → Canon (c .ranges) → at (edit c (IntoFiltered r) .ranges) n ≡ mapped (λ m. setTo m r false) (at (c .ranges) n)

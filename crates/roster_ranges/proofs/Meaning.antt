@@ -13,7 +13,7 @@ use lib.ListN.{length}
 use lib.Dec.{ltb, leb, eqb}
 use borrow.Author.Tests.{lt-ltb, le-ltb, le-leb, lt-leb, ltb-true, ltb-false, leb-true, eqb-true, eq-eqb, not-true}
 use Rattle.roster_ranges.specs.Range.{Range, inside, at, goesOn, joined, push, pushAll, cutBelow, cutAbove, below, above, each, pieces, overwrite, remask, remasked}
-use Rattle.roster_ranges.specs.Canon.{Starts, Sorted, Apart, Canon, follows, heads, isCanon, Same, Says, mapped}
+use Rattle.roster_ranges.specs.Canon.{Starts, Sorted, Apart, Canon, follows, heads, isCanon, Same, StoredOver, mapped}
 
 -- ---- tests
 
@@ -308,7 +308,7 @@ module _ (l : List Range) (w : Range) (c : Canon l) (h : w .from ≤ w .to) wher
       (λ f. past-below (w .from) l (w ∷ m) n (omega arith) ∙ at-high w m n f ∙ at-above (w .to) l n f ∙ sym (at-high w l n f))
 
   -- at each number of the range its mask, at any other what the table said
-  pub overwrite-at : Says l w (overwrite l w)
+  pub overwrite-at : StoredOver l w (overwrite l w)
   unfolding overwrite
   overwrite-at n = at-all (pieces l w) [] n tt sorted-pieces (meets-nil (pieces l w)) ∙ at-pieces n
 
@@ -394,11 +394,11 @@ shortest l m c s e =
     omega (arith, ap length is, all-length [] m)
 
 -- refusal 17: the joined list has more than k ranges exactly if each list of disjoint ranges that stores the same has
-pub too-many : (k : ℕ) (l : List Range) (w : Range) → Canon l → w .from ≤ w .to → k < length (overwrite l w) → (m : List Range) → Sorted m → Says l w m → k < length m
+pub too-many : (k : ℕ) (l : List Range) (w : Range) → Canon l → w .from ≤ w .to → k < length (overwrite l w) → (m : List Range) → Sorted m → StoredOver l w m → k < length m
 too-many k l w c h f m s e =
     lt-of-lt-of-le f (shortest (overwrite l w) m (overwrite-canon l w c h) s (λ n. e n ∙ sym (overwrite-at l w c h n)))
 
-pub not-too-many : (k : ℕ) (l : List Range) (w : Range) → Canon l → w .from ≤ w .to → ((m : List Range) → Sorted m → Says l w m → k < length m) → k < length (overwrite l w)
+pub not-too-many : (k : ℕ) (l : List Range) (w : Range) → Canon l → w .from ≤ w .to → ((m : List Range) → Sorted m → StoredOver l w m → k < length m) → k < length (overwrite l w)
 not-too-many k l w c h f = f (overwrite l w) (canon-sorted (overwrite l w) (overwrite-canon l w c h)) (overwrite-at l w c h)
 
 -- ---- masks changed

@@ -45,8 +45,8 @@ abbrev pub Same : List Range → List Range → Type 0
 Same l m = (n : ℕ) → at m n ≡ at l n
 
 -- m stores w's mask in w, and elsewhere what l does
-abbrev pub Says : List Range → Range → List Range → Type 0
-Says l w m = (n : ℕ) → at m n ≡ (if inside w n then some (w .mask) else at l n)
+abbrev pub StoredOver : List Range → Range → List Range → Type 0
+StoredOver l w m = (n : ℕ) → at m n ≡ (if inside w n then some (w .mask) else at l n)
 
 -- a stored mask changed by g
 abbrev pub mapped : (ℕ → ℕ) → Option ℕ → Option ℕ

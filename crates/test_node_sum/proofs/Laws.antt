@@ -9,7 +9,7 @@ use lib.ListN.{length, getD, List·getD-eq-default}
 use mir.Syntax.{w64}
 use mir.Val.{Fits}
 use borrow.Author.Tests.{eq-eqb, ne-eqb}
-use Rattle.words.specs.Tab.{run}
+use Rattle.words.specs.Tab.{wordsFrom}
 use Rattle.ids.specs.declared.Leader.{Leader}
 use Rattle.ids.specs.declared.Leader.the-variants.{Some}
 use Rattle.ids.specs.declared.Replica.{Replica}
@@ -44,22 +44,22 @@ digit-more sum n s r e p q = rw (more-digits n e, bytes-append sum (decimal (n /
 -- ---- words
 
 module _ (m : List ℕ) (at n : ℕ) where
-  pub words-turn : (R s w t i : ℕ) → i < n → w ≡ getD m (at + i) 0 → t ≡ plusNumber s w → plusNumbers s (run (n - i) m (at + i)) ≡ R
-      → plusNumbers t (run (n - (i + 1)) m (at + (i + 1))) ≡ R
+  pub words-turn : (R s w t i : ℕ) → i < n → w ≡ getD m (at + i) 0 → t ≡ plusNumber s w → plusNumbers s (wordsFrom (n - i) m (at + i)) ≡ R
+      → plusNumbers t (wordsFrom (n - (i + 1)) m (at + (i + 1))) ≡ R
   unfolding plusNumbers
   words-turn R s w t i h e f inv =
       let a : n - i ≡ suc (n - (i + 1)) = omega arith in
       let b : at + i + 1 ≡ at + (i + 1) = omega arith in
-      let g : plusNumbers (plusNumber s (getD m (at + i) 0)) (run (n - (i + 1)) m (at + i + 1)) ≡ R = rw a at inv in
+      let g : plusNumbers (plusNumber s (getD m (at + i) 0)) (wordsFrom (n - (i + 1)) m (at + i + 1)) ≡ R = rw a at inv in
       rw (f, e, ← b) g
 
-  pub words-end : (R s i : ℕ) → n ≤ i → plusNumbers s (run (n - i) m (at + i)) ≡ R → s ≡ R
+  pub words-end : (R s i : ℕ) → n ≤ i → plusNumbers s (wordsFrom (n - i) m (at + i)) ≡ R → s ≡ R
   unfolding plusNumbers
   words-end R s i h inv =
       let a : n - i ≡ 0 = omega arith in
       rw a at inv
 
-pub words-begin : (s n : ℕ) (m : List ℕ) (at : ℕ) → plusNumbers s (run (n - 0) m (at + 0)) ≡ plusNumbers s (run n m at)
+pub words-begin : (s n : ℕ) (m : List ℕ) (at : ℕ) → plusNumbers s (wordsFrom (n - 0) m (at + 0)) ≡ plusNumbers s (wordsFrom n m at)
 words-begin s n m at =
     let a : n - 0 ≡ n = omega arith in
     let b : at + 0 ≡ at = omega arith in
@@ -129,7 +129,7 @@ module _ (x w n most : ℕ) (a : w < 16) (b : most ≤ writtenPlaces) (e : n ≡
   rows-end at h = omega (arith, rows-fit)
 
 module _ (sum r : ℕ) (m : List ℕ) where
-  pub table : (at w most x n : ℕ) → x ≡ getD m at 0 → n ≡ min x most → r ≡ plusNumbers sum (run (1 + w * n) m at) → r ≡ plusNumbers sum (tableOf m at w most)
+  pub table : (at w most x n : ℕ) → x ≡ getD m at 0 → n ≡ min x most → r ≡ plusNumbers sum (wordsFrom (1 + w * n) m at) → r ≡ plusNumbers sum (tableOf m at w most)
   table at w most x n e f p = rw (f, e) at p
 
   -- ---- a slot
@@ -156,11 +156,11 @@ module _ (sum r : ℕ) (m : List ℕ) where
 
   -- ---- a node
 
-  pub peers : (id population a b c above : ℕ) → a ≡ plusNumbers sum (run population m 0) → b ≡ plusNumbers a (run population m barsAt)
-      → c ≡ plusNumbers b (run id m execsAt) → above ≡ population - (id + 1) → r ≡ plusNumbers c (run above m (execsAt + (id + 1))) → r ≡ plusNumbers sum (peersOf id population m)
+  pub peers : (id population a b c above : ℕ) → a ≡ plusNumbers sum (wordsFrom population m 0) → b ≡ plusNumbers a (wordsFrom population m barsAt)
+      → c ≡ plusNumbers b (wordsFrom id m execsAt) → above ≡ population - (id + 1) → r ≡ plusNumbers c (wordsFrom above m (execsAt + (id + 1))) → r ≡ plusNumbers sum (peersOf id population m)
   unfolding peersOf
   peers id population a b c above p q t e u =
-      four sum a b c r (run population m 0) (run population m barsAt) (run id m execsAt) (run (population - (id + 1)) m (execsAt + (id + 1))) p q t (rw e at u)
+      four sum a b c r (wordsFrom population m 0) (wordsFrom population m barsAt) (wordsFrom id m execsAt) (wordsFrom (population - (id + 1)) m (execsAt + (id + 1))) p q t (rw e at u)
 
 pub any-none : (has v : ℕ) → has ≡ 0 → 0 ≡ ifAny has v
 any-none has v e = rw (eq-eqb has 0 e)
@@ -174,10 +174,10 @@ pub leads : (l : Leader) (r : Replica) (w : ℕ) → l ≡ Some r → w ≡ r .0
 leads l r w e f = rw (e, f)
 
 pub roster : (r s l n : ℕ) (c : RespondersConf) (rows : List ℕ) → l ≡ leaderNumber (c .leader) → s ≡ plusNumbers 0 (l ∷ c .count ∷ c .default ∷ [])
-    → n ≡ min (c .count) 64 → r ≡ plusNumbers s (run (rosterRow * n) rows 0) → r ≡ sumOf (rosterNumbers c rows)
+    → n ≡ min (c .count) 64 → r ≡ plusNumbers s (wordsFrom (rosterRow * n) rows 0) → r ≡ sumOf (rosterNumbers c rows)
 unfolding rosterNumbers
 roster r s l n c rows e p f q =
-    two 0 s r (leaderNumber (c .leader) ∷ c .count ∷ c .default ∷ []) (run (rosterRow * min (c .count) 64) rows 0) (rw e at p) (rw f at q)
+    two 0 s r (leaderNumber (c .leader) ∷ c .count ∷ c .default ∷ []) (wordsFrom (rosterRow * min (c .count) 64) rows 0) (rw e at p) (rw f at q)
 
 pub short : (n : Node) (r a b c l : ℕ) → a ≡ n .id .0 → b ≡ n .population → c ≡ n .quorum → l ≡ leaderNumber (n .«bodega_conf» .leader)
     → r ≡ plusNumbers 0 (a ∷ b ∷ c ∷ l ∷ n .«bodega_conf» .count ∷ n .«bodega_conf» .default ∷ n .«bal_max_seen» .0 ∷ n .«bal_prep_sent» .0 ∷ n .«bal_prepared» .0
@@ -187,7 +187,7 @@ unfolding shortOf
 short n r a b c l e₁ e₂ e₃ e₄ p = rw (e₁, e₂, e₃, e₄) at p
 
 pub node : (n : Node) (m : List ℕ) (a b c d r k w : ℕ) → a ≡ sumOf (shortOf n) → b ≡ plusNumbers a (peersOf (n .id .0) (n .population) m)
-    → k ≡ min (n .«bodega_conf» .count) 64 → c ≡ plusNumbers b (run (rosterRow * k) m rowsAt) → w ≡ min (n .slots) slotPlaces → d ≡ plusNumbers c (slotsOf m (n .«start_slot» .0) w)
+    → k ≡ min (n .«bodega_conf» .count) 64 → c ≡ plusNumbers b (wordsFrom (rosterRow * k) m rowsAt) → w ≡ min (n .slots) slotPlaces → d ≡ plusNumbers c (slotsOf m (n .«start_slot» .0) w)
     → r ≡ plusNumbers d (tableOf m writtenAt writtenRow writtenPlaces) → r ≡ sumOf (nodeNumbers n m)
 unfolding nodeNumbers
 node n m a b c d r k w p q e t f u v =

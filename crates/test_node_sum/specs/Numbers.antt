@@ -5,7 +5,7 @@ use mathlib.Core.List.{List, [], _∷_, _++_}
 use lib.Dec.{eqb}
 use lib.ListN.{getD}
 use Rattle.words.specs.Choice.{if_then_else_}
-use Rattle.words.specs.Tab.{run}
+use Rattle.words.specs.Tab.{wordsFrom}
 use Rattle.ids.specs.declared.Leader.{Leader}
 use Rattle.ids.specs.declared.Leader.the-variants.{None, Some}
 use Rattle.ids.specs.Limits.{ranges}
@@ -22,7 +22,7 @@ leaderNumber (Some r) = r .0 + 1
 
 -- five words for each range
 abbrev pub rowsOf : ℕ → List ℕ → ℕ → List ℕ
-rowsOf count m at = run (rosterRow * min count ranges) m at
+rowsOf count m at = wordsFrom (rosterRow * min count ranges) m at
 
 unfoldable pub rosterNumbers : RespondersConf → List ℕ → List ℕ
 rosterNumbers c rows = leaderNumber (c .leader) ∷ c .count ∷ c .default ∷ rowsOf (c .count) rows 0
@@ -31,7 +31,7 @@ rosterNumbers c rows = leaderNumber (c .leader) ∷ c .count ∷ c .default ∷ 
 
 -- a count, and at most so many rows of w words
 abbrev pub tableOf : List ℕ → ℕ → ℕ → ℕ → List ℕ
-tableOf m at w most = run (1 + w * min (getD m at 0) most) m at
+tableOf m at w most = wordsFrom (1 + w * min (getD m at 0) most) m at
 
 -- a word counts where there is a book for it
 abbrev pub ifAny : ℕ → ℕ → ℕ
@@ -69,7 +69,7 @@ shortOf n =
 -- the numbers and bars of all guard pairs, and the exec bars of the replicas below the own one and above it
 unfoldable pub peersOf : ℕ → ℕ → List ℕ → List ℕ
 peersOf id population m =
-    run population m 0 ++ (run population m barsAt ++ (run id m execsAt ++ run (population - (id + 1)) m (execsAt + (id + 1))))
+    wordsFrom population m 0 ++ (wordsFrom population m barsAt ++ (wordsFrom id m execsAt ++ wordsFrom (population - (id + 1)) m (execsAt + (id + 1))))
 
 unfoldable pub nodeNumbers : Node → List ℕ → List ℕ
 nodeNumbers n m =

@@ -7,7 +7,7 @@ use roster_conf::RespondersConf;
 ghost use mathlib.Core.Path.{_≡_};
 ghost use Prim.Native.Nat.{_+_, _-_, _<_, _≤_, min};
 ghost use lib.ListN.{getD};
-ghost use Rattle.words.specs.Tab.{run};
+ghost use Rattle.words.specs.Tab.{wordsFrom};
 ghost use Rattle.layout.specs.Layout.{writtenPlaces, slotPlaces};
 ghost use Rattle.decimal.specs.Digits.{decimal};
 ghost use Rattle.test_node_sum.specs.Sum.{plusByte, plusBytes, plusNumber, plusNumbers, sumOf};
@@ -59,7 +59,7 @@ fn word(m: &[u64], i: usize) -> u64
 // The n words from an index on.
 fn plus_words(sum: u32, m: &[u64], at: usize, n: usize) -> u32
     requires { ⌜ at + n < 65536 ⌝ }
-    ensures { λ r. ⌜ r ≡ plusNumbers sum (run n (now (m .entry)) at) ⌝ }
+    ensures { λ r. ⌜ r ≡ plusNumbers sum (wordsFrom n (now (m .entry)) at) ⌝ }
 {
     let mut s = sum;
     let mut i = 0;
@@ -255,11 +255,5 @@ pub fn of_node(node: Node, mem: &[u64]) -> u32
         node.start_slot,
         least(node.slots, layout::SLOT_PLACES),
     );
-    plus_table(
-        d,
-        mem,
-        layout::WRITTEN_AT,
-        layout::WRITTEN_ROW,
-        layout::WRITTEN_PLACES,
-    )
+    plus_table(d, mem, layout::WRITTEN_AT, layout::WRITTEN_ROW, Node::KEYS)
 }

@@ -9,7 +9,7 @@ use native.Mathlib.Omega.{arith}
 use lib.ListN.{length, getD, set, take, length-set}
 use lib.Seq.{getD-set-same, getD-set-other, take-suc, length-take-le, ext-getD}
 use Rattle.words.specs.Part.{part, part-set-below}
-use Rattle.words.specs.Tab.{tab, run, tab-ext, length-tab, getD-tab}
+use Rattle.words.specs.Tab.{tab, wordsFrom, tab-ext, length-tab, getD-tab}
 
 -- vs stored element by element from index at
 abbrev pub writes : List ℕ → ℕ → List ℕ → List ℕ
@@ -55,14 +55,14 @@ writes-take s b key i h =
     rw (add-one i, take-suc key i 0, writes-snoc, e)
 
 -- what was stored is read back
-pub run-writes : (s : List ℕ) (at : ℕ) (vs : List ℕ) → at + length vs ≤ length s → run (length vs) (writes s at vs) at ≡ vs
+pub run-writes : (s : List ℕ) (at : ℕ) (vs : List ℕ) → at + length vs ≤ length s → wordsFrom (length vs) (writes s at vs) at ≡ vs
 run-writes s at vs h =
-    ext-getD 0 (run (length vs) (writes s at vs) at) vs (length-tab (λ j. getD (writes s at vs) j 0) at (length vs))
+    ext-getD 0 (wordsFrom (length vs) (writes s at vs) at) vs (length-tab (λ j. getD (writes s at vs) j 0) at (length vs))
     (λ k b.
     let l : k < length vs = rw length-tab at b in
     getD-tab (λ j. getD (writes s at vs) j 0) at (length vs) k 0 l ∙ writes-same s at vs k h l)
 
-pub run-agrees : (n : ℕ) (s′ s : List ℕ) (q : ℕ) → Agrees s′ s q (q + n) → run n s′ q ≡ run n s q
+pub run-agrees : (n : ℕ) (s′ s : List ℕ) (q : ℕ) → Agrees s′ s q (q + n) → wordsFrom n s′ q ≡ wordsFrom n s q
 run-agrees n s′ s q h = tab-ext (λ j. getD s′ j 0) (λ j. getD s j 0) q n h
 
 -- two runs, one after the other

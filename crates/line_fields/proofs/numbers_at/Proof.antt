@@ -1,13 +1,13 @@
 use Prim.Native.Nat.{_-_}
 use borrow.Author.Needs.{needs}
 use Rattle.line_fields.proofs.Laws as law
-use Rattle.line_fields.proofs.Laws.{Took}
+use Rattle.line_fields.proofs.Laws.{ReadSoFar}
 use native.Mathlib.Omega.{arith}
 use Rattle.line_fields.proofs.numbers_at.Statement.{statement}
 use Rattle.line_fields.proofs.numbers_at.Tie as tie
 
 abbrev Inv-loop : tie.InvT-loop
-Inv-loop line at k out₀ next₀ i₀ out next i = Took line at k out₀ out next i
+Inv-loop line at k out₀ next₀ i₀ out next i = ReadSoFar line at k out₀ out next i
 
 abbrev μ-loop : tie.MeasureT-loop
 μ-loop line at k out₀ next₀ i₀ out next i = k - i

@@ -2,14 +2,14 @@ use mathlib.Core.Path.{_≡_}
 use Prim.Native.Nat.{_+_, _-_, _≤_}
 use native.Mathlib.Omega.{arith}
 use borrow.Author.Needs.{needs}
-use Rattle.words.specs.Tab.{run}
+use Rattle.words.specs.Tab.{wordsFrom}
 use Rattle.test_node_sum.specs.Sum.{plusNumbers}
 use Rattle.test_node_sum.proofs.Laws as law
 use Rattle.test_node_sum.proofs.plus_words.Statement.{statement}
 use Rattle.test_node_sum.proofs.plus_words.Tie as tie
 
 abbrev Inv-loop : tie.InvT-loop
-Inv-loop sum m at n s₀ i₀ s i = (i ≤ n) × (plusNumbers s (run (n - i) m (at + i)) ≡ plusNumbers sum (run n m at))
+Inv-loop sum m at n s₀ i₀ s i = (i ≤ n) × (plusNumbers s (wordsFrom (n - i) m (at + i)) ≡ plusNumbers sum (wordsFrom n m at))
 
 abbrev μ-loop : tie.MeasureT-loop
 μ-loop sum m at n s₀ i₀ s i = n - i
