@@ -1,5 +1,6 @@
 // The ten calls as one: what a call carries by value is in `Call`; a roster's or a batch's rows, and the text of keys,
 // are lent beside it.
+#![tactic(auto)]
 ghost use Rattle.bodega.specs.Answers.{Answers};
 ghost use Rattle.node.specs.View.{view, given_of};
 ghost use Rattle.call_apply.specs.Call.{call_of, ready_for};
@@ -8,7 +9,7 @@ use ids::{Ballot, Replica, Slot};
 use node::{Answered, Node};
 use roster_conf::RespondersConf;
 
-#[derive(Drop)]
+#[derive(Clone, Copy)]
 pub enum Call {
     // peer, ballot, whether a roster is attached, the roster, commit, exec and snap bar
     Heartbeat(Replica, Ballot, bool, RespondersConf, Slot, Slot, Slot),

@@ -7,8 +7,6 @@ use mathlib.Core.Option.{Option, none, some}
 use Prim.Native.Nat.{ℕ, ◌+◌, ◌%◌, ◌≤◌, ◌<◌}
 use native.Mathlib.Decide.{dec_lt}
 use native.Mathlib.Omega.{arith}
-use types.Run.{OneOf}
-use denote.Enum.Declared.{tag_of}
 use borrow.Author.Tests.{lt-ltb, le-ltb, le-leb, lt-leb, ltb-true, ltb-false, leb-false, not-true, not-false}
 use lib.Dec.{ltb, leb}
 use lib.ListN.{length}
@@ -35,7 +33,6 @@ use Rattle.bodega.specs.Answers.{Answers}
 use Rattle.inspect_latest_write.specs.Located.{answer_in, Gets}
 use Rattle.inspect_latest_write.specs.declared.ReadAnswer.{ReadAnswer}
 use Rattle.inspect_latest_write.specs.declared.ReadAnswer.TheVariants.{HeldBy}
-use Rattle.inspect_latest_write.specs.contracts.ReadAnswer.{the_type}
 use Rattle.inspect_latest_write.proofs.Laws.{Waiting, waiting, holds_none, placed_by}
 use Rattle.node.proofs.Calls.{Ready, is_ready, refused_by, few_places, taken_with}
 use Rattle.node.proofs.Frames.{slots_back, slots_size, slots_beyond, slots_ready}
@@ -234,7 +231,7 @@ module _ (n : Node) (m area : List ℕ) (client request leases : ℕ) (key : Lis
                     taken_with call n m area t e f 0 number_0 refl (answered (view n m) q (answer_in a)).replica (item_of x ∷ []) n m' area' effect_is (omega arith) x₁
                     (ap (λ (o : Put). o.area) z ∙ put_area area (item_of x) d) x₂ x₃ (x₄ ∙ sym e ∙ not-false t f)
 
-                pub served : OneOf (0 ∷ 1 ∷ 2 ∷ 3 ∷ 5 ∷ []) (tag_of the_type a) → Answers ready view call n m area (record { number = 0; count = 1; node = n }) m area'
+                pub served : ((x : Slot) (d : ℕ) → a ≡ HeldBy x d → ⊥) → Answers ready view call n m area (record { number = 0; count = 1; node = n }) m area'
                 served o = taken m (sym (holds_none (view n m) q a o)) refl (λ j l. refl) refl
 
                 module _ (slot : Slot) (d : ℕ) (o : a ≡ HeldBy slot d) where

@@ -1,5 +1,6 @@
 // The call *reply*: a peer's accept reply. Accepts that the peer seems to have missed are sent again, its ack is taken,
 // and a slot whose acks suffice commits.
+#![tactic(auto)]
 ghost use Rattle.std.specs.Prelude.{◌≡◌, ◌+◌, ◌*◌, ◌%◌, ◌≤◌, ◌<◌, length};
 ghost use Rattle.words.specs.Part.{part};
 ghost use Rattle.words.specs.Writes.{writes};
@@ -26,7 +27,7 @@ use roster_conf::RespondersConf;
 // ---- `resend_missed_accepts`
 
 // What it does at a slot: nothing, stop there, send its Accept.
-#[derive(Drop)]
+#[derive(Clone, Copy)]
 enum Missed {
     Skip,
     Stop,
@@ -147,7 +148,7 @@ fn put_resends(
 // ---- the ack
 
 // What an ack does at its slot, and the acks with it.
-#[derive(Drop)]
+#[derive(Clone, Copy)]
 enum Ack {
     Ignored,
     Marks(u64),
@@ -357,7 +358,7 @@ fn span_of(id: Replica, peer: Replica, commit: Slot, slot: Slot) -> usize
     (slot.0 - commit.0) as usize
 }
 
-#[derive(Drop)]
+#[derive(Clone, Copy)]
 enum Taken {
     Items(usize),
     Full,

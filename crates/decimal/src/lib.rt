@@ -1,4 +1,5 @@
 // Numbers in decimal, most significant digit first.
+#![tactic(auto)]
 ghost use Rattle.std.specs.Prelude.{◌≡◌, ◌+◌, ◌<◌, ◌≤◌, length};
 ghost use Rattle.words.specs.Writes.{writes};
 ghost use Rattle.inty.specs.Value.{value_of};
@@ -8,7 +9,7 @@ ghost use Rattle.decimal.specs.Placed.{placed};
 use inty::Inty;
 
 // Where the bytes end, or that there is no room for them.
-#[derive(Drop)]
+#[derive(Clone, Copy)]
 pub enum Written {
     End(usize),
     Short,

@@ -1,4 +1,5 @@
 // Nodes, rosters and answers as plain structs, for functions that are exported: one takes and gives no enum.
+#![tactic(auto)]
 ghost use Rattle.std.specs.Prelude.{◌≡◌};
 ghost use Rattle.export_plain.specs.Plain.{leader_at, has_leader, leader_in, node_of, plain_of, shown_of, answered_of, begun_of, no_node, conf_of};
 
@@ -8,7 +9,7 @@ use roster_conf::RespondersConf;
 
 // A node; has_leader is 0 where there is no leader.
 #[repr(C)]
-#[derive(Drop)]
+#[derive(Clone, Copy)]
 pub struct Plain {
     pub id: u8,
     pub population: u8,
@@ -31,7 +32,7 @@ pub struct Plain {
 
 // A roster but for its rows.
 #[repr(C)]
-#[derive(Drop)]
+#[derive(Clone, Copy)]
 pub struct Roster {
     pub leader: u8,
     pub has_leader: u64,
@@ -41,7 +42,7 @@ pub struct Roster {
 
 // number is 0 where the call is taken, or the refusal.
 #[repr(C)]
-#[derive(Drop)]
+#[derive(Clone, Copy)]
 pub struct PlainAnswered {
     pub number: u64,
     pub count: usize,

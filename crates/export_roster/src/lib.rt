@@ -1,5 +1,6 @@
 // Key reading, roster edits and lookup over words that the caller lends, for functions that are exported: an enum's
 // answer is a number.
+#![tactic(auto)]
 ghost use Rattle.std.specs.Prelude.{◌≡◌};
 ghost use Rattle.keys.specs.Read.{read_key};
 ghost use Rattle.roster_conf.specs.Edit.{SetResponders, SetFull, IntoFiltered};
@@ -12,7 +13,7 @@ use roster_conf::{Edited, Responders, RespondersConf};
 
 // read is 1, or 0 where the key does not read.
 #[repr(C)]
-#[derive(Drop)]
+#[derive(Clone, Copy)]
 pub struct Key {
     pub read: u64,
     pub hi: u64,
@@ -21,7 +22,7 @@ pub struct Key {
 
 // number is 0 where the edit is taken, or the refusal.
 #[repr(C)]
-#[derive(Drop)]
+#[derive(Clone, Copy)]
 pub struct Count {
     pub number: u64,
     pub count: usize,
@@ -29,7 +30,7 @@ pub struct Count {
 
 // found is 0 for no roster, 1 for a mask, 2 where the words are too few or the count too large.
 #[repr(C)]
-#[derive(Drop)]
+#[derive(Clone, Copy)]
 pub struct Mask {
     pub found: u64,
     pub mask: u64,

@@ -1,4 +1,5 @@
 // For Rust and C, over plain structs and lent words: the calls, key reading, and the edits and the lookup of a roster.
+#![tactic(auto)]
 ghost use Rattle.std.specs.Prelude.{◌≡◌, ◌&&◌};
 ghost use Rattle.bodega.specs.Replica.{Guard, Prepared, Bars, Record, Heartbeat, Reply, Notice, CommitNotice, Read, Release};
 ghost use Rattle.req_batch.specs.Given.{given as batch_of};

@@ -1,4 +1,5 @@
 // `highest_slot`: the written keys, in lent words: how many, and then rows of slot, key.
+#![tactic(auto)]
 ghost use Rattle.std.specs.Prelude.{◌≡◌, ◌≤◌, max, length};
 ghost use Rattle.layout.specs.Layout.{written_places, written_words};
 ghost use Rattle.key_words.specs.Key.{bytes_of};
@@ -11,14 +12,14 @@ use key_words::{Key, get_key, put_key};
 // Written keys at most.
 pub const KEYS: usize = layout::WRITTEN_PLACES;
 
-#[derive(Drop)]
+#[derive(Clone, Copy)]
 pub enum LastWrite {
     At(Slot),
     Nothing,
 }
 
 // Where a key's entry is.
-#[derive(Drop)]
+#[derive(Clone, Copy)]
 enum Found {
     Entry(usize),
     Nowhere,

@@ -1,4 +1,5 @@
 // localread.rs: `refresh_highest_slot`, on the batch of a slot and the written keys, both in lent words.
+#![tactic(auto)]
 ghost use Rattle.std.specs.Prelude.{◌≡◌, [], ◌∷◌, ℕ, ◌<◌, ◌≤◌, ltb, length};
 ghost use Rattle.words.specs.Tab.{tab};
 ghost use Rattle.ids.specs.Limits.{keys};
@@ -79,8 +80,8 @@ pub fn overflows(written: &[u64], batch: &[u64]) -> bool
 
 // The i-th request's part.
 fn note_at(written: &mut [u64], batch: &[u64], i: usize, slot: Slot)
-    requires written_words_in_bounds { (written_words ≤ length written.old) × ((i < request_places) × (batch_words ≤ length batch.now)) }
-    requires written_len_bound { length (refresh_highest_slot slot.0 (request_at batch.now i ∷ []) (written_of written.old)) ≤ keys }
+    requires long { (written_words ≤ length written.old) × ((i < request_places) × (batch_words ≤ length batch.now)) }
+    requires fits { length (refresh_highest_slot slot.0 (request_at batch.now i ∷ []) (written_of written.old)) ≤ keys }
     ensures { Refreshes slot.0 (request_at batch.now i ∷ []) written.old written.new }
 {
     let q = inst_reqs::get(batch, i);
@@ -96,8 +97,8 @@ fn note_at(written: &mut [u64], batch: &[u64], i: usize, slot: Slot)
 
 // Each Put's key is written at a slot, or at the higher one that it has.
 pub fn refresh(written: &mut [u64], batch: &[u64], slot: Slot)
-    requires written_words_in_bounds { (written_words ≤ length written.old) × (batch_words ≤ length batch.now) }
-    requires written_len_bound { length (refresh_highest_slot slot.0 (requests_of batch.now) (written_of written.old)) ≤ keys }
+    requires long { (written_words ≤ length written.old) × (batch_words ≤ length batch.now) }
+    requires fits { length (refresh_highest_slot slot.0 (requests_of batch.now) (written_of written.old)) ≤ keys }
     ensures { Refreshes slot.0 (requests_of batch.now) written.old written.new }
 {
     let n = inst_reqs::count(batch);

@@ -1,1 +1,2 @@
 // Theorems over all lists of calls: definitions in specs/, proofs in proofs/.
+#![tactic(auto)]

@@ -1,9 +1,10 @@
 // Ballot, slot and replica number are counted apart, as the source's aliases name them.
+#![tactic(auto)]
 
-#[derive(Drop)]
+#[derive(Clone, Copy)]
 pub struct Ballot(pub u64);
 
-#[derive(Drop)]
+#[derive(Clone, Copy)]
 pub struct Slot(pub u64);
 
 impl Slot {
@@ -13,7 +14,7 @@ impl Slot {
     pub const BEYOND: u64 = 0xffff_ffff_ffff_ffff;
 }
 
-#[derive(Drop)]
+#[derive(Clone, Copy)]
 pub struct Replica(pub u8);
 
 impl Replica {
@@ -22,7 +23,7 @@ impl Replica {
 }
 
 // `Option<ReplicaId>`.
-#[derive(Drop)]
+#[derive(Clone, Copy)]
 pub enum Leader {
     None,
     Some(Replica),

@@ -7,8 +7,6 @@ use mathlib.Core.Option.{Option, none, some}
 use Prim.Native.Nat.{ℕ, ◌+◌, ◌-◌, ◌*◌, ◌%◌, ◌≤◌, ◌<◌}
 use native.Mathlib.Decide.{dec_lt}
 use native.Mathlib.Omega.{arith}
-use types.Run.{OneOf}
-use denote.Enum.Declared.{tag_of}
 use borrow.Author.Tests.{lt-ltb, le-ltb, le-leb, lt-leb, eq-eqb, ne_eqb, ltb-true, ltb-false, leb-true, not-true, not-false}
 use lib.Dec.{ltb, leb, eqb}
 use lib.ListN.{length}
@@ -55,7 +53,6 @@ use Rattle.inspect_latest_write.specs.declared.Settled.{Settled}
 use Rattle.inspect_latest_write.specs.declared.Settled.TheVariants as settled
 use Rattle.inspect_latest_write.specs.declared.ReadAnswer.{ReadAnswer}
 use Rattle.inspect_latest_write.specs.declared.ReadAnswer.TheVariants.{Found, Missing, FromStore, Consensus, HeldBy, Again}
-use Rattle.inspect_latest_write.specs.contracts.ReadAnswer.{the_type}
 
 -- ---- leases against a quorum that was widened
 
@@ -393,23 +390,20 @@ answers_read r s leases key x a e f = let g = f e.1 in (g.0 ∙ ap (local.answer
 -- ---- an answer that holds nothing
 
 module _ (r : machine.Replica) where
-  four : (o : OneOf (0 ∷ 1 ∷ 2 ∷ 3 ∷ 5 ∷ []) 4) → ⊥
-  four o = ⊎_elim (λ e. omega arith) (λ p. ⊎_elim (λ e. omega arith) (λ q. ⊎_elim (λ e. omega arith) (λ x. ⊎_elim (λ e. omega arith) (λ e. omega arith) x) q) p) o
-
-  pub fills_none : (a : ReadAnswer) → OneOf (0 ∷ 1 ∷ 2 ∷ 3 ∷ 5 ∷ []) (tag_of the_type a) → false ≡ overfills r (answer_in a)
+  pub fills_none : (a : ReadAnswer) → ((x : Slot) (d : ℕ) → a ≡ HeldBy x d → ⊥) → false ≡ overfills r (answer_in a)
   fills_none (Found v) o = refl
   fills_none Missing o = refl
   fills_none FromStore o = refl
   fills_none Consensus o = refl
-  fills_none (HeldBy slot c) o = absurd (four o)
+  fills_none (HeldBy slot c) o = absurd (o slot c refl)
   fills_none Again o = refl
 
-  pub holds_none : (q : machine.ReadReq) (a : ReadAnswer) → OneOf (0 ∷ 1 ∷ 2 ∷ 3 ∷ 5 ∷ []) (tag_of the_type a) → (answered r q (answer_in a)).replica ≡ r
+  pub holds_none : (q : machine.ReadReq) (a : ReadAnswer) → ((x : Slot) (d : ℕ) → a ≡ HeldBy x d → ⊥) → (answered r q (answer_in a)).replica ≡ r
   holds_none q (Found v) o = refl
   holds_none q Missing o = refl
   holds_none q FromStore o = refl
   holds_none q Consensus o = refl
-  holds_none q (HeldBy slot c) o = absurd (four o)
+  holds_none q (HeldBy slot c) o = absurd (o slot c refl)
   holds_none q Again o = refl
 
 pub placed_by : (r : machine.Replica) (s : List ℕ) (x y : ReadAnswer) → x ≡ y → Places r s x → Places r s y

@@ -1,4 +1,5 @@
 // request.rs and localread.rs: which condition settles a read at a replica, and the answer that follows from it.
+#![tactic(auto)]
 ghost use Rattle.std.specs.Prelude.{◌≡◌, true, false, List, [], ◌∷◌, ℕ, ◌%◌, ◌≤◌, length};
 ghost use Rattle.layout.specs.Layout.{slots_at, slot_words, written_at, written_words, slot_places};
 ghost use Rattle.words.specs.Choice.{if_none◌then◌else◌};
@@ -29,7 +30,7 @@ use roster_map::Lookup;
 use words::wide;
 
 // A slot that settles a read: its place, and whether a read waits there.
-#[derive(Drop)]
+#[derive(Clone, Copy)]
 pub struct SlotAt {
     pub slot: Slot,
     pub place: usize,
@@ -37,7 +38,7 @@ pub struct SlotAt {
 }
 
 // The condition that settles a read, in the order in which the Rust comes to them.
-#[derive(Drop)]
+#[derive(Clone, Copy)]
 pub enum Settled {
     StableLeader,
     FewLeases,
@@ -53,7 +54,7 @@ pub enum Settled {
 }
 
 // What a read gets: value, absent, store, pass, hold (with the slot's place), retry.
-#[derive(Drop)]
+#[derive(Clone, Copy)]
 pub enum ReadAnswer {
     Found(u64),
     Missing,

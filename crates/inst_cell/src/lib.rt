@@ -1,5 +1,6 @@
 // The short part of an instance, in eight lent words: ballot, status, acks, notice book. A slot's batch and held reads
 // stand elsewhere.
+#![tactic(auto)]
 ghost use Rattle.std.specs.Prelude.{◌≡◌, ℕ, ◌+◌, ◌*◌, ◌≤◌, ltb, length, set};
 ghost use Rattle.words.specs.Writes.{writes};
 ghost use Rattle.layout.specs.Layout.{cell_row};
@@ -8,7 +9,7 @@ ghost use Rattle.inst_cell.specs.Cell.{status_of, status_named, acks_of, book_of
 
 use ids::Ballot;
 
-#[derive(Drop)]
+#[derive(Clone, Copy)]
 pub enum Status {
     Null,
     Preparing,
@@ -18,27 +19,27 @@ pub enum Status {
 }
 
 // `LeaderBookkeeping`: who has acked the Accept.
-#[derive(Drop)]
+#[derive(Clone, Copy)]
 pub enum LeaderBk {
     None,
     Some(u64),
 }
 
 // The notices of a ballot.
-#[derive(Drop)]
+#[derive(Clone, Copy)]
 pub struct NoticeBook {
     pub bal: Ballot,
     pub notices: u64,
 }
 
 // `ReplicaBookkeeping`, without the held reads.
-#[derive(Drop)]
+#[derive(Clone, Copy)]
 pub enum ReplicaBk {
     None,
     Some(NoticeBook),
 }
 
-#[derive(Drop)]
+#[derive(Clone, Copy)]
 pub struct Cell {
     pub bal: Ballot,
     pub status: Status,
@@ -97,7 +98,7 @@ fn replica_bk(has: u64, bal: Ballot, notices: u64) -> ReplicaBk
 }
 
 // Whether there are acks, and which.
-#[derive(Drop)]
+#[derive(Clone, Copy)]
 struct AckWords(u64, u64);
 
 fn ack_words(bk: LeaderBk) -> AckWords
@@ -110,7 +111,7 @@ fn ack_words(bk: LeaderBk) -> AckWords
 }
 
 // Whether there is a book, its ballot and its notices.
-#[derive(Drop)]
+#[derive(Clone, Copy)]
 struct BookWords(u64, u64, u64);
 
 fn book_words(bk: ReplicaBk) -> BookWords

@@ -1,4 +1,5 @@
 // The reads that a slot holds, in lent words: how many, and then rows of client, request, key.
+#![tactic(auto)]
 ghost use Rattle.std.specs.Prelude.{◌≡◌, [], ◌+◌, ◌*◌, ◌<◌, ◌≤◌, length, set};
 ghost use Rattle.words.specs.Writes.{writes};
 ghost use Rattle.layout.specs.Layout.{held_row, held_places, held_words};
@@ -6,7 +7,7 @@ ghost use Rattle.inst_holding.specs.Held.{read_of, read_at, reads_of, read_words
 
 use key_words::{Key, get_key, put_key};
 
-#[derive(Drop)]
+#[derive(Clone, Copy)]
 pub struct ReadReq {
     pub client: u64,
     pub request: u64,

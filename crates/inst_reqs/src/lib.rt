@@ -1,5 +1,6 @@
 // The batch of a slot, in lent words: how many requests, and then rows of client, request, kind, value, key. A kind of
 // 1 is a Put.
+#![tactic(auto)]
 ghost use Rattle.std.specs.Prelude.{◌≡◌, [], ◌+◌, ◌*◌, ◌<◌, ◌≤◌, length, set};
 ghost use Rattle.words.specs.Tab.{tab};
 ghost use Rattle.words.specs.Writes.{writes};
@@ -13,13 +14,13 @@ use key_words::{Key, get_key, put_key};
 // Requests of a batch at most.
 pub const BATCH: usize = layout::REQUEST_PLACES;
 
-#[derive(Drop)]
+#[derive(Clone, Copy)]
 pub enum Command {
     Get,
     Put(u64),
 }
 
-#[derive(Drop)]
+#[derive(Clone, Copy)]
 pub struct Request {
     pub client: u64,
     pub request: u64,
@@ -28,7 +29,7 @@ pub struct Request {
 }
 
 // The value of a Put, where there is one.
-#[derive(Drop)]
+#[derive(Clone, Copy)]
 pub enum Latest {
     Value(u64),
     Nothing,

@@ -1,21 +1,23 @@
 // `IntyKey` of keyrange.rs is a `u128`: here two 64-bit halves.
+#![tactic(auto)]
+
 ghost use Rattle.std.specs.Prelude.{◌≡◌, ℕ, ◌+◌, ◌-◌, ◌*◌, ◌/◌, ◌%◌, ltb, eqb};
 ghost use Rattle.inty.specs.Value.{value_of, checked, bounded};
 
-#[derive(Drop)]
+#[derive(Clone, Copy)]
 pub struct Inty {
     pub hi: u64,
     pub lo: u64,
 }
 
 // What two halves hold, or more than that.
-#[derive(Drop)]
+#[derive(Clone, Copy)]
 pub enum Checked {
     Number(Inty),
     Overflow,
 }
 
-#[derive(Drop)]
+#[derive(Clone, Copy)]
 pub struct Tenth {
     pub quotient: Inty,
     pub remainder: u64,

@@ -1,4 +1,5 @@
 // The items of a call, in a lent answer area: six words each, the kind first.
+#![tactic(auto)]
 ghost use Rattle.std.specs.Prelude.{◌≡◌, ◌*◌, ◌+◌, ◌%◌, ◌≤◌, length};
 ghost use Rattle.items.specs.Item.{item_of, item_words};
 ghost use Rattle.items.specs.Area.{Put, put_item, item_at, got_of, six_of, same_words, named, decode};
@@ -8,7 +9,7 @@ ghost use Rattle.words.specs.Writes.{writes};
 use ids::{Ballot, Leader, Replica, Slot};
 use inty::Inty;
 
-#[derive(Drop)]
+#[derive(Clone, Copy)]
 pub enum Item {
     Value {
         client: u64,
@@ -56,14 +57,14 @@ pub enum Item {
     Rest(u64),
 }
 
-#[derive(Drop)]
+#[derive(Clone, Copy)]
 pub enum Got {
     Item(Item),
     Nothing,
 }
 
 // The words of one place.
-#[derive(Drop)]
+#[derive(Clone, Copy)]
 struct Six(u64, u64, u64, u64, u64, u64);
 
 fn words_of(item: Item) -> Six

@@ -1,5 +1,6 @@
 // Keys that come in lines, one to a line, and an answer line to each: the key's number in decimal, or `-` where the key
 // does not read. A line of more than 1,024 bytes is not kept, and is answered `-`.
+#![tactic(auto)]
 ghost use Rattle.std.specs.Prelude.{◌≡◌, [], ◌+◌, ◌*◌, ◌≤◌, length, drop};
 ghost use Rattle.words.specs.Writes.{writes};
 ghost use Rattle.keys.specs.Shown.{shown};
@@ -11,7 +12,7 @@ use keys::KeyRead;
 
 // The place in a piece where the line that has begun starts, how much of the output is used, and whether bytes of that
 // line were dropped.
-#[derive(Drop)]
+#[derive(Clone, Copy)]
 pub struct Fed {
     pub at: usize,
     pub used: usize,

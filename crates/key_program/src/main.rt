@@ -2,11 +2,12 @@
 // read. The input is read in pieces of 64 KB and never kept whole. A line of more than 1,024 bytes is answered `-`; a
 // last line without a newline counts if it has a byte. The program ends when the input does, when a read fails, or when
 // a write fails.
+#![tactic(auto)]
 ghost use Rattle.std.specs.Prelude.{◌*◌, ◌≤◌, length};
 
 use stream_pieces::Carry;
 
-#[derive(Drop)]
+#[derive(Clone, Copy)]
 struct State {
     line: Carry,
     more: bool,

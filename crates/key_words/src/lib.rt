@@ -1,4 +1,5 @@
 // A key of at most 48 bytes as seven words: its length, and its bytes, eight to a word, 0 past its end.
+#![tactic(auto)]
 ghost use Rattle.std.specs.Prelude.{◌≡◌, true, ◌+◌, ◌<◌, ◌≤◌, ◌%◌, length, get_or, take};
 ghost use Rattle.words.specs.Writes.{writes};
 ghost use Rattle.keys.specs.Same.{same_bytes};
@@ -6,7 +7,7 @@ ghost use Rattle.key_words.specs.Key.{key_at, words_of, same_key, pack_of, le_wo
 
 use words::wide;
 
-#[derive(Drop)]
+#[derive(Clone, Copy)]
 pub struct Key {
     pub len: u64,
     pub w0: u64,
@@ -18,14 +19,14 @@ pub struct Key {
 }
 
 // The key of some bytes, or that they are more than 48.
-#[derive(Drop)]
+#[derive(Clone, Copy)]
 pub enum Packed {
     Key(Key),
     Long,
 }
 
 // How many bytes a key is, or that its words are no bytes'.
-#[derive(Drop)]
+#[derive(Clone, Copy)]
 pub enum Unpacked {
     Bytes(usize),
     Foreign,

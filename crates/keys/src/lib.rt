@@ -1,4 +1,5 @@
 // `key_to_inty` of keyrange.rs: the number that a key reads as.
+#![tactic(auto)]
 ghost use Rattle.std.specs.Prelude.{◌≡◌, ◌≤◌, length, drop};
 ghost use Rattle.keys.specs.Read.{is_k, is_digit, strip, sign, number, overflow, read_key};
 ghost use Rattle.keys.specs.Shown.{shown};
@@ -9,7 +10,7 @@ use inty::{Checked, Inty};
 pub const KEY_BYTES: usize = 48;
 
 // Rust's `Result` of `parse::<u128>()`, its errors taken as one.
-#[derive(Drop)]
+#[derive(Clone, Copy)]
 pub enum KeyRead {
     Number(Inty),
     Unread,

@@ -1,5 +1,6 @@
 // The buffer that is lent with a node, in words: how wide the rows are, how many there is room for, and where the
 // tables stand.
+#![tactic(auto)]
 
 // Words of a row.
 pub const CELL_ROW: usize = 8;

@@ -1,5 +1,6 @@
 // The lines of the calls: a line's fields, from a position on, are the call's arguments. A line whose fields are not
 // well-formed is refused 1.
+#![tactic(auto)]
 ghost use Rattle.std.specs.Prelude.{◌≡◌, true, false, List, ℕ, ◌≤◌, ◌<◌, length, get_or};
 ghost use Rattle.line_kind.specs.declared.CallKind.TheVariants.{Read};
 ghost use Rattle.line_fields.specs.Split.{fields_from};
@@ -17,7 +18,7 @@ use node::{Answered, Node};
 use roster_conf::RespondersConf;
 
 // The call that a line's fields are, where they are well-formed. A read's key is a part of the line.
-#[derive(Drop)]
+#[derive(Clone, Copy)]
 struct Asked {
     good: bool,
     call: Call,
@@ -86,7 +87,7 @@ fn numbers_call(kind: CallKind, n: usize, line: &[u8], at: usize) -> Asked
 }
 
 // The fields of a read line: where the key starts and ends.
-#[derive(Drop)]
+#[derive(Clone, Copy)]
 struct ReadFields {
     good: bool,
     client: u64,
@@ -185,7 +186,7 @@ pub fn call_line(
 }
 
 // The fields of a heard line but for the roster.
-#[derive(Drop)]
+#[derive(Clone, Copy)]
 struct HeardFields {
     good: bool,
     peer: Replica,

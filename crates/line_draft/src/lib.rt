@@ -1,5 +1,6 @@
 // The lines of the node and of the draft. Where no node is made, a draft's line is refused 2 like one for a population
 // that is none.
+#![tactic(auto)]
 ghost use Rattle.std.specs.Prelude.{◌≡◌, false, ◌≤◌, length};
 ghost use Rattle.layout.specs.Layout.{node_words};
 ghost use Rattle.line_kind.specs.declared.EditKind.TheVariants.{Lead, Range, Whole, Drop, Reset};
@@ -71,7 +72,7 @@ fn reset_line(draft: RespondersConf, rows: &[u64], population: u8, line: &[u8], 
 }
 
 // The fields of a range line: where its bounds start and end.
-#[derive(Drop)]
+#[derive(Clone, Copy)]
 struct RangeFields {
     good: bool,
     start: usize,

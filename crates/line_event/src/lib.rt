@@ -1,4 +1,5 @@
 // An event line: what it does to the host, and the text that answers it.
+#![tactic(auto)]
 ghost use Rattle.std.specs.Prelude.{◌≡◌, true, ◌≤◌, length};
 ghost use Rattle.words.specs.Choice.{if◌then◌else◌};
 ghost use Rattle.line_fields.specs.Split.{fields_from};
@@ -16,7 +17,7 @@ use roster_conf::Edited;
 use roster_show::Shown;
 
 // What a line did, and where its text ends.
-#[derive(Drop)]
+#[derive(Clone, Copy)]
 pub struct LineAnswer {
     pub acted: LineDone,
     pub end: usize,

@@ -1,23 +1,24 @@
 // The fields of a line, parted by commas: read by a position in the line.
+#![tactic(auto)]
 ghost use Rattle.std.specs.Prelude.{◌≡◌, true, false, ◌+◌, ◌*◌, ◌^◌, ◌≤◌, ◌<◌, ltb, length};
 ghost use Rattle.line_fields.specs.Split.{fields_from};
 ghost use Rattle.line_fields.specs.Number.{is_digit};
 ghost use Rattle.line_fields.specs.Reads.{none_left, ReadsField, ReadsNumber, ReadsNumberAt, ReadsNumbersAt, ReadsOptionalAt};
 
-#[derive(Drop)]
+#[derive(Clone, Copy)]
 pub struct Field {
     pub start: usize,
     pub end: usize,
     pub next: usize,
 }
 
-#[derive(Drop)]
+#[derive(Clone, Copy)]
 pub struct Number {
     pub good: bool,
     pub value: u64,
 }
 
-#[derive(Drop)]
+#[derive(Clone, Copy)]
 pub struct NumberAt {
     pub good: bool,
     pub value: u64,
@@ -25,14 +26,14 @@ pub struct NumberAt {
 }
 
 // Whether as many numbers were read as asked, and where the field after the last one begins.
-#[derive(Drop)]
+#[derive(Clone, Copy)]
 pub struct NumbersAt {
     pub good: bool,
     pub next: usize,
 }
 
 // A field that is a number, of count 1, or empty, of count 0.
-#[derive(Drop)]
+#[derive(Clone, Copy)]
 pub struct OptionalAt {
     pub good: bool,
     pub count: u64,

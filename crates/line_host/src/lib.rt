@@ -1,5 +1,6 @@
 // The host of the event program: the node and the draft. The node's buffer and the draft's rows are lent. Before a node
 // line is accepted the node is one that no call made.
+#![tactic(auto)]
 ghost use Rattle.std.specs.Prelude.{◌≡◌, List, false, ℕ, ◌≤◌};
 ghost use Rattle.node.specs.View.{ready};
 ghost use Rattle.line_host.specs.Host.{fresh_host};
@@ -9,14 +10,14 @@ use ids::{Ballot, Replica, Slot};
 use node::Node;
 use roster_conf::RespondersConf;
 
-#[derive(Drop)]
+#[derive(Clone, Copy)]
 pub struct Host {
     pub node: Node,
     pub draft: RespondersConf,
 }
 
 // What a line did. 0: taken, with this many items; else the number of the refusal.
-#[derive(Drop)]
+#[derive(Clone, Copy)]
 pub struct LineDone {
     pub number: u64,
     pub count: usize,

@@ -1,10 +1,11 @@
 // The kinds of event lines, told by their names.
+#![tactic(auto)]
 ghost use Rattle.std.specs.Prelude.{◌≡◌, ◌≤◌, length};
 ghost use Rattle.line_kind.specs.Kind.{kind_of, word_of, kind_by};
 
 // The seventeen kinds of lines: the edits of the draft and the calls that only the node and its answer area take part
 // in are groups of their own.
-#[derive(Drop)]
+#[derive(Clone, Copy)]
 pub enum Kind {
     Node,
     Edit(EditKind),
@@ -15,7 +16,7 @@ pub enum Kind {
     Unknown,
 }
 
-#[derive(Drop)]
+#[derive(Clone, Copy)]
 pub enum EditKind {
     Lead,
     Range,
@@ -24,7 +25,7 @@ pub enum EditKind {
     Reset,
 }
 
-#[derive(Drop)]
+#[derive(Clone, Copy)]
 pub enum CallKind {
     Guard,
     Prepared,

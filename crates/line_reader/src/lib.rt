@@ -1,19 +1,20 @@
 // A reader that keeps its line and its position. Each function over it is thin, with the work in `fields`; those with
 // plain parameters stand above it, and read all fields that they are asked for through one reader.
+#![tactic(auto)]
 ghost use Rattle.std.specs.Prelude.{◌≡◌, ◌≤◌, length};
 ghost use Rattle.line_fields.specs.Reads.{ReadsField, ReadsNumbersAt, ReadsNumbers};
 ghost use Rattle.line_reader.specs.Takes.{TakesField, TakesNumber, TakesNumbers, TakesOptional, ReadsFieldsNumber, ReadsNumbersField, ReadsRequest};
 
 use line_fields::{Field, NumberAt, NumbersAt, OptionalAt};
 
-#[derive(Drop)]
+#[derive(Clone, Copy)]
 pub struct LineReader<'a> {
     pub line: &'a [u8],
     pub at: usize,
 }
 
 // Two fields and a number, one after the other.
-#[derive(Drop)]
+#[derive(Clone, Copy)]
 pub struct FieldsNumber {
     pub first: Field,
     pub second: Field,
@@ -21,7 +22,7 @@ pub struct FieldsNumber {
 }
 
 // Three numbers and a field, one after the other.
-#[derive(Drop)]
+#[derive(Clone, Copy)]
 pub struct NumbersField {
     pub first: NumberAt,
     pub second: NumberAt,
@@ -30,7 +31,7 @@ pub struct NumbersField {
 }
 
 // Two numbers, a field, and a number or an empty field, one after the other.
-#[derive(Drop)]
+#[derive(Clone, Copy)]
 pub struct RequestFields {
     pub client: NumberAt,
     pub request: NumberAt,

@@ -1,4 +1,5 @@
 // The record line of the event program: slot, ballot, and a request for each group of four fields.
+#![tactic(auto)]
 ghost use Rattle.std.specs.Prelude.{◌≡◌, false, ◌+◌, ◌*◌, ◌≤◌, length};
 ghost use Rattle.words.specs.Writes.{writes};
 ghost use Rattle.line_fields.specs.Split.{fields_from};
@@ -11,7 +12,7 @@ use ids::{Ballot, Slot};
 use node::{Answered, Node};
 
 // CLIENT,REQUEST,KEY,VALUE, the key by its start and length in the line.
-#[derive(Drop)]
+#[derive(Clone, Copy)]
 struct Group {
     good: bool,
     client: u64,
@@ -23,7 +24,7 @@ struct Group {
     next: usize,
 }
 
-#[derive(Drop)]
+#[derive(Clone, Copy)]
 struct Groups {
     good: bool,
     count: usize,

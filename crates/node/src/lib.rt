@@ -1,5 +1,6 @@
 // A replica's core: what is short goes by value, the tables stand in one lent buffer of words that counts as part of
 // the node.
+#![tactic(auto)]
 ghost use Rattle.std.specs.Prelude.{◌≡◌, ◌&&◌, List, ℕ, ◌≤◌, leb, length, replicate};
 ghost use Rattle.node.specs.View.{size, in_range, bars_in_range, sound, view, ready, leads_it};
 ghost use Rattle.ids.specs.Leader.{leader_of};
@@ -10,7 +11,7 @@ ghost use Rattle.node.specs.Begins.{Reset, Begins};
 use ids::{Ballot, Leader, Replica, Slot};
 use roster_conf::RespondersConf;
 
-#[derive(Drop)]
+#[derive(Clone, Copy)]
 pub struct Node {
     pub id: Replica,
     pub population: u8,
@@ -29,7 +30,7 @@ pub struct Node {
 }
 
 // 0: taken, with this many items; else the number of the refusal.
-#[derive(Drop)]
+#[derive(Clone, Copy)]
 pub struct Answered {
     pub number: u64,
     pub count: usize,
@@ -58,7 +59,7 @@ impl Answered {
     }
 }
 
-#[derive(Drop)]
+#[derive(Clone, Copy)]
 pub enum Fresh {
     Made(Node),
     Refused(u64),

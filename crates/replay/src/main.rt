@@ -3,6 +3,7 @@
 // without a newline counts if it has a byte. The answers to a piece are written after it, or before, where the output
 // has no room for another answer. The program ends when the input does, or when a read or a write fails, which it says
 // on standard error. After a read that failed, the line that has begun is not answered.
+#![tactic(auto)]
 ghost use Rattle.std.specs.Prelude.{◌≡◌, true, ◌≤◌, ◌<◌, length};
 ghost use Rattle.layout.specs.Layout.{roster_words, node_words};
 ghost use Rattle.replay.specs.Reads.{filled_as, Filling};
@@ -11,7 +12,7 @@ ghost use Rattle.replay.specs.Steps.{Stands, Steps};
 use stream_turns::Stream;
 
 // What a read brought: the bytes of the buffer now end there, the input has ended, or the read failed.
-#[derive(Drop)]
+#[derive(Clone, Copy)]
 enum Filled {
     Piece(usize),
     Ended,
@@ -19,7 +20,7 @@ enum Filled {
 }
 
 // Where the stream stands, and whether the program goes on.
-#[derive(Drop)]
+#[derive(Clone, Copy)]
 struct Next {
     stream: Stream,
     on: bool,

@@ -1,6 +1,7 @@
 // The batch as the caller of *record* lends it: six words a request (client, request, kind, value, start and length of
 // its key), and the text that the keys are parts of. A kind of 1 is a Put. Any words are a batch: what lies past the
 // end of the text is not there.
+#![tactic(auto)]
 ghost use Rattle.std.specs.Prelude.{◌≡◌, false, List, ℕ, ◌/◌, ◌<◌, ◌≤◌, min, length};
 ghost use Rattle.words.specs.Part.{part};
 ghost use Rattle.layout.specs.Layout.{request_places, batch_words};
@@ -63,8 +64,8 @@ fn key_in(text: &[u8], start: u64, len: u64) -> Key
 
 // The i-th request, whose key is no longer than 48 bytes.
 fn request_at(rows: &[u64], text: &[u8], i: usize) -> Request
-    requires i_in_bounds { i < length rows.now / 6 }
-    requires i_value { long_key (given_at rows.now text.now i).key ≡ false }
+    requires in_rows { i < length rows.now / 6 }
+    requires short { long_key (given_at rows.now text.now i).key ≡ false }
     ensures { request_of result ≡ given_at rows.now text.now i }
 {
     let p = i * 6;
@@ -85,9 +86,9 @@ fn request_at(rows: &[u64], text: &[u8], i: usize) -> Request
 
 // The batch of a slot that holds these requests.
 pub fn load(rows: &[u64], text: &[u8], out: &mut [u64])
-    requires batch_words_in_bounds { batch_words ≤ length out.old }
-    requires text_len_bound { length (given rows.now text.now) ≤ request_places }
-    requires text_value { any_long (given rows.now text.now) ≡ false }
+    requires room { batch_words ≤ length out.old }
+    requires few { length (given rows.now text.now) ≤ request_places }
+    requires short { any_long (given rows.now text.now) ≡ false }
     ensures { Loads rows.now text.now out.old out.new }
 {
     inst_reqs::clear(out);

@@ -1,4 +1,5 @@
 // `RespondersConf` of keyrange.rs: a roster. Its ranges are rows in lent words; the short part goes by value.
+#![tactic(auto)]
 ghost use Rattle.std.specs.Prelude.{◌≡◌, ◌&&◌, List, ℕ, ◌≤◌, length};
 ghost use Rattle.ids.specs.Leader.{leader_of};
 ghost use Rattle.layout.specs.Layout.{roster_words};
@@ -12,7 +13,7 @@ use inty::Inty;
 use keys::KeyRead;
 use roster_map::{Row, Stored};
 
-#[derive(Drop)]
+#[derive(Clone, Copy)]
 pub struct RespondersConf {
     pub leader: Leader,
     pub count: usize,
@@ -20,13 +21,13 @@ pub struct RespondersConf {
 }
 
 // A refused edit leaves the roster as it was.
-#[derive(Drop)]
+#[derive(Clone, Copy)]
 pub enum Edited {
     Taken(RespondersConf),
     Refused(u64),
 }
 
-#[derive(Drop)]
+#[derive(Clone, Copy)]
 pub enum Responders {
     Mask(u64),
     NoRoster,
@@ -34,7 +35,7 @@ pub enum Responders {
 }
 
 // The row that a range asks for, or why it is turned away.
-#[derive(Drop)]
+#[derive(Clone, Copy)]
 enum Asked {
     Store(Row),
     Refused(u64),

@@ -1,4 +1,5 @@
 // `KeyRangeMap` of keyrange.rs: key ranges and their masks as rows in lent words.
+#![tactic(auto)]
 ghost use Rattle.std.specs.Prelude.{◌≡◌, false, ℕ, ◌+◌, ◌*◌, ◌<◌, ◌≤◌, length, take};
 ghost use Rattle.words.specs.Writes.{writes};
 ghost use Rattle.layout.specs.Layout.{roster_row, roster_words};
@@ -10,7 +11,7 @@ ghost use Rattle.roster_map.specs.Rows.{range_of, row_words, range_at, ranges_of
 use ids::Replica;
 use inty::{Checked, Inty};
 
-#[derive(Drop)]
+#[derive(Clone, Copy)]
 pub struct Row {
     pub start: Inty,
     pub end: Inty,
@@ -18,7 +19,7 @@ pub struct Row {
 }
 
 // What is kept of each row.
-#[derive(Drop)]
+#[derive(Clone, Copy)]
 pub enum Cut {
     Below(Inty),
     Above(Inty),
@@ -29,14 +30,14 @@ pub enum Cut {
 pub const RANGES: usize = layout::ROSTER_PLACES;
 
 // How many rows are stored, or that they would be more than 64.
-#[derive(Drop)]
+#[derive(Clone, Copy)]
 pub enum Stored {
     Rows(usize),
     Full,
 }
 
 // The mask that is stored at a key, where one is.
-#[derive(Drop)]
+#[derive(Clone, Copy)]
 pub enum Lookup {
     Mask(u64),
     Nothing,

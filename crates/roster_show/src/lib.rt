@@ -1,4 +1,5 @@
 // `show`: a roster's ranges ascending, then its default, as items.
+#![tactic(auto)]
 ghost use Rattle.std.specs.Prelude.{◌≡◌, ◌+◌, ◌*◌, ◌≤◌, length};
 ghost use Rattle.words.specs.Writes.{writes};
 ghost use Rattle.layout.specs.Layout.{roster_row};
@@ -9,7 +10,7 @@ ghost use Rattle.roster_show.specs.Show.{span_of, spans_of, Listing, listing};
 use items::Item;
 use roster_conf::RespondersConf;
 
-#[derive(Drop)]
+#[derive(Clone, Copy)]
 pub enum Shown {
     Items(usize),
     Refused(u64),

@@ -1,4 +1,5 @@
 // The event lines of a stream that comes in pieces, and the answers to them.
+#![tactic(auto)]
 ghost use Rattle.std.specs.Prelude.{◌≡◌, ◌||◌, List, ℕ, ◌≤◌, ltb, length};
 ghost use Rattle.stream_events.specs.Lines.{start, bumped};
 ghost use Rattle.stream_events.specs.Fed.{Lent, state_of, WritesLine, WritesLastLine, WritesLines};
@@ -6,21 +7,21 @@ ghost use Rattle.stream_events.specs.Fed.{Lent, state_of, WritesLine, WritesLast
 use line_host::Host;
 
 // What goes from line to line: the host, and the number of the next line.
-#[derive(Drop)]
+#[derive(Clone, Copy)]
 pub struct LineState {
     pub host: Host,
     pub number: u64,
 }
 
 // What a line leaves, and where its text ends.
-#[derive(Drop)]
+#[derive(Clone, Copy)]
 pub struct LineWritten {
     pub state: LineState,
     pub end: usize,
 }
 
 // A place in a piece: where the next line starts, what it finds, and whether bytes of it were dropped.
-#[derive(Drop)]
+#[derive(Clone, Copy)]
 pub struct Place {
     pub at: usize,
     pub state: LineState,
@@ -28,7 +29,7 @@ pub struct Place {
 }
 
 // The next place, how much of the output is used, and whether the output was too full to go on.
-#[derive(Drop)]
+#[derive(Clone, Copy)]
 pub struct Fed {
     pub place: Place,
     pub used: usize,

@@ -1,10 +1,11 @@
 // The lines of a stream that comes in pieces: where one ends, and what is kept of the one that has begun.
+#![tactic(auto)]
 ghost use Rattle.std.specs.Prelude.{◌≡◌, true, ◌+◌, ◌-◌, ◌≤◌, length, take, drop};
 ghost use Rattle.words.specs.Writes.{writes};
 ghost use Rattle.stream_pieces.specs.Pieces.{before, kept};
 
 // The line that has begun: how many of its bytes are at the start of the buffer, and whether bytes of it were dropped.
-#[derive(Drop)]
+#[derive(Clone, Copy)]
 pub struct Carry {
     pub have: usize,
     pub long: bool,

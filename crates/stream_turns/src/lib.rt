@@ -1,5 +1,6 @@
 // The turns of a program that answers a stream of event lines. A turn reads and writes nothing: it is handed the bytes
 // that were read, and leaves the text that is to be written.
+#![tactic(auto)]
 ghost use Rattle.std.specs.Prelude.{◌≤◌, length};
 ghost use Rattle.stream_events.specs.Fed.{Lent};
 ghost use Rattle.stream_turns.specs.Turn.{Begins, TurnLeaves};
@@ -8,7 +9,7 @@ use stream_events::{LineState, Place};
 
 // Where a stream stands: the bytes of the buffer from `place.at` up to `end` were read and are not answered. If `more`,
 // lines may end in them; if not, they are the line that has begun, at the buffer's start.
-#[derive(Drop)]
+#[derive(Clone, Copy)]
 pub struct Stream {
     pub place: Place,
     pub end: usize,
@@ -16,7 +17,7 @@ pub struct Stream {
 }
 
 // Where the stream stands after a turn, and how much of the output is its text.
-#[derive(Drop)]
+#[derive(Clone, Copy)]
 pub struct TurnResult {
     pub stream: Stream,
     pub used: usize,

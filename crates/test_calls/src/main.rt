@@ -1,5 +1,6 @@
 // Runs recorded calls on one node. vectors/README.md says what the lines are, what is written for each, and how the
 // recorded ones are made.
+#![tactic(auto)]
 ghost use Rattle.std.specs.Prelude.{◌≡◌, ◌≤◌, length};
 
 use ids::Slot;
@@ -13,7 +14,7 @@ use roster_show::Shown;
 
 // What goes from line to line: the node, the draft and the population that its edits are for; how many words of the
 // node's buffer and of the draft's rows are lent; how many lines were read.
-#[derive(Drop)]
+#[derive(Clone, Copy)]
 struct State {
     node: Node,
     draft: RespondersConf,
@@ -24,7 +25,7 @@ struct State {
 }
 
 // 0: taken, with this many items; else the number of the refusal.
-#[derive(Drop)]
+#[derive(Clone, Copy)]
 struct Done {
     number: u64,
     count: usize,
@@ -145,7 +146,7 @@ fn done_by(
 // ---- the stream
 
 // Where the lines of a piece end.
-#[derive(Drop)]
+#[derive(Clone, Copy)]
 struct Place {
     at: usize,
     state: State,

@@ -1,6 +1,7 @@
 // Replays the recorded answers of the original Rust (oracle/README.md, "Recorded answers"), which are standard input:
 // answers each script's event lines from the fresh state, as a whole and cut in the middle, and compares what is
 // written with what was recorded, byte for byte.
+#![tactic(auto)]
 mod scripts;
 
 ghost use Rattle.std.specs.Prelude.{◌≡◌, ◌+◌, ◌≤◌, length};
@@ -13,14 +14,14 @@ use stream_pieces::Carry;
 // ---- a script's event lines, answered from the fresh state
 
 // How many bytes of the recorded answers were met, and whether all that was written is those.
-#[derive(Drop)]
+#[derive(Clone, Copy)]
 struct Met {
     at: usize,
     same: bool,
 }
 
 // What goes from piece to piece.
-#[derive(Drop)]
+#[derive(Clone, Copy)]
 struct Progress {
     state: LineState,
     line: Carry,
@@ -28,14 +29,14 @@ struct Progress {
 }
 
 // Where the lines of a piece end, and what was met.
-#[derive(Drop)]
+#[derive(Clone, Copy)]
 struct Drained {
     place: Place,
     met: Met,
 }
 
 // Whether what is written is what was recorded, and how many lines were answered.
-#[derive(Drop)]
+#[derive(Clone, Copy)]
 struct Outcome {
     same: bool,
     lines: u64,
@@ -242,7 +243,7 @@ fn run(first: &[u8], second: &[u8], answers: &[u8]) -> Outcome
 
 // ---- the scripts
 
-#[derive(Drop)]
+#[derive(Clone, Copy)]
 struct Tally {
     scripts: u64,
     lines: u64,

@@ -5,7 +5,6 @@ ghost use Rattle.std.specs.Prelude.{◌<◌, ◌≤◌, length};
 use line_fields::Field;
 
 // Where a script's name, its event lines and the answers to them are. After one that is not good nothing is left.
-#[derive(Drop)]
 pub(crate) struct Script {
     pub good: bool,
     pub name: usize,
@@ -16,7 +15,7 @@ pub(crate) struct Script {
 }
 
 // A script's first line: where its name is, and the two byte counts.
-#[derive(Drop)]
+#[derive(Clone, Copy)]
 struct Header {
     good: bool,
     name: usize,

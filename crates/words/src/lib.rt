@@ -1,4 +1,6 @@
 // Laws on lists of words that every crate over a lent buffer shares are in specs/.
+#![tactic(auto)]
+
 ghost use Rattle.std.specs.Prelude.{◌≡◌, ◌≤◌, length, take};
 ghost use Rattle.words.specs.Writes.{writes};
 

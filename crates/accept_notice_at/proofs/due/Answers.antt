@@ -1,0 +1,13 @@
+use Rattle.accept_notice_at.proofs.Laws as law
+use borrow.Author.Rules.{rules}
+use Rattle.accept_notice_at.proofs.due.Goals as goal
+
+pub returns-then-held-k : goal.returns-then-held-k
+returns-then-held-k c =
+    let a = c.args in
+    λ leader. law.due_null a.quorum leader a.peer.0 a.ballot.0 a.start.0 a.held a.k a.s.now c.if-held-k.true
+
+pub returns : goal.returns
+returns c =
+    let a = c.args in
+    λ leader. law.due_held a.quorum leader a.peer.0 a.ballot.0 a.start.0 a.held a.k a.s.now c.if-held-k.false _ (c.due_in.ensures leader)

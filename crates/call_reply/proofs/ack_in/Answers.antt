@@ -1,0 +1,7 @@
+use Rattle.words.specs.Part.{part}
+use borrow.Author.Rules.{rules}
+use Rattle.call_reply.proofs.ack_in.Goals as goal
+
+pub returns : goal.returns
+unfolding part
+returns c = c.ack_at.ensures

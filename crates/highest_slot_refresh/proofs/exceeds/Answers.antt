@@ -1,0 +1,22 @@
+use Prim.Native.Nat.{ℕ, ◌≤◌, ◌+◌, ◌-◌}
+use mathlib.Core.Path.{◌≡◌}
+use lib.ListN.{length}
+use Rattle.ids.specs.Limits.{keys}
+use Rattle.layout.specs.Layout.{request_places}
+use Rattle.highest_slot_refresh.specs.Refresh.{after}
+use Rattle.highest_slot_refresh.proofs.Laws as law
+use borrow.Author.Rules.{rules}
+use native.Mathlib.Omega.{arith}
+use Rattle.highest_slot_refresh.proofs.exceeds.Goals as goal
+
+pub loop-i-init : goal.loop-i-init
+loop-i-init c = (omega arith, omega arith, omega arith, law.after_start _ _ _ c.count-n.ensures.0)
+
+pub returns-then-n-gt-KEYS : goal.returns-then-n-gt-KEYS
+returns-then-n-gt-KEYS c = search (rules, law.after_past)
+
+pub loop-i-preserved : goal.loop-i-preserved
+loop-i-preserved c = search (rules, law.after_next)
+
+pub returns : goal.returns
+returns c = search (rules, law.after_end)

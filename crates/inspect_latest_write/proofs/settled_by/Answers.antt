@@ -1,0 +1,61 @@
+use Rattle.layout.specs.Layout.{slots_at, slot_words}
+use Rattle.inspect_latest_write.proofs.Laws as law
+use mathlib.Core.Path.{refl}
+use Rattle.node.specs.View.{view}
+use Rattle.words.specs.Part.{part}
+use native.Mathlib.Omega.{arith}
+use borrow.Author.Rules.{rules}
+use mathlib.Core.Path.{ap}
+use mathlib.Core.Bool.{not}
+use Rattle.inspect_latest_write.proofs.settled_by.Goals as goal
+
+pub returns-then-is_stable_leader : goal.returns-then-is_stable_leader
+returns-then-is_stable_leader c =
+    let a = c.args in
+    law.settled_stable a.node a.mem.now a.leases a.key.now _ (c.is_stable_leader.ensures a.mem.now) c.if-is_stable_leader.true
+
+pub returns-then-leases-quorum : goal.returns-then-leases-quorum
+returns-then-leases-quorum c =
+    let a = c.args in
+    law.settled_leases a.node a.mem.now a.leases a.key.now _ (c.is_stable_leader.ensures a.mem.now) c.if-is_stable_leader.false (law.few c.wide-quorum.ensures c.if-leases-quorum.true)
+
+pub returns-in_default : goal.returns-in_default
+returns-in_default c =
+    let a = c.args in
+    law.settled_unread a.node a.mem.now a.leases a.key.now _ (c.is_stable_leader.ensures a.mem.now) c.if-is_stable_leader.false (law.enough c.wide-quorum.ensures c.if-leases-quorum.false) c.key_to_inty.result c.key_to_inty.ensures c.in_default.is
+
+pub slice_bounds-at-end : goal.slice_bounds-at-end
+slice_bounds-at-end c = omega (arith, law.words_long c.args.node c.args.mem.now c.requires.0)
+
+pub at-stored-requires : goal.at-stored-requires
+unfolding part
+at-stored-requires c = law.rows_long c.args.node c.args.mem.now c.requires.0
+
+pub returns-then-not-is_responder : goal.returns-then-not-is_responder
+unfolding part
+returns-then-not-is_responder c =
+    let a = c.args in
+    law.settled_roster a.node a.mem.now a.leases a.key.now _ (c.is_stable_leader.ensures a.mem.now) c.if-is_stable_leader.false (law.enough c.wide-quorum.ensures c.if-leases-quorum.false) c.key_to_inty.result c.key_to_inty.ensures _ c.in-Number.is c.at-stored.result c.at-stored.ensures _ c.is_responder.ensures (ap not c.if-not-is_responder.true) c.not_responder.result (c.not_responder.ensures (view a.node a.mem.now) (part a.mem.now slots_at slot_words))
+
+pub returns-then-commit-max : goal.returns-then-commit-max
+unfolding part
+returns-then-commit-max c =
+    let a = c.args in
+    law.settled_bar a.node a.mem.now a.leases a.key.now _ (c.is_stable_leader.ensures a.mem.now) c.if-is_stable_leader.false (law.enough c.wide-quorum.ensures c.if-leases-quorum.false) c.key_to_inty.result c.key_to_inty.ensures _ c.in-Number.is c.at-stored.result c.at-stored.ensures _ c.is_responder.ensures (ap not c.if-not-is_responder.false) c.if-commit-max.true
+
+pub slice_bounds-inspect_latest_write-end : goal.slice_bounds-inspect_latest_write-end
+slice_bounds-inspect_latest_write-end c = omega (arith, law.words_long c.args.node c.args.mem.now c.requires.0)
+
+pub slice_bounds-inspect_latest_write-end-2 : goal.slice_bounds-inspect_latest_write-end-2
+slice_bounds-inspect_latest_write-end-2 c = omega (arith, law.words_long c.args.node c.args.mem.now c.requires.0)
+
+pub inspect_latest_write-requires : goal.inspect_latest_write-requires
+unfolding part
+inspect_latest_write-requires c =
+    (law.slots_long c.args.node c.args.mem.now c.requires.0, law.written_long c.args.node c.args.mem.now c.requires.0)
+
+pub returns : goal.returns
+unfolding part
+returns c =
+    let a = c.args in
+    law.settled_latest a.node a.mem.now a.leases a.key.now _ (c.is_stable_leader.ensures a.mem.now) c.if-is_stable_leader.false (law.enough c.wide-quorum.ensures c.if-leases-quorum.false) c.key_to_inty.result c.key_to_inty.ensures _ c.in-Number.is c.at-stored.result c.at-stored.ensures _ c.is_responder.ensures (ap not c.if-not-is_responder.false) c.if-commit-max.false c.inspect_latest_write.result (law.packed_as (view a.node a.mem.now) (part a.mem.now slots_at slot_words) _ _ c.inspect_latest_write.result c.requires.1 (c.inspect_latest_write.ensures a.mem.now refl refl))

@@ -1,0 +1,6 @@
+use Rattle.inst_cell.proofs.Laws as law
+use borrow.Author.Rules.{rules}
+use Rattle.inst_cell.proofs.is_open.Goals as goal
+
+pub returns : goal.returns
+returns c = law.open_is _ _

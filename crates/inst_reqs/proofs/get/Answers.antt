@@ -1,0 +1,7 @@
+use Rattle.inst_reqs.specs.Batch.{request_from}
+use borrow.Author.Rules.{rules}
+use Rattle.inst_reqs.proofs.get.Goals as goal
+
+pub returns : goal.returns
+unfolding request_from
+returns c = cc

@@ -1,0 +1,6 @@
+use mathlib.Core.Path.{sym}
+use borrow.Author.Rules.{rules}
+use Rattle.key_words.proofs.is_packed.Goals as goal
+
+pub returns-then-is_short : goal.returns-then-is_short
+returns-then-is_short c = sym (c.is_short.ensures c.if-is_short.true)

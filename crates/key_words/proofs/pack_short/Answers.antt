@@ -1,0 +1,10 @@
+use Rattle.key_words.proofs.Laws as law
+use native.Mathlib.Omega.{arith}
+use borrow.Author.Rules.{rules}
+use mathlib.Core.Path.{ap, ◌∙◌}
+use Rattle.key_words.specs.Key.{bytes_of}
+use Rattle.key_words.proofs.pack_short.Goals as goal
+
+pub returns : goal.returns
+returns c =
+    ap bytes_of c.key_of.ensures ∙ law.bytes_pack_of _ (λ i. omega (arith, c.shared_slice_known-1.given i)) c.requires

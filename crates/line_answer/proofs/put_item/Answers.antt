@@ -1,0 +1,6 @@
+use Rattle.line_answer.proofs.Items as items
+use borrow.Author.Rules.{rules}
+use Rattle.line_answer.proofs.put_item.Goals as goal
+
+pub returns : goal.returns
+returns c = items.printed c.put_six.ensures

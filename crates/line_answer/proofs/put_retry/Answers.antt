@@ -1,0 +1,8 @@
+use Rattle.line_answer.proofs.Laws as law
+use native.Mathlib.Omega.{arith}
+use borrow.Author.Rules.{rules}
+use Rattle.line_answer.proofs.put_retry.Goals as goal
+
+pub returns : goal.returns
+returns c =
+    law.line_4 c.put_bytes-at1.ensures c.put_field-at2.ensures c.put_field-at3.ensures c.put_leader-at4.ensures c.put_byte.ensures _ (omega arith)

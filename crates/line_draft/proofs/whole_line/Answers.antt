@@ -1,0 +1,14 @@
+use Rattle.roster_conf.specs.Edit.{SetFull}
+use Rattle.line_draft.proofs.Laws as law
+use native.Mathlib.Omega.{arith}
+use borrow.Author.Rules.{rules}
+use mathlib.Core.Path.{ap}
+use mathlib.Core.Bool.{not}
+use Rattle.line_draft.proofs.whole_line.Goals as goal
+
+pub returns-then-not-numbers : goal.returns-then-not-numbers
+returns-then-not-numbers c = law.other_fields _ _ _ _ _ _ c.numbers.ensures _ _ _ _ (ap not c.if-not-numbers.true)
+
+pub returns : goal.returns
+returns c =
+    law.one_number _ _ _ _ _ _ c.numbers.ensures SetFull _ _ _ _ _ (ap not c.if-not-numbers.false) (omega arith) c.set_full.ensures

@@ -1,0 +1,6 @@
+use Rattle.line_fields.proofs.Laws as law
+use native.Mathlib.Omega.{arith}
+use Rattle.line_fields.proofs.ended.Goals as goal
+
+pub returns : goal.returns
+returns c = law.none_left_lem _ _

@@ -1,0 +1,7 @@
+use Rattle.node.specs.View.{ready}
+use borrow.Author.Rules.{rules}
+use Rattle.node.proofs.is_ready.Goals as goal
+
+pub returns : goal.returns
+unfolding ready
+returns c = c.is_sound.ensures

@@ -1,0 +1,13 @@
+use Rattle.peer_accept_bar.proofs.Laws as law
+use native.Mathlib.Omega.{arith}
+use lib.ListN.{length-set}
+use borrow.Author.Rules.{rules}
+use Rattle.peer_accept_bar.proofs.insert.Goals as goal
+
+pub bounds-pairs-i-2 : goal.bounds-pairs-i-2
+bounds-pairs-i-2 c = simp length-set (omega arith)
+
+pub returns : goal.returns
+returns c =
+    let a = c.args in
+    (law.pairs_moved a.pairs.now a.population a.peer.0 a.number.0 a.bar.0 c.requires.0 c.requires.1 c.requires.2, law.length_moved a.pairs.now a.population a.peer.0 a.number.0 a.bar.0 c.requires.0 c.requires.1 c.requires.2)

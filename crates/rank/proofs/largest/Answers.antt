@@ -1,0 +1,15 @@
+use Rattle.rank.proofs.Laws as law
+use native.Mathlib.Omega.{arith}
+use borrow.Author.Rules.{rules}
+use Prim.Native.Nat.{ℕ, ◌-◌, ◌≤◌, ◌<◌}
+use lib.ListN.{length, get_or}
+use Rattle.rank.proofs.largest.Goals as goal
+
+pub loop-i-init : goal.loop-i-init
+loop-i-init c = (omega arith, λ k h. absurd (omega arith))
+
+pub loop-i-preserved : goal.loop-i-preserved
+loop-i-preserved c = (omega arith, search (rules, law.most_more))
+
+pub returns : goal.returns
+returns c = λ k h. c.loop-i.invariant.1 k (omega arith)

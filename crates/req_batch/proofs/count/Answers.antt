@@ -1,0 +1,6 @@
+use mathlib.Core.Path.{sym}
+use Rattle.req_batch.proofs.Laws as law
+use Rattle.req_batch.proofs.count.Goals as goal
+
+pub returns : goal.returns
+returns c text = sym (law.how_many _ text)

@@ -1,0 +1,12 @@
+use mathlib.Core.Path.{◌∙◌}
+use Prim.Native.Nat.{◌≤◌, ◌-◌}
+use Rattle.layout.specs.Layout.{request_places}
+use Rattle.req_batch.proofs.Laws as law
+use native.Mathlib.Omega.{arith}
+use Rattle.req_batch.proofs.load.Given as goal
+
+abbrev pub invariant-loop-i : goal.invariant-loop-i
+invariant-loop-i l = (l.i ≤ l.n) × (l.n ≤ request_places) × law.Loaded l.rows l.text l.initial.out l.out l.i
+
+abbrev pub decreases-loop-i : goal.decreases-loop-i
+decreases-loop-i l = l.n - l.i

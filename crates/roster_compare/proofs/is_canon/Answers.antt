@@ -1,0 +1,21 @@
+use Rattle.roster_compare.proofs.Laws as law
+use borrow.Author.Rules.{rules}
+use Rattle.roster_map.proofs.Laws.{rows_from}
+use Rattle.roster_map.specs.Rows.{ranges_of}
+use Rattle.roster_ranges.specs.Canon.{is_canon}
+use Prim.Native.Nat.{◌-◌, ◌≤◌}
+use mathlib.Core.Path.{◌≡◌}
+use native.Mathlib.Omega.{arith}
+use Rattle.roster_compare.proofs.is_canon.Goals as goal
+
+pub loop-i-init : goal.loop-i-init
+loop-i-init c = (omega arith, law.canon_start _ _)
+
+pub returns-then-not-heads : goal.returns-then-not-heads
+returns-then-not-heads c = search (rules, law.row_touches)
+
+pub loop-i-preserved : goal.loop-i-preserved
+loop-i-preserved c = (omega arith, search (rules, law.row_heads))
+
+pub returns : goal.returns
+returns c = search (rules, law.canon_end)

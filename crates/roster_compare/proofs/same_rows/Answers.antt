@@ -1,0 +1,24 @@
+use Rattle.roster_compare.proofs.Laws as law
+use borrow.Author.Rules.{rules}
+use Rattle.roster_conf.specs.Conf.{same_ranges}
+use Rattle.roster_map.proofs.Laws.{rows_from}
+use Rattle.roster_map.specs.Rows.{ranges_of}
+use Prim.Native.Nat.{◌-◌, ◌≤◌}
+use mathlib.Core.Path.{◌≡◌}
+use native.Mathlib.Omega.{arith}
+use Rattle.roster_compare.proofs.same_rows.Goals as goal
+
+pub returns-then-n-k : goal.returns-then-n-k
+returns-then-n-k c = search (rules, law.counts_differ)
+
+pub loop-i-init : goal.loop-i-init
+loop-i-init c = (omega arith, search rules, search (rules, law.rows_start))
+
+pub returns-then-not-same_row : goal.returns-then-not-same_row
+returns-then-not-same_row c = search (rules, law.row_differs)
+
+pub loop-i-preserved : goal.loop-i-preserved
+loop-i-preserved c = (omega arith, search rules, search (rules, law.row_same))
+
+pub returns : goal.returns
+returns c = search (rules, law.rows_end)

@@ -1,0 +1,21 @@
+use Rattle.roster_map.proofs.Laws as law
+use native.Mathlib.Omega.{arith}
+use borrow.Author.Rules.{rules}
+use mathlib.Core.Path.{◌≡◌}
+use Prim.Native.Nat.{◌-◌, ◌≤◌}
+use Rattle.inty.specs.Value.{value_of}
+use Rattle.roster_ranges.specs.Range.{at}
+use Rattle.roster_map.specs.Rows.{ranges_of}
+use Rattle.roster_map.proofs.at.Goals as goal
+
+pub loop-i-init : goal.loop-i-init
+loop-i-init c = (omega arith, law.from_start _ _ _)
+
+pub returns-then-holds : goal.returns-then-holds
+returns-then-holds c = search (rules, law.found)
+
+pub loop-i-preserved : goal.loop-i-preserved
+loop-i-preserved c = (omega arith, search (rules, law.passed))
+
+pub returns : goal.returns
+returns c = search (rules, law.lost)

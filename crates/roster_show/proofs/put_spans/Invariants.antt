@@ -1,0 +1,18 @@
+use Rattle.roster_show.proofs.Listing as law
+use native.Mathlib.Omega.{arith}
+use borrow.Author.Rules.{rules}
+use mathlib.Core.Path.{◌≡◌, refl}
+use Prim.Native.Nat.{◌-◌, ◌≤◌}
+use lib.ListN.{length}
+use Rattle.words.specs.Writes.{writes}
+use Rattle.items.specs.Item.{encode}
+use Rattle.roster_map.specs.Rows.{ranges_of}
+use Rattle.roster_show.specs.Show.{spans_of}
+use Rattle.roster_show.proofs.put_spans.Given as goal
+
+abbrev pub invariant-loop-i : goal.invariant-loop-i
+invariant-loop-i l =
+    (l.i ≤ l.count) × (length l.area ≡ length l.initial.area) × (l.area ≡ writes l.initial.area 0 (encode (spans_of (ranges_of l.rows l.i))))
+
+abbrev pub decreases-loop-i : goal.decreases-loop-i
+decreases-loop-i l = l.count - l.i

@@ -1,0 +1,17 @@
+use mathlib.Core.Path.{◌≡◌}
+use Prim.Native.Nat.{◌+◌, ◌-◌, ◌≤◌}
+use native.Mathlib.Omega.{arith}
+use borrow.Author.Rules.{rules}
+use Rattle.test_node_sum.specs.Sum.{plus_numbers}
+use Rattle.test_node_sum.specs.Numbers.{slots_of}
+use Rattle.test_node_sum.proofs.Laws as law
+use Rattle.test_node_sum.proofs.plus_slots.Goals as goal
+
+pub loop-i-init : goal.loop-i-init
+loop-i-init c = search (rules, law.slots_begin)
+
+pub loop-i-preserved : goal.loop-i-preserved
+loop-i-preserved c = search (rules, law.slots_turn, law.cell_of_lem)
+
+pub returns : goal.returns
+returns c = search (rules, law.slots_end)

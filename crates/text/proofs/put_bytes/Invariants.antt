@@ -1,0 +1,15 @@
+use Rattle.text.proofs.Laws as law
+use native.Mathlib.Omega.{arith}
+use borrow.Author.Rules.{rules}
+use mathlib.Core.Path.{◌≡◌, refl}
+use Prim.Native.Nat.{◌-◌, ◌≤◌}
+use lib.ListN.{length, take}
+use Rattle.words.specs.Writes.{writes}
+use Rattle.text.proofs.put_bytes.Given as goal
+
+abbrev pub invariant-loop-i : goal.invariant-loop-i
+invariant-loop-i l =
+    (l.i ≤ length l.src) × (length l.out ≡ length l.initial.out) × (l.out ≡ writes l.initial.out l.at (take l.i l.src))
+
+abbrev pub decreases-loop-i : goal.decreases-loop-i
+decreases-loop-i l = length l.src - l.i

@@ -1,0 +1,6 @@
+use Rattle.text.proofs.Laws as law
+use borrow.Author.Rules.{rules}
+use Rattle.text.proofs.put_u64.Goals as goal
+
+pub digits-requires : goal.digits-requires
+digits-requires c = search (rules, law.u64_room)

@@ -1,0 +1,6 @@
+use Rattle.text.proofs.Laws as law
+use borrow.Author.Rules.{rules}
+use Rattle.text.proofs.put_wide_field.Goals as goal
+
+pub returns : goal.returns
+returns c = law.field c.put_byte-at1.ensures c.put_wide.ensures
