@@ -1,0 +1,6 @@
+use Rattle.stream_events.proofs.Laws as law
+use borrow.Author.Rules.{rules}
+use Rattle.stream_events.proofs.LineState.fresh.Goals as goal
+
+pub returns : goal.returns
+returns c = (λ mem rows. law.fresh_state _ mem rows (c.fresh-host.ensures.0 mem rows), c.fresh-host.ensures.1)
