@@ -19,16 +19,14 @@ use export_roster::{Count, Key, Mask};
 use ids::{Ballot, Replica, Slot};
 use node::Node;
 
-#[unsafe(no_mangle)]
-pub extern "C" fn bodega_fresh(mem: &mut [u64], id: u8, population: u8, quorum: u8) -> PlainAnswered
+pub fn bodega_fresh(mem: &mut [u64], id: u8, population: u8, quorum: u8) -> PlainAnswered
     ensures { Begins id population quorum mem.old (fresh_of result) mem.new × GivesBack no_node result × (result.count ≡ 0) }
 {
     let fresh = Node::fresh(mem, Replica(id), population, quorum);
     export_plain::begun(fresh)
 }
 
-#[unsafe(no_mangle)]
-pub extern "C" fn bodega_guard(
+pub fn bodega_guard(
     node: Plain,
     mem: &mut [u64],
     area: &[u64],
@@ -43,8 +41,7 @@ pub extern "C" fn bodega_guard(
     export_plain::answered(node, a)
 }
 
-#[unsafe(no_mangle)]
-pub extern "C" fn bodega_prepared(
+pub fn bodega_prepared(
     node: Plain,
     mem: &[u64],
     area: &[u64],
@@ -57,8 +54,7 @@ pub extern "C" fn bodega_prepared(
     export_plain::answered(node, a)
 }
 
-#[unsafe(no_mangle)]
-pub extern "C" fn bodega_bars(
+pub fn bodega_bars(
     node: Plain,
     mem: &mut [u64],
     area: &[u64],
@@ -82,8 +78,7 @@ pub extern "C" fn bodega_bars(
     export_plain::answered(node, a)
 }
 
-#[unsafe(no_mangle)]
-pub extern "C" fn bodega_record(
+pub fn bodega_record(
     node: Plain,
     mem: &mut [u64],
     area: &[u64],
@@ -99,8 +94,7 @@ pub extern "C" fn bodega_record(
     export_plain::answered(node, a)
 }
 
-#[unsafe(no_mangle)]
-pub extern "C" fn bodega_heartbeat(
+pub fn bodega_heartbeat(
     node: Plain,
     mem: &mut [u64],
     area: &mut [u64],
@@ -136,8 +130,7 @@ pub extern "C" fn bodega_heartbeat(
     export_plain::answered(node, a)
 }
 
-#[unsafe(no_mangle)]
-pub extern "C" fn bodega_reply(
+pub fn bodega_reply(
     node: Plain,
     mem: &mut [u64],
     area: &mut [u64],
@@ -152,8 +145,7 @@ pub extern "C" fn bodega_reply(
     export_plain::answered(node, a)
 }
 
-#[unsafe(no_mangle)]
-pub extern "C" fn bodega_notice(
+pub fn bodega_notice(
     node: Plain,
     mem: &mut [u64],
     area: &mut [u64],
@@ -168,8 +160,7 @@ pub extern "C" fn bodega_notice(
     export_plain::answered(node, a)
 }
 
-#[unsafe(no_mangle)]
-pub extern "C" fn bodega_commit(
+pub fn bodega_commit(
     node: Plain,
     mem: &mut [u64],
     area: &mut [u64],
@@ -184,8 +175,7 @@ pub extern "C" fn bodega_commit(
     export_plain::answered(node, a)
 }
 
-#[unsafe(no_mangle)]
-pub extern "C" fn bodega_read(
+pub fn bodega_read(
     node: Plain,
     mem: &mut [u64],
     area: &mut [u64],
@@ -201,8 +191,7 @@ pub extern "C" fn bodega_read(
     export_plain::answered(node, a)
 }
 
-#[unsafe(no_mangle)]
-pub extern "C" fn bodega_release(
+pub fn bodega_release(
     node: Plain,
     mem: &mut [u64],
     area: &mut [u64],
@@ -215,16 +204,14 @@ pub extern "C" fn bodega_release(
     export_plain::answered(node, a)
 }
 
-#[unsafe(no_mangle)]
-pub extern "C" fn bodega_key(key: &[u8]) -> Key
+pub fn bodega_key(key: &[u8]) -> Key
     ensures { result ≡ key_of (read_key key.now) }
 {
     export_roster::key_to_inty(key)
 }
 
 // `set_responders` of a roster with no leader and default 0.
-#[unsafe(no_mangle)]
-pub extern "C" fn bodega_range(
+pub fn bodega_range(
     rows: &mut [u64],
     count: usize,
     population: u8,
@@ -238,24 +225,21 @@ pub extern "C" fn bodega_range(
 }
 
 // `set_full` of such a roster.
-#[unsafe(no_mangle)]
-pub extern "C" fn bodega_whole(rows: &mut [u64], count: usize, population: u8, mask: u64) -> Count
+pub fn bodega_whole(rows: &mut [u64], count: usize, population: u8, mask: u64) -> Count
     ensures { Counts (SetFull mask) population count rows.old result rows.new }
 {
     export_roster::set_full(rows, count, population, mask)
 }
 
 // `into_filtered` of such a roster.
-#[unsafe(no_mangle)]
-pub extern "C" fn bodega_drop(rows: &mut [u64], count: usize, population: u8, id: u8) -> Count
+pub fn bodega_drop(rows: &mut [u64], count: usize, population: u8, id: u8) -> Count
     ensures { Counts (IntoFiltered id) population count rows.old result rows.new }
 {
     export_roster::into_filtered(rows, count, population, id)
 }
 
 // `get_responders_by_key` of a roster with no leader.
-#[unsafe(no_mangle)]
-pub extern "C" fn bodega_lookup(rows: &[u64], count: usize, default: u64, key: &[u8]) -> Mask
+pub fn bodega_lookup(rows: &[u64], count: usize, default: u64, key: &[u8]) -> Mask
     ensures { result ≡ mask_of (lookup (plain count default) rows.now key.now) }
 {
     export_roster::get_responders_by_key(rows, count, default, key)
