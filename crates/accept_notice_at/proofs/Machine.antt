@@ -1,24 +1,22 @@
 -- `noticed` of the machine, by the instances.
 use mathlib.Core.Path.{◌≡◌, refl, sym, ap, ◌∙◌}
-use mathlib.Core.Bool.{Bool, true, false, not, ◌||◌, ◌&&◌}
-use mathlib.Core.List.{List, [], ◌∷◌, ◌++◌}
+use mathlib.Core.Bool.{Bool, true, false, not}
+use mathlib.Core.List.{List, [], ◌∷◌}
 use mathlib.Core.Option.{Option, none, some}
 use Prim.Native.Nat.{ℕ, zero, suc, ◌+◌, ◌-◌, ◌≤◌}
 use native.Mathlib.Omega.{arith}
 use native.Mathlib.Decide.{ℕ_discrete}
-use lib.Dec.{ltb, leb, eqb}
-use lib.ListN.{length, set, replicate, get_elem?}
+use lib.Dec.{eqb}
+use lib.ListN.{length, set, get_elem?}
 use lib.Seq.{set-set}
 use borrow.Author.Tests.{le-ltb, eq-eqb, ne_eqb}
 use Rattle.words.specs.Choice.{if◌then◌else◌, if_none◌then◌else◌}
-use Rattle.bitmap.specs.Bitmap.{count}
-use Rattle.items.specs.Item.{Item}
-use Rattle.bodega.specs.Replica.{Instance, Replica, Done, done, null_instance, new_book, end, inst_at, set_inst, pad, with_insts, with_replica_bk}
+use Rattle.bodega.specs.Replica.{Instance, Replica, done, inst_at, set_inst, pad, with_insts}
 use Rattle.bodega.specs.Localread.{release_held_read_reqs}
-use Rattle.bodega.specs.Messages.{take_notice, noticed}
+use Rattle.bodega.specs.Messages.{noticed}
 use Rattle.release_held_reads.specs.Release.{answers_of, emptied}
 use Rattle.release_held_reads.proofs.Machine.{put_back, release_is}
-use Rattle.accept_notice_at.specs.Notices.{noticed_book, with_notice, applies, quorate, noticed_inst, noticed_items, padded, Noticed, noticed_at}
+use Rattle.accept_notice_at.specs.Notices.{with_notice, applies, quorate, noticed_inst, noticed_items, padded, Noticed, noticed_at}
 
 elem_set : (l : List Instance) (k : ℕ) (i j : Instance) → get_elem? l k ≡ some i → get_elem? (set l k j) k ≡ some j
 elem_set [] k i j e = let z : ◌≡◌ {A = ℕ} 0 1 = cc in absurd (omega arith)

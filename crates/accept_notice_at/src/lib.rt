@@ -1,5 +1,6 @@
 // `handle_msg_accept_notice` at the slot of a notice. The slots stand in lent words of crate insts.
 #![tactic(auto)]
+
 ghost use Rattle.std.specs.Prelude.{◌≡◌, ◌&&◌, ◌||◌, List, ℕ, ◌+◌, ◌≤◌, ◌<◌, eqb, length};
 ghost use Rattle.std.proofs.Math.Option.{Option};
 ghost use Rattle.ids.specs.Leader.{leader_of};

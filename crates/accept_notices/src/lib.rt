@@ -2,6 +2,7 @@
 // `cleared` and `taken` do the work by value; `clear` and `take_notice` are lent the book; `emptied` and `noticed` lend
 // theirs, for callers that have a book by value.
 #![tactic(auto)]
+
 ghost use Rattle.std.specs.Prelude.{◌≡◌};
 ghost use Rattle.accept_notices.specs.Book.{fresh_book, cleared, Takes};
 

@@ -1,6 +1,7 @@
 // `advance_commit_bar`: from the commit bar on, slots below a peer's commit bar become Committed. The slots stand in
 // lent words of crate insts.
 #![tactic(auto)]
+
 ghost use Rattle.std.specs.Prelude.{◌≡◌, ◌+◌, ◌-◌, ◌≤◌, ◌<◌, min, length};
 ghost use Rattle.ids.specs.Limits.{top};
 ghost use Rattle.layout.specs.Layout.{slot_places, slot_words};

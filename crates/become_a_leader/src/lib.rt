@@ -1,6 +1,7 @@
 // `become_a_leader`: the open slots prepared anew, the reads held from the first to the last of them answered. The
 // slots stand in lent words of crate insts.
 #![tactic(auto)]
+
 ghost use Rattle.std.specs.Prelude.{◌≡◌, ℕ, ◌+◌, ◌-◌, ◌*◌, ◌≤◌, ◌<◌, length, drop};
 ghost use Rattle.std.proofs.Math.Option.{Option, none};
 ghost use Rattle.ids.specs.Leader.{leader_of};

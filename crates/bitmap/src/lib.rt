@@ -1,5 +1,6 @@
 // bitmap.rs: a set of replicas is a 64-bit mask, by value.
 #![tactic(auto)]
+
 ghost use Rattle.std.specs.Prelude.{◌≡◌};
 ghost use Rattle.bitmap.specs.Bitmap.{get, set_to, count, is_superset, fits};
 

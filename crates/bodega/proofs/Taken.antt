@@ -1,11 +1,11 @@
 -- A call that is taken meets none of its grounds; one that is refused is refused by the lowest.
-use Prim.Native.Nat.{ℕ, ◌≤◌, ◌<◌}
-use mathlib.Core.Bool.{Bool, true, false}
+use Prim.Native.Nat.{ℕ, ◌<◌}
+use mathlib.Core.Bool.{true}
 use mathlib.Core.List.{List, [], ◌∷◌, ◌++◌}
 use mathlib.Core.Option.{Option, none, some}
-use mathlib.Core.Path.{◌≡◌, refl, sym, ◌∙◌}
+use mathlib.Core.Path.{◌≡◌, refl}
 use native.Mathlib.Omega.{arith}
-use Rattle.roster_conf.specs.Ground.{Ground, Ascends, refusal}
+use Rattle.roster_conf.specs.Ground.{Ground, Ascends}
 use Rattle.roster_conf.proofs.Grounds.{zero_one, lowest, NoneApply, none_apply, none_before, Positive, not_0}
 use Rattle.bodega.specs.Replica.{Replica, Call, Heartbeat, Guard, Prepared, Record, Reply, Notice, CommitNotice, Bars, Read, Release, Done}
 use Rattle.bodega.specs.Grounds.{grounds}

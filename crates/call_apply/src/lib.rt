@@ -1,6 +1,7 @@
 // The ten calls as one: what a call carries by value is in `Call`; a roster's or a batch's rows, and the text of keys,
 // are lent beside it.
 #![tactic(auto)]
+
 ghost use Rattle.bodega.specs.Answers.{Answers};
 ghost use Rattle.node.specs.View.{view, given_of};
 ghost use Rattle.call_apply.specs.Call.{call_of, ready_for};

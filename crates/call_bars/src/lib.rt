@@ -1,6 +1,7 @@
 // The call *bars*: start, accept, commit and exec bar move, slots below exec become Executed and slots below start are
 // dropped.
 #![tactic(auto)]
+
 ghost use Rattle.std.specs.Prelude.{◌≡◌, ◌≤◌, length};
 ghost use Rattle.ids.specs.Limits.{top};
 ghost use Rattle.layout.specs.Layout.{slot_places, slot_words};

@@ -1,5 +1,6 @@
 // The call *commit*: a commit notice of the current ballot marks slots from the commit bar on Committed.
 #![tactic(auto)]
+
 ghost use Rattle.std.specs.Prelude.{◌≡◌};
 ghost use Rattle.bodega.specs.Replica.{CommitNotice};
 ghost use Rattle.bodega.specs.Answers.{Answers};

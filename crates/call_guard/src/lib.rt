@@ -1,5 +1,6 @@
 // The call *guard*: a peer's guard, and the reading bar worked out anew where it alters the peer's pair.
 #![tactic(auto)]
+
 ghost use Rattle.std.specs.Prelude.{◌≡◌};
 ghost use Rattle.bodega.specs.Replica.{Guard};
 ghost use Rattle.bodega.specs.Answers.{Answers};

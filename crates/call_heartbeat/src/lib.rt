@@ -1,5 +1,6 @@
 // The call *heartbeat*: a peer's ballot, its roster where one is attached, and its commit, exec and snap bar.
 #![tactic(auto)]
+
 ghost use Rattle.std.specs.Prelude.{◌≡◌, true, ◌&&◌, ◌||◌, List, ℕ, ◌+◌, ◌≤◌, ◌<◌, leb, length};
 ghost use Rattle.ids.specs.Leader.{leader_of};
 ghost use Rattle.items.specs.Item.{places};

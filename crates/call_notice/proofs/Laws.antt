@@ -16,7 +16,7 @@ use Rattle.ids.specs.Leader.{leader_of}
 use Rattle.ids.specs.declared.Ballot.{Ballot}
 use Rattle.ids.specs.Limits.{window}
 use Rattle.layout.specs.Layout.{slot_places, slot_words, roster_words, rows_at, slots_at, node_words}
-use Rattle.items.specs.Item.{Item, Lead, encode, places}
+use Rattle.items.specs.Item.{Lead, encode, places}
 use Rattle.items.specs.Area.{Put, put_item}
 use Rattle.items.proofs.Laws.{put_true, put_false, put_area, put_same}
 use Rattle.roster_conf.specs.Conf.{Conf, into_filtered}

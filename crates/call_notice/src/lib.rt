@@ -1,5 +1,6 @@
 // The call *notice*: a peer has accepted a slot. One of a higher ballot makes the replica give up its roles.
 #![tactic(auto)]
+
 ghost use Rattle.std.specs.Prelude.{◌≡◌, ◌&&◌, not, ◌≤◌, ◌<◌, eqb, length};
 ghost use Rattle.ids.specs.Leader.{leader_of};
 ghost use Rattle.ids.specs.Limits.{top};

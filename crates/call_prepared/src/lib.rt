@@ -1,5 +1,6 @@
 // The call *prepared*: the ballot is prepared.
 #![tactic(auto)]
+
 ghost use Rattle.std.specs.Prelude.{◌≡◌};
 ghost use Rattle.ids.specs.Leader.{leader_of};
 ghost use Rattle.bodega.specs.Replica.{Prepared};

@@ -1,5 +1,6 @@
 // The call *read*: request.rs's `treat_read_only_reqs`, for one read.
 #![tactic(auto)]
+
 ghost use Rattle.bodega.specs.Replica.{Read};
 ghost use Rattle.bodega.specs.Answers.{Answers};
 ghost use Rattle.node.specs.View.{view, ready, given_of};

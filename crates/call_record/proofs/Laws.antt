@@ -3,7 +3,7 @@ use mathlib.Core.Path.{◌≡◌, refl, sym, ap, ◌∙◌}
 use mathlib.Core.Bool.{Bool, true, false, not, ◌||◌}
 use mathlib.Core.List.{List, [], ◌++◌, append-nil}
 use mathlib.Core.Option.{Option, none, some}
-use Prim.Native.Nat.{ℕ, zero, ◌+◌, ◌-◌, ◌*◌, ◌%◌, ◌≤◌, ◌<◌}
+use Prim.Native.Nat.{ℕ, ◌+◌, ◌-◌, ◌%◌, ◌≤◌, ◌<◌}
 use native.Mathlib.Omega.{arith}
 use lib.Dec.{ltb, leb, eqb}
 use lib.ListN.{length, set, take, drop, replicate, get_elem?}
@@ -12,14 +12,13 @@ use Rattle.words.specs.Choice.{if◌then◌else◌, if_none◌then◌else◌}
 use Rattle.words.specs.Part.{part, splice, Untouched, length_part, part_before}
 use Rattle.ids.specs.Leader.{leader_of}
 use Rattle.ids.specs.Limits.{keys, window, batch}
-use Rattle.layout.specs.Layout.{cell_row, slot_places, batch_words, slot_words, written_words, slots_at, written_at, node_words}
+use Rattle.layout.specs.Layout.{slot_places, batch_words, slot_words, written_words, slots_at, written_at, node_words}
 use Rattle.roster_conf.specs.Edits.{view as roster_of}
 use Rattle.inst_cell.specs.Cell.{Notices, Short, book_of as noticesOf}
 use Rattle.inst_cell.specs.declared.NoticeBook.{NoticeBook}
 use Rattle.accept_notices.specs.Book.{fresh_book}
 use Rattle.inst_cell.specs.declared.ReplicaBk.{ReplicaBk}
 use Rattle.inst_cell.specs.declared.ReplicaBk.TheVariants.{None, Some}
-use Rattle.inst_reqs.specs.Batch.{requests_of}
 use Rattle.highest_slot.specs.Written.{written_of}
 use Rattle.bodega.specs.Replica.{Replica, Request, ReadReq, Highest, Instance, Record, Accepting, new_book, null_instance, is_open, is_leader, inst_at, set_inst, pad, with_insts, with_highest_slot}
 use Rattle.bodega.specs.Localread.{refresh_highest_slot}

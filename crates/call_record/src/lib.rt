@@ -1,6 +1,7 @@
 // The call *record*: a batch into a slot at the current ballot; null slots before it where they are not held, and the
 // keys that it writes.
 #![tactic(auto)]
+
 ghost use Rattle.std.specs.Prelude.{◌≡◌, true, ◌+◌, ◌≤◌, ◌<◌, length};
 ghost use Rattle.words.specs.Choice.{if◌then◌else◌};
 ghost use Rattle.ids.specs.Limits.{top};

@@ -1,28 +1,26 @@
 -- *release*: its grounds, and the held reads answered.
-use mathlib.Core.Path.{◌≡◌, refl, sym, ap, ◌∙◌}
-use mathlib.Core.Bool.{Bool, true, false, not, ◌||◌}
+use mathlib.Core.Path.{◌≡◌, sym, ap, ◌∙◌}
+use mathlib.Core.Bool.{Bool, false, not, ◌||◌}
 use mathlib.Core.List.{List, []}
-use mathlib.Core.Option.{Option, none, some}
 use Prim.Native.Nat.{ℕ, ◌+◌, ◌-◌, ◌/◌, ◌%◌, ◌≤◌, ◌<◌}
 use native.Mathlib.Decide.{dec_lt}
 use native.Mathlib.Omega.{arith}
 use lib.Dec.{ltb, leb}
 use lib.ListN.{length, take, drop}
 use borrow.Author.Tests.{lt-ltb, le-ltb, le-leb, lt-leb, ltb-false, leb-false, not-false}
-use Rattle.words.specs.Choice.{if◌then◌else◌, if_none◌then◌else◌}
 use Rattle.words.specs.Part.{part, splice, length_part}
 use Rattle.words.proofs.Tests.{or_both}
 use Rattle.ids.specs.Leader.{leader_of}
 use Rattle.layout.specs.Layout.{slot_places, held_places, slot_words, slots_at, node_words}
 use Rattle.items.specs.Item.{Item, places}
 use Rattle.roster_conf.specs.Edits.{view as roster_of}
-use Rattle.roster_conf.specs.Ground.{Ground, ◌when◌or◌}
+use Rattle.roster_conf.specs.Ground.{◌when◌or◌}
 use Rattle.bodega.specs.Replica as machine
 use Rattle.bodega.specs.Grounds.{grounds, is_held}
 use Rattle.bodega.specs.Step.{effect}
 use Rattle.bodega.specs.Answers.{Answers}
-use Rattle.insts.specs.Slots.{short_at, batch_at, inst_in, inst_of, Puts}
-use Rattle.release_held_reads.specs.Release.{answer_to, holding_of, answers_of, emptied, Releases}
+use Rattle.insts.specs.Slots.{inst_in}
+use Rattle.release_held_reads.specs.Release.{holding_of, answers_of, emptied, Releases}
 use Rattle.release_held_reads.proofs.Laws.{length_answers}
 use Rattle.release_held_reads.proofs.Machine.{release_is, emptied_is}
 use Rattle.node.specs.declared.Node.{Node}

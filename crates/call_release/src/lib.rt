@@ -1,5 +1,6 @@
 // The call *release*: the reads that a slot holds are answered, and its queue is emptied.
 #![tactic(auto)]
+
 ghost use Rattle.std.specs.Prelude.{◌≡◌};
 ghost use Rattle.bodega.specs.Replica.{Release};
 ghost use Rattle.bodega.specs.Answers.{Answers};

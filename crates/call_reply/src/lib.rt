@@ -1,6 +1,7 @@
 // The call *reply*: a peer's accept reply. Accepts that the peer seems to have missed are sent again, its ack is taken,
 // and a slot whose acks suffice commits.
 #![tactic(auto)]
+
 ghost use Rattle.std.specs.Prelude.{◌≡◌, ◌+◌, ◌*◌, ◌%◌, ◌≤◌, ◌<◌, length};
 ghost use Rattle.words.specs.Part.{part};
 ghost use Rattle.words.specs.Writes.{writes};

@@ -1,5 +1,6 @@
 // `commit_condition` of localread.rs: whether a slot's acks let its batch commit.
 #![tactic(auto)]
+
 ghost use Rattle.std.specs.Prelude.{◌≡◌, ◌<◌, ◌≤◌, length};
 ghost use Rattle.layout.specs.Layout.{request_places, batch_words, roster_words};
 ghost use Rattle.key_words.specs.Key.{bytes_of};

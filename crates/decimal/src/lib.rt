@@ -1,5 +1,6 @@
 // Numbers in decimal, most significant digit first.
 #![tactic(auto)]
+
 ghost use Rattle.std.specs.Prelude.{◌≡◌, ◌+◌, ◌<◌, ◌≤◌, length};
 ghost use Rattle.words.specs.Writes.{writes};
 ghost use Rattle.inty.specs.Value.{value_of};

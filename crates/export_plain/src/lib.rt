@@ -1,5 +1,6 @@
 // Nodes, rosters and answers as plain structs, for functions that are exported: one takes and gives no enum.
 #![tactic(auto)]
+
 ghost use Rattle.std.specs.Prelude.{◌≡◌};
 ghost use Rattle.export_plain.specs.Plain.{leader_at, has_leader, leader_in, node_of, plain_of, shown_of, answered_of, begun_of, no_node, conf_of};
 

@@ -2,7 +2,7 @@
 -- 0 makes another.
 use mathlib.Core.Path.{◌≡◌, refl, sym, ap, ◌∙◌}
 use mathlib.Core.Bool.{Bool, true, false, ◌&&◌}
-use mathlib.Core.List.{List, ◌∷◌, []}
+use mathlib.Core.List.{List, []}
 use mathlib.Core.Option.{Option, none, some}
 use Prim.Native.Nat.{ℕ, ◌-◌, ◌^◌, ◌<◌}
 use native.Mathlib.Omega.{arith}
@@ -26,7 +26,7 @@ use Rattle.roster_conf.specs.declared.Responders.TheVariants.{Mask as Found, NoR
 use Rattle.roster_conf.specs.Conf.{Conf, set_responders, into_filtered}
 use Rattle.roster_conf.specs.Ground.{refusal}
 use Rattle.roster_conf.proofs.Grounds.{not_0, edit_positive}
-use Rattle.roster_conf.specs.Edit.{Edit, SetLeader, SetResponders, SetFull, IntoFiltered, ResetFull, between, edit, grounds, EditResult, refused, taken, edit_result}
+use Rattle.roster_conf.specs.Edit.{Edit, SetResponders, SetFull, IntoFiltered, between, edit, grounds, EditResult, refused, taken, edit_result}
 use Rattle.roster_conf.specs.Edits.{view, holds_rows, in_range, due, Gives, Edits, lookup}
 use Rattle.export_roster.specs.declared.Key.{Key}
 use Rattle.export_roster.specs.declared.Count.{Count}

@@ -1,6 +1,7 @@
 // Key reading, roster edits and lookup over words that the caller lends, for functions that are exported: an enum's
 // answer is a number.
 #![tactic(auto)]
+
 ghost use Rattle.std.specs.Prelude.{◌≡◌};
 ghost use Rattle.keys.specs.Read.{read_key};
 ghost use Rattle.roster_conf.specs.Edit.{SetResponders, SetFull, IntoFiltered};

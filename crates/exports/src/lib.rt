@@ -1,5 +1,6 @@
 // For Rust and C, over plain structs and lent words: the calls, key reading, and the edits and the lookup of a roster.
 #![tactic(auto)]
+
 ghost use Rattle.std.specs.Prelude.{◌≡◌, ◌&&◌};
 ghost use Rattle.bodega.specs.Replica.{Guard, Prepared, Bars, Record, Heartbeat, Reply, Notice, CommitNotice, Read, Release};
 ghost use Rattle.req_batch.specs.Given.{given as batch_of};
@@ -41,12 +42,7 @@ pub fn bodega_guard(
     export_plain::answered(node, a)
 }
 
-pub fn bodega_prepared(
-    node: Plain,
-    mem: &[u64],
-    area: &[u64],
-    ballot: u64,
-) -> PlainAnswered
+pub fn bodega_prepared(node: Plain, mem: &[u64], area: &[u64], ballot: u64) -> PlainAnswered
     ensures { Answers ready view (Prepared ballot) (node_of node) mem.now area.now (given result) mem.now area.now × GivesBack node result }
 {
     let n = export_plain::node_of(node);
@@ -191,12 +187,7 @@ pub fn bodega_read(
     export_plain::answered(node, a)
 }
 
-pub fn bodega_release(
-    node: Plain,
-    mem: &mut [u64],
-    area: &mut [u64],
-    slot: u64,
-) -> PlainAnswered
+pub fn bodega_release(node: Plain, mem: &mut [u64], area: &mut [u64], slot: u64) -> PlainAnswered
     ensures { Answers ready view (Release slot) (node_of node) mem.old area.old (given result) mem.new area.new × GivesBack node result }
 {
     let n = export_plain::node_of(node);

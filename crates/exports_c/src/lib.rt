@@ -1,5 +1,6 @@
 // The archive that Rust and C link: the functions of crate exports under their C names, each with its clauses again.
 #![tactic(auto)]
+
 ghost use Rattle.std.specs.Prelude.{◌≡◌, ◌&&◌};
 ghost use Rattle.bodega.specs.Replica.{Guard, Prepared, Bars, Record, Heartbeat, Reply, Notice, CommitNotice, Read, Release};
 ghost use Rattle.req_batch.specs.Given.{given as batch_of};
@@ -96,7 +97,9 @@ pub extern "C" fn bodega_heartbeat(
 ) -> PlainAnswered
     ensures { Answers (λ n m. ready n m && fitting attached roster.ranges rows.now) view (Heartbeat peer ballot (carried attached (roster_of (conf_of roster) rows.now)) commit exec snap) (node_of node) mem.old area.old (given result) mem.new area.new × GivesBack node result }
 {
-    exports::bodega_heartbeat(node, mem, area, peer, ballot, attached, roster, rows, commit, exec, snap)
+    exports::bodega_heartbeat(
+        node, mem, area, peer, ballot, attached, roster, rows, commit, exec, snap,
+    )
 }
 
 #[unsafe(no_mangle)]

@@ -1,6 +1,7 @@
 // `heard_new_conf`: a roster adopted at a ballot, and the step-up where it names the replica leader; for the calls that
 // adopt one.
 #![tactic(auto)]
+
 ghost use Rattle.std.specs.Prelude.{◌≡◌, true, List, ℕ, ◌≤◌, ◌<◌, length, set};
 ghost use Rattle.words.specs.Part.{Untouched};
 ghost use Rattle.ids.specs.Limits.{replicas};

@@ -1,5 +1,6 @@
 // `highest_slot`: the written keys, in lent words: how many, and then rows of slot, key.
 #![tactic(auto)]
+
 ghost use Rattle.std.specs.Prelude.{◌≡◌, ◌≤◌, max, length};
 ghost use Rattle.layout.specs.Layout.{written_places, written_words};
 ghost use Rattle.key_words.specs.Key.{bytes_of};

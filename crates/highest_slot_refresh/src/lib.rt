@@ -1,5 +1,6 @@
 // localread.rs: `refresh_highest_slot`, on the batch of a slot and the written keys, both in lent words.
 #![tactic(auto)]
+
 ghost use Rattle.std.specs.Prelude.{◌≡◌, [], ◌∷◌, ℕ, ◌<◌, ◌≤◌, ltb, length};
 ghost use Rattle.words.specs.Tab.{tab};
 ghost use Rattle.ids.specs.Limits.{keys};

@@ -12,8 +12,8 @@ use lib.ListN.{length}
 use borrow.Author.Tests.{ne_eqb}
 use Rattle.words.specs.Choice.{if◌then◌else◌}
 use Rattle.items.specs.Item.{places}
-use Rattle.bodega.specs.Replica.{Replica, fresh, Call, Guard, Done}
-use Rattle.bodega.specs.Step.{Step, Refused, Taken, step, step_by, after, is_taken, all_grounds, refusal_of, effect}
+use Rattle.bodega.specs.Replica.{Replica, Call, Guard, Done}
+use Rattle.bodega.specs.Step.{Step, Refused, step, step_by, after, is_taken, refusal_of, effect}
 use Rattle.bodega.specs.Answers.{Given, due, Follows, Answers}
 use Rattle.bodega.proofs.Taken.{refused_not_0}
 use Rattle.history.specs.Table.{Table, Fed, fresh_table, feed, feed_all}

@@ -1,5 +1,6 @@
 // request.rs and localread.rs: which condition settles a read at a replica, and the answer that follows from it.
 #![tactic(auto)]
+
 ghost use Rattle.std.specs.Prelude.{◌≡◌, true, false, List, [], ◌∷◌, ℕ, ◌%◌, ◌≤◌, length};
 ghost use Rattle.layout.specs.Layout.{slots_at, slot_words, written_at, written_words, slot_places};
 ghost use Rattle.words.specs.Choice.{if_none◌then◌else◌};

@@ -1,6 +1,7 @@
 // The short part of an instance, in eight lent words: ballot, status, acks, notice book. A slot's batch and held reads
 // stand elsewhere.
 #![tactic(auto)]
+
 ghost use Rattle.std.specs.Prelude.{◌≡◌, ℕ, ◌+◌, ◌*◌, ◌≤◌, ltb, length, set};
 ghost use Rattle.words.specs.Writes.{writes};
 ghost use Rattle.layout.specs.Layout.{cell_row};

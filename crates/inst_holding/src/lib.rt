@@ -1,5 +1,6 @@
 // The reads that a slot holds, in lent words: how many, and then rows of client, request, key.
 #![tactic(auto)]
+
 ghost use Rattle.std.specs.Prelude.{◌≡◌, [], ◌+◌, ◌*◌, ◌<◌, ◌≤◌, length, set};
 ghost use Rattle.words.specs.Writes.{writes};
 ghost use Rattle.layout.specs.Layout.{held_row, held_places, held_words};

@@ -1,6 +1,7 @@
 // The batch of a slot, in lent words: how many requests, and then rows of client, request, kind, value, key. A kind of
 // 1 is a Put.
 #![tactic(auto)]
+
 ghost use Rattle.std.specs.Prelude.{◌≡◌, [], ◌+◌, ◌*◌, ◌<◌, ◌≤◌, length, set};
 ghost use Rattle.words.specs.Tab.{tab};
 ghost use Rattle.words.specs.Writes.{writes};

@@ -1,5 +1,6 @@
 // The slots that a replica holds, in lent words: cells, batches and held reads. Slot s has place s % PLACES.
 #![tactic(auto)]
+
 ghost use Rattle.std.specs.Prelude.{◌≡◌, [], ◌∷◌, ◌++◌, ◌-◌, ◌≤◌, ◌<◌, length, replicate};
 ghost use Rattle.bodega.specs.Replica.{null_instance, Instance, is_open};
 ghost use Rattle.bodega.specs.Localread.{last_put};

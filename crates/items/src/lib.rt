@@ -1,5 +1,6 @@
 // The items of a call, in a lent answer area: six words each, the kind first.
 #![tactic(auto)]
+
 ghost use Rattle.std.specs.Prelude.{◌≡◌, ◌*◌, ◌+◌, ◌%◌, ◌≤◌, length};
 ghost use Rattle.items.specs.Item.{item_of, item_words};
 ghost use Rattle.items.specs.Area.{Put, put_item, item_at, got_of, six_of, same_words, named, decode};

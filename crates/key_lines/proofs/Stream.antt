@@ -6,7 +6,7 @@ use Prim.Native.Nat.{ℕ, ◌<◌}
 use lib.ListN.{length}
 use borrow.Author.Tests.{lt-ltb}
 use Rattle.stream_pieces.specs.Pieces.{Begun, none_begun, concat}
-use Rattle.stream_pieces.specs.Streamed.{LineOutput, streamed, total, piecewise, LongAlike}
+use Rattle.stream_pieces.specs.Streamed.{streamed, total, piecewise, LongAlike}
 use Rattle.stream_pieces.proofs.Stream as pieces
 use Rattle.key_lines.specs.Lines.{line_read, answer, line_output}
 

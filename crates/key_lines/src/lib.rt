@@ -1,6 +1,7 @@
 // Keys that come in lines, one to a line, and an answer line to each: the key's number in decimal, or `-` where the key
 // does not read. A line of more than 1,024 bytes is not kept, and is answered `-`.
 #![tactic(auto)]
+
 ghost use Rattle.std.specs.Prelude.{◌≡◌, [], ◌+◌, ◌*◌, ◌≤◌, length, drop};
 ghost use Rattle.words.specs.Writes.{writes};
 ghost use Rattle.keys.specs.Shown.{shown};

@@ -3,6 +3,7 @@
 // last line without a newline counts if it has a byte. The program ends when the input does, when a read fails, or when
 // a write fails.
 #![tactic(auto)]
+
 ghost use Rattle.std.specs.Prelude.{◌*◌, ◌≤◌, length};
 
 use stream_pieces::Carry;

@@ -1,5 +1,6 @@
 // A key of at most 48 bytes as seven words: its length, and its bytes, eight to a word, 0 past its end.
 #![tactic(auto)]
+
 ghost use Rattle.std.specs.Prelude.{◌≡◌, true, ◌+◌, ◌<◌, ◌≤◌, ◌%◌, length, get_or, take};
 ghost use Rattle.words.specs.Writes.{writes};
 ghost use Rattle.keys.specs.Same.{same_bytes};

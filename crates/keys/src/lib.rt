@@ -1,5 +1,6 @@
 // `key_to_inty` of keyrange.rs: the number that a key reads as.
 #![tactic(auto)]
+
 ghost use Rattle.std.specs.Prelude.{◌≡◌, ◌≤◌, length, drop};
 ghost use Rattle.keys.specs.Read.{is_k, is_digit, strip, sign, number, overflow, read_key};
 ghost use Rattle.keys.specs.Shown.{shown};

@@ -1,5 +1,6 @@
 // What is written for a line: text in lent bytes. A writer returns where its text ends.
 #![tactic(auto)]
+
 ghost use Rattle.std.specs.Prelude.{◌≡◌, [], ◌∷◌, ◌+◌, ◌*◌, ◌<◌, ◌≤◌, length};
 ghost use Rattle.words.specs.Text.{bytes};
 ghost use Rattle.words.specs.Tab.{words_from};

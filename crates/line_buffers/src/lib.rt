@@ -1,6 +1,7 @@
 // The buffers that an event line is answered in, for a program to lend: of each only the length is said, so that a
 // proof over it does not go through the array.
 #![tactic(auto)]
+
 ghost use Rattle.std.specs.Prelude.{◌≡◌, length};
 ghost use Rattle.layout.specs.Layout.{roster_words, node_words};
 

@@ -1,8 +1,8 @@
 -- A line's fields as a call's arguments.
 use mathlib.Core.Path.{◌≡◌, refl, sym, ap, subst, ◌∙◌, fun_ext}
 use mathlib.Core.Bool.{Bool, true, false, not, ◌&&◌, and-true, and-false, true≢false}
-use mathlib.Core.List.{List, [], ◌∷◌, ◌++◌}
-use mathlib.Core.Option.{Option, none, some}
+use mathlib.Core.List.{List, [], ◌∷◌}
+use mathlib.Core.Option.{Option, some}
 use Prim.Native.Nat.{ℕ, ◌<◌, ◌≤◌}
 use native.Mathlib.Omega.{arith}
 use lib.Dec.{leb, ltb, eqb}
@@ -13,7 +13,7 @@ use Rattle.words.specs.Choice.{if◌then◌else◌}
 use Rattle.items.specs.Item.{places}
 use Rattle.ids.specs.declared.Replica.{Replica}
 use Rattle.roster_conf.specs.declared.RespondersConf.{RespondersConf}
-use Rattle.roster_conf.specs.Edits.{view as roster_of, holds_rows}
+use Rattle.roster_conf.specs.Edits.{holds_rows}
 use Rattle.roster_conf.specs.Conf.{Conf}
 use Rattle.bodega.specs.Replica as machine
 use Rattle.bodega.specs.Replica.{Call, Heartbeat, Guard, Reply, Notice, CommitNotice}
@@ -35,7 +35,7 @@ use Rattle.line_fields.specs.declared.NumberAt.{NumberAt}
 use Rattle.line_fields.proofs.Laws.{all_read, none_left_lem, number_before}
 use Rattle.line_reader.specs.declared.NumbersField.{NumbersField}
 use Rattle.line_reader.specs.Takes.{ReadsNumbersField}
-use Rattle.call_heartbeat.specs.Heartbeat.{carried, fitting}
+use Rattle.call_heartbeat.specs.Heartbeat.{fitting}
 use Rattle.line_kind.specs.declared.CallKind.{CallKind}
 use Rattle.line_kind.specs.declared.CallKind.TheVariants as kinds
 use Rattle.line_host.specs.Line.{is_heard, is_read, is_call, call_of, call_by}

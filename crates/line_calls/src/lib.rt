@@ -1,6 +1,7 @@
 // The lines of the calls: a line's fields, from a position on, are the call's arguments. A line whose fields are not
 // well-formed is refused 1.
 #![tactic(auto)]
+
 ghost use Rattle.std.specs.Prelude.{◌≡◌, true, false, List, ℕ, ◌≤◌, ◌<◌, length, get_or};
 ghost use Rattle.line_kind.specs.declared.CallKind.TheVariants.{Read};
 ghost use Rattle.line_fields.specs.Split.{fields_from};

@@ -7,7 +7,7 @@ use native.Mathlib.Omega.{arith}
 use native.Mathlib.Decide.{dec_lt}
 use lib.Dec.{leb, ltb, eqb}
 use lib.ListN.{length, get_or}
-use borrow.Author.Tests.{le-leb, lt-leb, lt-ltb, le-ltb, leb-true, ltb-true, ltb-false, eq-eqb, ne_eqb, not-true, not-false}
+use borrow.Author.Tests.{le-leb, leb-true, ltb-true, eq-eqb, ne_eqb, not-true, not-false}
 use Rattle.words.specs.Text.{Bytes}
 use Rattle.words.specs.Choice.{if◌then◌else◌}
 use Rattle.words.proofs.Tests.{and_both}
@@ -24,10 +24,9 @@ use Rattle.roster_conf.specs.declared.Edited.{Edited}
 use Rattle.roster_conf.specs.declared.Edited.TheVariants as edited
 use Rattle.roster_show.specs.declared.Shown.{Shown}
 use Rattle.roster_show.specs.declared.Shown.TheVariants as shown
-use Rattle.roster_conf.specs.Edit.{Edit, SetLeader, SetResponders, SetFull, IntoFiltered, ResetFull, EditResult, grounds, edit_result, refused}
+use Rattle.roster_conf.specs.Edit.{Edit, SetLeader, SetResponders, IntoFiltered, EditResult, grounds, edit_result, refused}
 use Rattle.roster_conf.specs.Edits.{Edits, Gives, due, view, holds_rows, in_range}
 use Rattle.roster_show.specs.Show.{Listing, listing}
-use Rattle.bodega.specs.Replica.{fresh}
 use Rattle.node.specs.declared.Node.{Node}
 use Rattle.node.specs.declared.Answered.{Answered}
 use Rattle.node.specs.declared.Fresh.{Fresh}
@@ -40,7 +39,7 @@ use Rattle.line_host.specs.Line.{is_range, is_edit, edit_of}
 use Rattle.line_host.specs.Follows.{EditsLine, as_byte}
 use Rattle.line_host.proofs.Laws.{not_both, some_left}
 use Rattle.line_draft.specs.declared.RangeFields.{RangeFields}
-use Rattle.line_draft.specs.Drafts.{ReadsRange, ShowsLine, Refuses, BeginsBy, BeginsLine}
+use Rattle.line_draft.specs.Drafts.{ReadsRange, ShowsLine, BeginsBy, BeginsLine}
 
 -- ---- a replica number that no byte has
 

@@ -1,6 +1,7 @@
 // The lines of the node and of the draft. Where no node is made, a draft's line is refused 2 like one for a population
 // that is none.
 #![tactic(auto)]
+
 ghost use Rattle.std.specs.Prelude.{◌≡◌, false, ◌≤◌, length};
 ghost use Rattle.layout.specs.Layout.{node_words};
 ghost use Rattle.line_kind.specs.declared.EditKind.TheVariants.{Lead, Range, Whole, Drop, Reset};

@@ -35,7 +35,7 @@ use Rattle.bodega.proofs.Taken.{refused_not_0}
 use Rattle.node.specs.declared.Node.{Node}
 use Rattle.node.specs.declared.Answered as code-answered
 use Rattle.node.specs.View.{size, view, ready, given_of, in_range as inRangeOf}
-use Rattle.node.proofs.Calls.{Ready, is_ready}
+use Rattle.node.proofs.Calls.{is_ready}
 use Rattle.line_fields.specs.Split.{fields_from}
 use Rattle.line_kind.specs.Kind.{kind_of}
 use Rattle.line_fields.specs.Reads.{between, ReadsField}
@@ -45,15 +45,15 @@ use Rattle.line_fields.proofs.Laws.{from_start}
 use Rattle.line_host.specs.declared.Host as code
 use Rattle.line_host.specs.declared.LineDone.{LineDone}
 use Rattle.line_host.specs.Line.{Line, NodeLine, EditLine, ShowLine, HeardLine, CallLine, only, line_by, line_of}
-use Rattle.line_host.specs.Host.{Host, LineResult, refused_line, at_host, first_line, line_at, answer_line, text_of}
+use Rattle.line_host.specs.Host.{Host, LineResult, refused_line, first_line, line_at, answer_line, text_of}
 use Rattle.line_host.specs.Host as lines
-use Rattle.line_host.specs.Follows.{host_of, sound, LineRefuses, LineTakes, LineFollowsBy, LineFollows, result_by, AnswersLine, EditsLine}
+use Rattle.line_host.specs.Follows.{host_of, sound, LineFollowsBy, LineFollows, result_by, AnswersLine, EditsLine}
 use Rattle.line_draft.specs.Drafts.{ShowsLine, Refuses, BeginsLine, BeginsBy}
 use Rattle.line_answer.specs.Text.{refused_text}
 use Rattle.text.specs.Wrote.{Wrote}
 use Rattle.line_answer.specs.Wrote.{Answered}
 use Rattle.line_answer.proofs.Items.{holds}
-use Rattle.words.specs.Writes.{writes, length_writes}
+use Rattle.words.specs.Writes.{length_writes}
 use Rattle.layout.specs.Layout.{roster_words, node_words}
 use Rattle.line_event.specs.Ways as ways
 use Rattle.line_event.specs.Event.{whole, fit, due_in, due as due-line, AnswersEvent}

@@ -1,5 +1,6 @@
 // An event line: what it does to the host, and the text that answers it.
 #![tactic(auto)]
+
 ghost use Rattle.std.specs.Prelude.{◌≡◌, true, ◌≤◌, length};
 ghost use Rattle.words.specs.Choice.{if◌then◌else◌};
 ghost use Rattle.line_fields.specs.Split.{fields_from};

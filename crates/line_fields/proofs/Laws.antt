@@ -1,6 +1,6 @@
 -- The fields that are left, by a byte and by a field.
 use mathlib.Core.Path.{◌≡◌, refl, sym, ap, ◌∙◌}
-use mathlib.Core.Bool.{Bool, true, false, ◌&&◌, ◌||◌, not}
+use mathlib.Core.Bool.{Bool, true, false, ◌&&◌}
 use mathlib.Core.List.{List, [], ◌∷◌, ◌++◌, append_assoc, append-nil}
 use Prim.Native.Nat.compare
 use Prim.Native.Nat.{ℕ, zero, suc, ◌+◌, ◌-◌, ◌*◌, ◌^◌, ◌≤◌, ◌<◌}
@@ -16,7 +16,6 @@ use Rattle.words.specs.Text.{Bytes}
 use Rattle.words.specs.Choice.{if◌then◌else◌}
 use Rattle.line_fields.specs.declared.Field.{Field}
 use Rattle.line_fields.specs.declared.NumberAt.{NumberAt}
-use Rattle.line_fields.specs.declared.NumbersAt.{NumbersAt}
 use Rattle.line_fields.specs.declared.OptionalAt.{OptionalAt}
 use Rattle.line_fields.specs.Split.{on_first, fields_of, fields_from}
 use Rattle.line_fields.specs.Number.{is_digit, all_digits, value_from, value_of, has_byte, is_number, all_numbers, numbers, number_at}

@@ -1,5 +1,6 @@
 // The fields of a line, parted by commas: read by a position in the line.
 #![tactic(auto)]
+
 ghost use Rattle.std.specs.Prelude.{◌≡◌, true, false, ◌+◌, ◌*◌, ◌^◌, ◌≤◌, ◌<◌, ltb, length};
 ghost use Rattle.line_fields.specs.Split.{fields_from};
 ghost use Rattle.line_fields.specs.Number.{is_digit};

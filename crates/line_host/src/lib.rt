@@ -1,6 +1,7 @@
 // The host of the event program: the node and the draft. The node's buffer and the draft's rows are lent. Before a node
 // line is accepted the node is one that no call made.
 #![tactic(auto)]
+
 ghost use Rattle.std.specs.Prelude.{◌≡◌, List, false, ℕ, ◌≤◌};
 ghost use Rattle.node.specs.View.{ready};
 ghost use Rattle.line_host.specs.Host.{fresh_host};

@@ -1,5 +1,6 @@
 // The kinds of event lines, told by their names.
 #![tactic(auto)]
+
 ghost use Rattle.std.specs.Prelude.{◌≡◌, ◌≤◌, length};
 ghost use Rattle.line_kind.specs.Kind.{kind_of, word_of, kind_by};
 

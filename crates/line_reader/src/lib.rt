@@ -1,6 +1,7 @@
 // A reader that keeps its line and its position. Each function over it is thin, with the work in `fields`; those with
 // plain parameters stand above it, and read all fields that they are asked for through one reader.
 #![tactic(auto)]
+
 ghost use Rattle.std.specs.Prelude.{◌≡◌, ◌≤◌, length};
 ghost use Rattle.line_fields.specs.Reads.{ReadsField, ReadsNumbersAt, ReadsNumbers};
 ghost use Rattle.line_reader.specs.Takes.{TakesField, TakesNumber, TakesNumbers, TakesOptional, ReadsFieldsNumber, ReadsNumbersField, ReadsRequest};

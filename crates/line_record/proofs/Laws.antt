@@ -3,11 +3,11 @@ use mathlib.Core.Path.{◌≡◌, refl, sym, ap, ◌∙◌}
 use mathlib.Core.Bool.{Bool, true, false, ◌&&◌, ◌||◌, not, true≢false, and-false}
 use mathlib.Core.List.{List, [], ◌∷◌, ◌++◌, append_assoc, append-nil}
 use mathlib.Core.Logic.{inl}
-use Prim.Native.Nat.{ℕ, ◌+◌, ◌-◌, ◌*◌, ◌/◌, ◌^◌, ◌≤◌, ◌<◌}
+use Prim.Native.Nat.{ℕ, ◌+◌, ◌-◌, ◌*◌, ◌/◌, ◌≤◌, ◌<◌}
 use native.Mathlib.Nat.{add-zero, zero-add, sub-zero}
 use native.Mathlib.Decide.{dec_lt}
 use native.Mathlib.Omega.{arith}
-use lib.Dec.{leb, eqb}
+use lib.Dec.{eqb}
 use lib.ListN.{length, get_or, take, drop}
 use lib.Seq.{get_or-take, length-take-le}
 use borrow.Author.Tests.{le-leb, eqb-true, not-true, not-false}
@@ -26,7 +26,7 @@ use Rattle.line_fields.specs.Reads.{none_left, between, ReadsField, ReadsNumberA
 use Rattle.line_fields.proofs.Laws.{from_past, some_left, none_number, number_before}
 use Rattle.line_reader.specs.declared.RequestFields.{RequestFields}
 use Rattle.line_reader.specs.Takes.{ReadsRequest}
-use Rattle.bodega.specs.Replica.{Request, Command, Put, Get, Call, Record}
+use Rattle.bodega.specs.Replica.{Request, Put, Get, Call, Record}
 use Rattle.inst_reqs.specs.Batch.{command_at}
 use Rattle.req_batch.specs.Given.{given_from, given_at, given}
 use Rattle.bodega.specs.Answers.{Answers}

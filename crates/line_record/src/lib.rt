@@ -1,5 +1,6 @@
 // The record line of the event program: slot, ballot, and a request for each group of four fields.
 #![tactic(auto)]
+
 ghost use Rattle.std.specs.Prelude.{◌≡◌, false, ◌+◌, ◌*◌, ◌≤◌, length};
 ghost use Rattle.words.specs.Writes.{writes};
 ghost use Rattle.line_fields.specs.Split.{fields_from};

@@ -1,6 +1,7 @@
 // A replica's core: what is short goes by value, the tables stand in one lent buffer of words that counts as part of
 // the node.
 #![tactic(auto)]
+
 ghost use Rattle.std.specs.Prelude.{◌≡◌, ◌&&◌, List, ℕ, ◌≤◌, leb, length, replicate};
 ghost use Rattle.node.specs.View.{size, in_range, bars_in_range, sound, view, ready, leads_it};
 ghost use Rattle.ids.specs.Leader.{leader_of};

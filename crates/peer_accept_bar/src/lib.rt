@@ -1,6 +1,7 @@
 // `peer_accept_bar` of conflease.rs: a guard's number and bar for each replica, in lent words, and the reading bar
 // worked out from them.
 #![tactic(auto)]
+
 ghost use Rattle.std.specs.Prelude.{◌≡◌, map, ◌-◌, ◌≤◌, ◌<◌, length, get_or, set};
 ghost use Rattle.ids.specs.Limits.{replicas};
 ghost use Rattle.layout.specs.Layout.{pair_words};

@@ -1,5 +1,6 @@
 // The peers' exec bars in lent words, one for each replica; the own place is not read.
 #![tactic(auto)]
+
 ghost use Rattle.std.specs.Prelude.{◌≡◌, ◌||◌, ◌≤◌, ◌<◌, max, leb, eqb, length, get_or};
 ghost use Rattle.words.specs.Tab.{words_from};
 ghost use Rattle.peer_exec_bar.specs.Execs.{all_passed, Hears, HearsPeer};

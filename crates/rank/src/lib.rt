@@ -1,6 +1,7 @@
 // The k-th smallest of a list of bars, equal ones each counted. A search by value: it goes over the list once for each
 // halving of the distance between the smallest and the largest bar.
 #![tactic(auto)]
+
 ghost use Rattle.std.specs.Prelude.{◌≡◌, ℕ, ◌-◌, ◌≤◌, ◌<◌, length, get_or};
 ghost use Rattle.rank.specs.Sort.{sort, count_le};
 

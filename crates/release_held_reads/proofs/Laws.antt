@@ -8,7 +8,7 @@ use native.Mathlib.Nat.{zero-add}
 use native.Mathlib.Omega.{arith}
 use lib.Dec.{leb}
 use lib.ListN.{length, take, drop, length-map}
-use Rattle.words.specs.Choice.{if◌then◌else◌, if_none◌then◌else◌}
+use Rattle.words.specs.Choice.{if_none◌then◌else◌}
 use Rattle.words.specs.Tab.{tab, length_tab, tab_snoc, map_tab}
 use Rattle.words.specs.Part.{part}
 use Rattle.words.specs.Writes.{writes}
@@ -28,7 +28,7 @@ use Rattle.inst_cell.specs.declared.Status.TheVariants.{Null, Preparing, Accepti
 use Rattle.inst_reqs.specs.Batch.{requests_of, value_in}
 use Rattle.inst_reqs.specs.declared.Latest.{Latest}
 use Rattle.inst_reqs.specs.declared.Latest.TheVariants as latest
-use Rattle.inst_holding.specs.Held.{read_at, reads_of}
+use Rattle.inst_holding.specs.Held.{read_at}
 use Rattle.inst_holding.proofs.Laws.{reads_are}
 use Rattle.insts.specs.Slots.{batch_start, reads_start, short_at, batch_at, reads_at, inst_of, inst_in, Puts}
 use Rattle.release_held_reads.specs.Release.{answer_to, holding_of, answers_of, Releases}

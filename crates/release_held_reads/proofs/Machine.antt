@@ -9,12 +9,11 @@ use native.Mathlib.Omega.{arith}
 use lib.Dec.{ltb}
 use lib.ListN.{set, get_elem?}
 use Rattle.words.specs.Choice.{if◌then◌else◌, if_none◌then◌else◌}
-use Rattle.items.specs.Item.{Item}
-use Rattle.bodega.specs.Replica.{Status, Request, ReadReq, Book, Instance, Replica, Done, done, inst_at, set_inst, with_replica_bk, with_holding}
+use Rattle.bodega.specs.Replica.{Status, Request, ReadReq, Book, Instance, Replica, done, inst_at, set_inst, with_replica_bk, with_holding}
 use Rattle.bodega.specs.Localread.{is_bound, released, release_held_read_reqs}
 use Rattle.inst_cell.specs.Cell.{Notices}
 use Rattle.insts.specs.Slots.{short_at, batch_at, reads_at, book_of, inst_of, inst_in}
-use Rattle.release_held_reads.specs.Release.{answer_to, holding_of, answers_of, emptied}
+use Rattle.release_held_reads.specs.Release.{answer_to, answers_of, emptied}
 
 -- an instance put back where it stands
 pub put_back : (l : List Instance) (k : ℕ) (i : Instance) → get_elem? l k ≡ some i → set l k i ≡ l

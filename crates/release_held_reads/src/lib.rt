@@ -1,6 +1,7 @@
 // localread.rs: whether the write of a slot is bound to commit, and the reads that the slot holds, answered. The slots
 // stand in lent words of crate insts.
 #![tactic(auto)]
+
 ghost use Rattle.std.specs.Prelude.{◌≡◌, false, List, ℕ, ◌+◌, ◌*◌, ◌≤◌, ◌<◌, leb, length};
 ghost use Rattle.words.specs.Choice.{if_none◌then◌else◌};
 ghost use Rattle.words.specs.Tab.{tab};

@@ -4,6 +4,7 @@
 // has no room for another answer. The program ends when the input does, or when a read or a write fails, which it says
 // on standard error. After a read that failed, the line that has begun is not answered.
 #![tactic(auto)]
+
 ghost use Rattle.std.specs.Prelude.{◌≡◌, true, ◌≤◌, ◌<◌, length};
 ghost use Rattle.layout.specs.Layout.{roster_words, node_words};
 ghost use Rattle.replay.specs.Reads.{filled_as, Filling};

@@ -2,6 +2,7 @@
 // its key), and the text that the keys are parts of. A kind of 1 is a Put. Any words are a batch: what lies past the
 // end of the text is not there.
 #![tactic(auto)]
+
 ghost use Rattle.std.specs.Prelude.{◌≡◌, false, List, ℕ, ◌/◌, ◌<◌, ◌≤◌, min, length};
 ghost use Rattle.words.specs.Part.{part};
 ghost use Rattle.layout.specs.Layout.{request_places, batch_words};

@@ -1,6 +1,7 @@
 // The roster that a heartbeat carries, beside the node's own: whether they are the same, whether one names replicas
 // that are not there, and its rows copied.
 #![tactic(auto)]
+
 ghost use Rattle.std.specs.Prelude.{◌≡◌, ◌&&◌, not, List, [], ◌∷◌, ℕ, ◌+◌, ◌*◌, ◌≤◌, ◌<◌, ltb, length, take};
 ghost use Rattle.std.proofs.Math.Option.{none, some};
 ghost use Rattle.words.specs.Writes.{writes};

@@ -1,5 +1,6 @@
 // `RespondersConf` of keyrange.rs: a roster. Its ranges are rows in lent words; the short part goes by value.
 #![tactic(auto)]
+
 ghost use Rattle.std.specs.Prelude.{◌≡◌, ◌&&◌, List, ℕ, ◌≤◌, length};
 ghost use Rattle.ids.specs.Leader.{leader_of};
 ghost use Rattle.layout.specs.Layout.{roster_words};

@@ -8,13 +8,13 @@ use Prim.Native.Nat.{ℕ, zero, suc, ◌+◌, ◌-◌, ◌*◌, ◌^◌, ◌≤�
 use native.Mathlib.Numerals.{add-one}
 use native.Mathlib.Nat.{lt_of_le_of_lt, lt_of_lt_of_le, lt_irrefl}
 use native.Mathlib.Omega.{arith}
-use lib.ListN.{length, get_or, set, take}
+use lib.ListN.{length, get_or, take}
 use lib.Seq.{get_or-take, length-take-le}
 use lib.Dec.{ltb, leb, eqb}
 use borrow.Author.Tests.{le-leb, lt-leb, ltb-true, ltb-false, eq-eqb, ne_eqb}
 use Rattle.words.specs.Choice.{if◌then◌else◌, if_none◌then◌else◌}
 use Rattle.words.specs.Tab.{tab, tab_snoc, tab_ext, length_tab}
-use Rattle.words.specs.Writes.{writes, writes_other, writes_same, writes_take}
+use Rattle.words.specs.Writes.{writes, writes_other, writes_same}
 use Rattle.ids.specs.declared.Replica.{Replica}
 use Rattle.layout.specs.Layout.{roster_row, roster_words}
 use Rattle.bitmap.specs.Bitmap.{set_to}

@@ -1,5 +1,6 @@
 // `KeyRangeMap` of keyrange.rs: key ranges and their masks as rows in lent words.
 #![tactic(auto)]
+
 ghost use Rattle.std.specs.Prelude.{◌≡◌, false, ℕ, ◌+◌, ◌*◌, ◌<◌, ◌≤◌, length, take};
 ghost use Rattle.words.specs.Writes.{writes};
 ghost use Rattle.layout.specs.Layout.{roster_row, roster_words};

@@ -3,10 +3,9 @@
 use mathlib.Core.Path.{◌≡◌, refl, sym, ap, ◌∙◌}
 use mathlib.Core.Bool.{Bool, true, false, ◌&&◌, not}
 use mathlib.Core.Option.{Option, none, some}
-use Rattle.words.specs.Choice.{if◌then◌else◌}
 use Rattle.words.proofs.Tests.{and_both}
 use mathlib.Core.List.{List, [], ◌∷◌, ◌++◌, append-nil, append_assoc}
-use Prim.Native.Nat.{ℕ, suc, ◌+◌, ◌-◌, ◌≤◌, ◌<◌}
+use Prim.Native.Nat.{ℕ, suc, ◌+◌, ◌≤◌, ◌<◌}
 use native.Mathlib.Nat.{le_refl, le_trans, lt_of_lt_of_le}
 use native.Mathlib.Omega.{arith}
 use lib.ListN.{length}

@@ -8,13 +8,13 @@ use native.Mathlib.Nat.{zero-add, suc-add}
 use native.Mathlib.Omega.{arith}
 use lib.ListN.{length, set, take, drop, length-set, length-drop}
 use lib.Seq.{length-take-le, set-append_left}
-use lib.Dec.{ltb, leb, eqb}
+use lib.Dec.{ltb}
 use mir.Syntax.{w64}
 use mir.Val.{Fits}
 use borrow.Author.Tests.{lt-ltb, le-ltb, le-leb, eq-eqb}
 use Rattle.layout.specs.Layout.{node_words}
 use Rattle.words.specs.Text.{Bytes}
-use Rattle.words.specs.Choice.{if◌then◌else◌, if_none◌then◌else◌}
+use Rattle.words.specs.Choice.{if◌then◌else◌}
 use Rattle.words.specs.Part.{splice, splice_same}
 use Rattle.words.specs.Writes.{writes, length_writes}
 use Rattle.ids.specs.Limits.{items}
@@ -28,7 +28,7 @@ use Rattle.text.specs.Wrote.{Wrote}
 use Rattle.line_answer.specs.Wrote.{Answered}
 use Rattle.line_host.specs.declared.Host as code
 use Rattle.line_host.specs.Line.{Line, NodeLine, EditLine, ShowLine, HeardLine, CallLine, line_of}
-use Rattle.line_host.specs.Host.{Host, fresh_host, Outcome, Refusal, Items, LineResult, refused_line, called, edited, line_at, first_line, at_host, answer_line, text_of}
+use Rattle.line_host.specs.Host.{Host, fresh_host, Outcome, Refusal, Items, LineResult, called, edited, line_at, first_line, at_host, answer_line, text_of}
 use Rattle.line_host.specs.Follows.{host_of, sound, LineFollowsBy}
 use Rattle.line_event.specs.declared.LineAnswer.{LineAnswer}
 use Rattle.line_event.specs.Event.{whole, fit, due, AnswersEvent}

@@ -1,8 +1,8 @@
 -- A stream of event lines in pieces is answered as its lines are, one after the other.
-use mathlib.Core.Path.{◌≡◌, refl, sym, ap, ◌∙◌}
+use mathlib.Core.Path.{◌≡◌, refl, ap, ◌∙◌}
 use mathlib.Core.Bool.{Bool, true, false}
-use mathlib.Core.List.{List, [], ◌∷◌, ◌++◌, append_assoc, append-nil}
-use Prim.Native.Nat.{ℕ, suc, ◌+◌, ◌-◌, ◌^◌, ◌≤◌, ◌<◌}
+use mathlib.Core.List.{[], ◌∷◌, ◌++◌, append_assoc, append-nil}
+use Prim.Native.Nat.{ℕ, suc, ◌+◌, ◌-◌, ◌^◌, ◌<◌}
 use native.Mathlib.Omega.{arith}
 use lib.ListN.{length}
 use lib.Dec.{ltb, eqb}
@@ -11,9 +11,9 @@ use Rattle.words.specs.Text.{Bytes}
 use Rattle.line_host.specs.Line.{line_of}
 use Rattle.line_host.specs.Host.{Host, fresh_host, LineResult, answer_line, answer_lines, text_of}
 use Rattle.stream_pieces.specs.Pieces.{Begun, none_begun, concat}
-use Rattle.stream_pieces.specs.Streamed.{LineOutput, prepend, streamed, last_line, total, LongAlike}
+use Rattle.stream_pieces.specs.Streamed.{streamed, last_line, total, LongAlike}
 use Rattle.stream_pieces.proofs.Stream as pieces
-use Rattle.stream_events.specs.Lines.{State, start, bumped, result_of, line_output, lines_from, PiecesAsWhole}
+use Rattle.stream_events.specs.Lines.{start, bumped, result_of, line_output, lines_from, PiecesAsWhole}
 
 -- a line of more than 1,024 bytes is refused alike, whatever its bytes are
 told_long : (h : Host) (b : Begun) (l : Bytes) → 1024 < length b.line → result_of h b ≡ result_of h (record { long = true; line = l })

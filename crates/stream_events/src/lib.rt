@@ -1,5 +1,6 @@
 // The event lines of a stream that comes in pieces, and the answers to them.
 #![tactic(auto)]
+
 ghost use Rattle.std.specs.Prelude.{◌≡◌, ◌||◌, List, ℕ, ◌≤◌, ltb, length};
 ghost use Rattle.stream_events.specs.Lines.{start, bumped};
 ghost use Rattle.stream_events.specs.Fed.{Lent, state_of, WritesLine, WritesLastLine, WritesLines};

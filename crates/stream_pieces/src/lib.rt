@@ -1,5 +1,6 @@
 // The lines of a stream that comes in pieces: where one ends, and what is kept of the one that has begun.
 #![tactic(auto)]
+
 ghost use Rattle.std.specs.Prelude.{◌≡◌, true, ◌+◌, ◌-◌, ◌≤◌, length, take, drop};
 ghost use Rattle.words.specs.Writes.{writes};
 ghost use Rattle.stream_pieces.specs.Pieces.{before, kept};

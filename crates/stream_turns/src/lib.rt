@@ -1,6 +1,7 @@
 // The turns of a program that answers a stream of event lines. A turn reads and writes nothing: it is handed the bytes
 // that were read, and leaves the text that is to be written.
 #![tactic(auto)]
+
 ghost use Rattle.std.specs.Prelude.{◌≤◌, length};
 ghost use Rattle.stream_events.specs.Fed.{Lent};
 ghost use Rattle.stream_turns.specs.Turn.{Begins, TurnLeaves};

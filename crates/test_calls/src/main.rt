@@ -1,6 +1,7 @@
 // Runs recorded calls on one node. vectors/README.md says what the lines are, what is written for each, and how the
 // recorded ones are made.
 #![tactic(auto)]
+
 ghost use Rattle.std.specs.Prelude.{◌≡◌, ◌≤◌, length};
 
 use ids::Slot;

@@ -1,5 +1,6 @@
 // A sum over a whole node, or over a roster, to compare with one made elsewhere.
 #![tactic(auto)]
+
 ghost use Rattle.std.specs.Prelude.{◌≡◌, ◌+◌, ◌-◌, ◌<◌, ◌≤◌, min, get_or};
 ghost use Rattle.words.specs.Tab.{words_from};
 ghost use Rattle.layout.specs.Layout.{written_places, slot_places};

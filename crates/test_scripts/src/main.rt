@@ -2,6 +2,7 @@
 // answers each script's event lines from the fresh state, as a whole and cut in the middle, and compares what is
 // written with what was recorded, byte for byte.
 #![tactic(auto)]
+
 mod scripts;
 
 ghost use Rattle.std.specs.Prelude.{◌≡◌, ◌+◌, ◌≤◌, length};

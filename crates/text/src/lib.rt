@@ -1,5 +1,6 @@
 // Text in lent bytes: numbers, bytes, and fields that a comma begins. A writer returns where its text ends.
 #![tactic(auto)]
+
 ghost use Rattle.std.specs.Prelude.{◌≡◌, [], ◌∷◌, ◌+◌, ◌<◌, ◌≤◌, length};
 ghost use Rattle.decimal.specs.Digits.{decimal};
 ghost use Rattle.inty.specs.Value.{value_of};

@@ -1,5 +1,4 @@
 use Rattle.accept_notice_at.proofs.Laws as law
-use borrow.Author.Rules.{rules}
 use Rattle.accept_notice_at.proofs.due.Goals as goal
 
 pub returns-then-held-k : goal.returns-then-held-k

@@ -1,5 +1,4 @@
 use Rattle.accept_notice_at.proofs.Laws as law
-use borrow.Author.Rules.{rules}
 use mathlib.Core.Path.{ap}
 use mathlib.Core.Bool.{not}
 use Rattle.accept_notice_at.proofs.due_in.Goals as goal

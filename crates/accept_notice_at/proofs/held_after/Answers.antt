@@ -1,5 +1,4 @@
 use Rattle.accept_notice_at.proofs.Laws as law
-use borrow.Author.Rules.{rules}
 use Rattle.accept_notice_at.proofs.held_after.Goals as goal
 
 pub returns-then-next-held : goal.returns-then-next-held

@@ -1,7 +1,6 @@
 use native.Mathlib.Omega.{arith}
 use Rattle.ids.specs.Leader.{leader_of}
 use Rattle.accept_notice_at.proofs.Laws as law
-use borrow.Author.Rules.{rules}
 use Rattle.accept_notice_at.proofs.notice_at.Goals as goal
 
 pub notice_in-requires : goal.notice_in-requires

@@ -1,6 +1,5 @@
 use Rattle.ids.specs.Leader.{leader_of}
 use Rattle.accept_notice_at.proofs.Laws as law
-use borrow.Author.Rules.{rules}
 use mathlib.Core.Path.{ap}
 use mathlib.Core.Bool.{not}
 use Rattle.accept_notice_at.proofs.notice_in.Goals as goal

@@ -1,5 +1,4 @@
 use Rattle.accept_notice_at.proofs.Laws as law
-use borrow.Author.Rules.{rules}
 use Rattle.accept_notice_at.proofs.noticed_book.Goals as goal
 
 pub returns-in_default : goal.returns-in_default

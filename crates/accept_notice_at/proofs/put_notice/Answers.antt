@@ -1,5 +1,4 @@
 use Rattle.accept_notice_at.proofs.Laws as law
-use borrow.Author.Rules.{rules}
 use Rattle.accept_notice_at.proofs.put_notice.Goals as goal
 
 pub returns : goal.returns

@@ -1,10 +1,8 @@
 use Rattle.advance_commit_bar.specs.Walk.{stops_at, mark_items}
 use Rattle.advance_commit_bar.proofs.Pass as pass
 use Rattle.advance_commit_bar.proofs.Laws as law
-use Prim.Native.Nat.{ℕ, ◌-◌, ◌≤◌, min}
-use mathlib.Core.Path.{◌≡◌}
+use Prim.Native.Nat.{◌-◌}
 use native.Mathlib.Omega.{arith}
-use borrow.Author.Rules.{rules}
 use Rattle.advance_commit_bar.proofs.advance.Goals as goal
 
 pub loop-k-init : goal.loop-k-init

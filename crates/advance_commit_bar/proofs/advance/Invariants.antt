@@ -3,8 +3,6 @@ use Rattle.advance_commit_bar.proofs.Pass as pass
 use Rattle.advance_commit_bar.proofs.Laws as law
 use Prim.Native.Nat.{ℕ, ◌-◌, ◌≤◌, min}
 use mathlib.Core.Path.{◌≡◌}
-use native.Mathlib.Omega.{arith}
-use borrow.Author.Rules.{rules}
 use Rattle.advance_commit_bar.proofs.advance.Given as goal
 
 abbrev pub invariant-loop-k : goal.invariant-loop-k

@@ -2,13 +2,11 @@ use Rattle.layout.specs.Layout.{slot_places}
 use Rattle.insts.specs.Slots.{inst_in}
 use Rattle.advance_commit_bar.specs.Walk.{stops_at, mark_items}
 use Rattle.advance_commit_bar.proofs.Pass as pass
-use Prim.Native.Nat.{ℕ, ◌+◌, ◌-◌, ◌%◌, ◌≤◌, min}
+use Prim.Native.Nat.{◌+◌, ◌-◌, ◌%◌}
 use Rattle.advance_commit_bar.proofs.Laws as law
-use mathlib.Core.Path.{◌≡◌, ◌∙◌}
+use mathlib.Core.Path.{◌∙◌}
 use native.Mathlib.Omega.{arith}
 use native.Mathlib.Nat.{zero-add}
-use borrow.Author.Rules.{rules}
-use lib.ListN.{length}
 use Rattle.advance_commit_bar.proofs.count_commits.Goals as goal
 
 pub loop-k-init : goal.loop-k-init

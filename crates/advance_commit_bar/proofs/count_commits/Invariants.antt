@@ -1,13 +1,6 @@
-use Rattle.layout.specs.Layout.{slot_places}
-use Rattle.insts.specs.Slots.{inst_in}
-use Rattle.advance_commit_bar.specs.Walk.{stops_at, mark_items}
-use Rattle.advance_commit_bar.proofs.Pass as pass
-use Prim.Native.Nat.{ℕ, ◌+◌, ◌-◌, ◌%◌, ◌≤◌, min}
+use Prim.Native.Nat.{ℕ, ◌+◌, ◌-◌, ◌≤◌, min}
 use Rattle.advance_commit_bar.proofs.Laws as law
-use mathlib.Core.Path.{◌≡◌, ◌∙◌}
-use native.Mathlib.Omega.{arith}
-use native.Mathlib.Nat.{zero-add}
-use borrow.Author.Rules.{rules}
+use mathlib.Core.Path.{◌≡◌}
 use lib.ListN.{length}
 use Rattle.advance_commit_bar.proofs.count_commits.Given as goal
 

@@ -1,5 +1,4 @@
 use Rattle.advance_commit_bar.proofs.Laws as law
-use borrow.Author.Rules.{rules}
 use mathlib.Core.Path.{ap}
 use mathlib.Core.Bool.{not}
 use Rattle.advance_commit_bar.proofs.mark.Goals as goal

@@ -1,5 +1,4 @@
 use Rattle.advance_commit_bar.proofs.Laws as law
-use borrow.Author.Rules.{rules}
 use Rattle.advance_commit_bar.proofs.one_if_open.Goals as goal
 
 pub returns-then-is_open : goal.returns-then-is_open

@@ -1,5 +1,4 @@
 use Rattle.advance_commit_bar.proofs.Laws as law
-use borrow.Author.Rules.{rules}
 use Rattle.advance_commit_bar.proofs.stops.Goals as goal
 
 pub returns-then-cell-ballot : goal.returns-then-cell-ballot

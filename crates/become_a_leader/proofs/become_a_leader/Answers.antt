@@ -1,7 +1,6 @@
 use Rattle.become_a_leader.proofs.Whole as law
 use native.Mathlib.Omega.{arith}
 use Rattle.ids.specs.Leader.{leader_of}
-use borrow.Author.Rules.{rules}
 use Rattle.become_a_leader.proofs.become_a_leader.Goals as goal
 
 pub overflow_add-to : goal.overflow_add-to

@@ -1,16 +1,14 @@
-use Rattle.layout.specs.Layout.{slot_places, held_places}
+use Rattle.layout.specs.Layout.{slot_places}
 use Rattle.become_a_leader.proofs.Laws as law
 use Rattle.advance_commit_bar.proofs.Pass as pass
-use Rattle.insts.specs.Slots.{inst_in, insts_of}
+use Rattle.insts.specs.Slots.{inst_in}
 use Rattle.release_held_reads.specs.Release.{emptied}
 use Rattle.release_held_reads.proofs.Laws.{length_answers}
-use Rattle.become_a_leader.specs.StepUp.{released_from}
 use Rattle.become_a_leader.proofs.Lists.{never, answers_at}
-use mathlib.Core.Path.{◌≡◌, refl, sym, ◌∙◌}
+use mathlib.Core.Path.{refl, sym, ◌∙◌}
 use mathlib.Core.Bool.{false}
 use mathlib.Core.Option.{none}
-use Prim.Native.Nat.{◌≤◌, ◌+◌, ◌-◌, ◌*◌, ◌%◌}
-use lib.ListN.{length, drop}
+use Prim.Native.Nat.{◌+◌, ◌%◌}
 use native.Mathlib.Omega.{arith}
 use Rattle.become_a_leader.proofs.count_held.Goals as goal
 

@@ -1,17 +1,11 @@
-use Rattle.layout.specs.Layout.{slot_places, held_places}
+use Rattle.layout.specs.Layout.{held_places}
 use Rattle.become_a_leader.proofs.Laws as law
-use Rattle.advance_commit_bar.proofs.Pass as pass
-use Rattle.insts.specs.Slots.{inst_in, insts_of}
-use Rattle.release_held_reads.specs.Release.{emptied}
-use Rattle.release_held_reads.proofs.Laws.{length_answers}
+use Rattle.insts.specs.Slots.{insts_of}
 use Rattle.become_a_leader.specs.StepUp.{released_from}
-use Rattle.become_a_leader.proofs.Lists.{never, answers_at}
-use mathlib.Core.Path.{◌≡◌, refl, sym, ◌∙◌}
-use mathlib.Core.Bool.{false}
+use mathlib.Core.Path.{◌≡◌}
 use mathlib.Core.Option.{none}
-use Prim.Native.Nat.{◌≤◌, ◌+◌, ◌-◌, ◌*◌, ◌%◌}
+use Prim.Native.Nat.{◌≤◌, ◌+◌, ◌-◌, ◌*◌}
 use lib.ListN.{length, drop}
-use native.Mathlib.Omega.{arith}
 use Rattle.become_a_leader.proofs.count_held.Given as goal
 
 abbrev pub invariant-loop-k : goal.invariant-loop-k

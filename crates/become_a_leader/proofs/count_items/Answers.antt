@@ -1,6 +1,5 @@
 use Rattle.become_a_leader.proofs.Laws as law
 use native.Mathlib.Omega.{arith}
-use borrow.Author.Rules.{rules}
 use mathlib.Core.Path.{ap}
 use mathlib.Core.Bool.{not}
 use Rattle.become_a_leader.proofs.count_items.Goals as goal

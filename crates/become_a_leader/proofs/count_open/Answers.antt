@@ -2,14 +2,13 @@ use Rattle.layout.specs.Layout.{slot_places}
 use Rattle.become_a_leader.proofs.Laws as law
 use Rattle.advance_commit_bar.proofs.Laws as one
 use Rattle.advance_commit_bar.proofs.Pass as pass
-use Rattle.insts.specs.Slots.{inst_in, insts_of}
-use Rattle.bodega.specs.Conflease.{prelogs, reprepared}
+use Rattle.insts.specs.Slots.{inst_in}
+use Rattle.bodega.specs.Conflease.{reprepared}
 use Rattle.become_a_leader.specs.StepUp.{prelog_of}
 use Rattle.become_a_leader.proofs.Lists.{never}
-use mathlib.Core.Path.{◌≡◌, refl, ◌∙◌}
+use mathlib.Core.Path.{refl, ◌∙◌}
 use mathlib.Core.Bool.{false}
-use Prim.Native.Nat.{◌≤◌, ◌+◌, ◌-◌, ◌%◌}
-use lib.ListN.{length}
+use Prim.Native.Nat.{◌+◌, ◌%◌}
 use native.Mathlib.Omega.{arith}
 use Rattle.become_a_leader.proofs.count_open.Goals as goal
 

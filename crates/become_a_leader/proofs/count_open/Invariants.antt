@@ -1,16 +1,9 @@
-use Rattle.layout.specs.Layout.{slot_places}
 use Rattle.become_a_leader.proofs.Laws as law
-use Rattle.advance_commit_bar.proofs.Laws as one
-use Rattle.advance_commit_bar.proofs.Pass as pass
-use Rattle.insts.specs.Slots.{inst_in, insts_of}
-use Rattle.bodega.specs.Conflease.{prelogs, reprepared}
-use Rattle.become_a_leader.specs.StepUp.{prelog_of}
-use Rattle.become_a_leader.proofs.Lists.{never}
-use mathlib.Core.Path.{◌≡◌, refl, ◌∙◌}
-use mathlib.Core.Bool.{false}
-use Prim.Native.Nat.{◌≤◌, ◌+◌, ◌-◌, ◌%◌}
+use Rattle.insts.specs.Slots.{insts_of}
+use Rattle.bodega.specs.Conflease.{prelogs}
+use mathlib.Core.Path.{◌≡◌}
+use Prim.Native.Nat.{◌≤◌, ◌+◌, ◌-◌}
 use lib.ListN.{length}
-use native.Mathlib.Omega.{arith}
 use Rattle.become_a_leader.proofs.count_open.Given as goal
 
 abbrev pub invariant-loop-k : goal.invariant-loop-k

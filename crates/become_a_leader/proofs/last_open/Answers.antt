@@ -1,9 +1,6 @@
 use Rattle.become_a_leader.proofs.Laws as law
-use Rattle.insts.proofs.Rest.{rest_of}
-use Rattle.bodega.specs.Conflease.{any_open}
-use mathlib.Core.Path.{◌≡◌}
 use mathlib.Core.Bool.{false}
-use Prim.Native.Nat.{◌≤◌, ◌-◌}
+use Prim.Native.Nat.{◌-◌}
 use native.Mathlib.Omega.{arith}
 use Rattle.become_a_leader.proofs.last_open.Goals as goal
 

@@ -1,10 +1,8 @@
-use Rattle.become_a_leader.proofs.Laws as law
 use Rattle.insts.proofs.Rest.{rest_of}
 use Rattle.bodega.specs.Conflease.{any_open}
 use mathlib.Core.Path.{◌≡◌}
 use mathlib.Core.Bool.{false}
-use Prim.Native.Nat.{◌≤◌, ◌-◌}
-use native.Mathlib.Omega.{arith}
+use Prim.Native.Nat.{◌≤◌}
 use Rattle.become_a_leader.proofs.last_open.Given as goal
 
 abbrev pub invariant-loop-i : goal.invariant-loop-i

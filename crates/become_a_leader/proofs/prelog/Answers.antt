@@ -1,5 +1,4 @@
 use Rattle.become_a_leader.proofs.Laws as law
-use borrow.Author.Rules.{rules}
 use mathlib.Core.Path.{ap}
 use mathlib.Core.Bool.{not}
 use Rattle.become_a_leader.proofs.prelog.Goals as goal

@@ -3,7 +3,6 @@ use Rattle.advance_commit_bar.proofs.Pass as pass
 use Rattle.bodega.specs.Conflease.{reprepared}
 use Rattle.become_a_leader.specs.StepUp.{prelog_of}
 use Rattle.become_a_leader.proofs.Lists.{never}
-use Prim.Native.Nat.{◌≤◌, ◌-◌}
 use native.Mathlib.Omega.{arith}
 use Rattle.become_a_leader.proofs.prelog_all.Goals as goal
 

@@ -1,10 +1,5 @@
 use Rattle.become_a_leader.proofs.Laws as law
-use Rattle.advance_commit_bar.proofs.Pass as pass
-use Rattle.bodega.specs.Conflease.{reprepared}
-use Rattle.become_a_leader.specs.StepUp.{prelog_of}
-use Rattle.become_a_leader.proofs.Lists.{never}
 use Prim.Native.Nat.{◌≤◌, ◌-◌}
-use native.Mathlib.Omega.{arith}
 use Rattle.become_a_leader.proofs.prelog_all.Given as goal
 
 abbrev pub invariant-loop-k : goal.invariant-loop-k

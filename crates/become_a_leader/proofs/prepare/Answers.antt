@@ -1,5 +1,4 @@
 use Rattle.become_a_leader.proofs.Laws as law
-use borrow.Author.Rules.{rules}
 use Rattle.become_a_leader.proofs.prepare.Goals as goal
 
 pub returns : goal.returns

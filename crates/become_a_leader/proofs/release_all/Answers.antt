@@ -3,7 +3,6 @@ use Rattle.advance_commit_bar.proofs.Pass as pass
 use Rattle.release_held_reads.specs.Release.{emptied}
 use Rattle.become_a_leader.proofs.Lists.{never, answers_at}
 use Rattle.ids.specs.Leader.{leader_of}
-use Prim.Native.Nat.{◌≤◌, ◌-◌}
 use native.Mathlib.Omega.{arith}
 use Rattle.become_a_leader.proofs.release_all.Goals as goal
 

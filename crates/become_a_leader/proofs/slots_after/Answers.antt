@@ -1,5 +1,4 @@
 use Rattle.become_a_leader.proofs.Laws as law
-use borrow.Author.Rules.{rules}
 use Rattle.become_a_leader.proofs.slots_after.Goals as goal
 
 pub returns-then-any_open : goal.returns-then-any_open

@@ -1,17 +1,4 @@
 use Rattle.call_apply.proofs.Laws as law
-use borrow.Author.Rules.{rules}
-use Rattle.call_apply.proofs.apply.Reads as reads
-use Rattle.call_apply.proofs.apply.Lts as lts
-use Rattle.call_bars.proofs.bars.Reads as bars-reads
-use Rattle.call_commit.proofs.commit.Reads as commit-reads
-use Rattle.call_guard.proofs.guard.Reads as guard-reads
-use Rattle.call_heartbeat.proofs.heartbeat.Reads as heartbeat-reads
-use Rattle.call_notice.proofs.notice.Reads as notice-reads
-use Rattle.call_prepared.proofs.prepared.Reads as prepared-reads
-use Rattle.call_read.proofs.read.Reads as read-reads
-use Rattle.call_record.proofs.record.Reads as record-reads
-use Rattle.call_release.proofs.release.Reads as release-reads
-use Rattle.call_reply.proofs.reply.Reads as reply-reads
 use Rattle.call_apply.proofs.apply.Goals as goal
 
 pub returns-in-Heartbeat : goal.returns-in-Heartbeat

@@ -1,8 +1,6 @@
 use Rattle.insts.proofs.Laws as law
-use Rattle.insts.specs.Slots.{insts_of}
-use Rattle.bodega.specs.Grounds.{any, holds}
-use mathlib.Core.Path.{◌≡◌, sym, ◌∙◌}
-use Prim.Native.Nat.{◌≤◌, ◌-◌}
+use Rattle.bodega.specs.Grounds.{holds}
+use mathlib.Core.Path.{sym, ◌∙◌}
 use native.Mathlib.Omega.{arith}
 use Rattle.call_bars.proofs.any_holds.Goals as goal
 

@@ -1,9 +1,8 @@
 use Rattle.insts.proofs.Laws as law
 use Rattle.insts.specs.Slots.{insts_of}
 use Rattle.bodega.specs.Grounds.{any, holds}
-use mathlib.Core.Path.{◌≡◌, sym, ◌∙◌}
+use mathlib.Core.Path.{◌≡◌}
 use Prim.Native.Nat.{◌≤◌, ◌-◌}
-use native.Mathlib.Omega.{arith}
 use Rattle.call_bars.proofs.any_holds.Given as goal
 
 abbrev pub invariant-loop-i : goal.invariant-loop-i

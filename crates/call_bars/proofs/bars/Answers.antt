@@ -2,7 +2,6 @@ use Rattle.call_bars.proofs.Laws as law
 use Rattle.node.proofs.Calls as calls
 use Rattle.bodega.specs.Replica.{Bars}
 use native.Mathlib.Omega.{arith}
-use borrow.Author.Rules.{rules}
 use mathlib.Core.Path.{ap}
 use mathlib.Core.Bool.{not}
 use Rattle.call_bars.proofs.bars.Goals as goal

@@ -1,6 +1,5 @@
 use Rattle.call_bars.proofs.Laws as law
 use Rattle.insts.specs.Slots.{insts_of}
-use borrow.Author.Rules.{rules}
 use Rattle.call_bars.proofs.bars_refusal.Goals as goal
 
 pub returns-then-any_far : goal.returns-then-any_far

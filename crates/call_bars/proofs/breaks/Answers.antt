@@ -1,6 +1,5 @@
 use Rattle.call_bars.proofs.Laws as law
 use native.Mathlib.Omega.{arith}
-use borrow.Author.Rules.{rules}
 use mathlib.Core.Path.{ap}
 use mathlib.Core.Bool.{not}
 use Rattle.call_bars.proofs.breaks.Goals as goal

@@ -1,6 +1,4 @@
 use Rattle.call_bars.proofs.Laws as law
-use Rattle.call_bars.specs.Moves.{Executes}
-use Prim.Native.Nat.{◌≤◌, ◌-◌}
 use native.Mathlib.Omega.{arith}
 use Rattle.call_bars.proofs.execute.Goals as goal
 

@@ -1,7 +1,5 @@
-use Rattle.call_bars.proofs.Laws as law
 use Rattle.call_bars.specs.Moves.{Executes}
 use Prim.Native.Nat.{◌≤◌, ◌-◌}
-use native.Mathlib.Omega.{arith}
 use Rattle.call_bars.proofs.execute.Given as goal
 
 abbrev pub invariant-loop-i : goal.invariant-loop-i

@@ -2,7 +2,6 @@ use Rattle.call_commit.proofs.Laws as law
 use Rattle.node.proofs.Calls.{gives_2, is_ready}
 use Rattle.bodega.specs.Replica.{CommitNotice}
 use native.Mathlib.Omega.{arith}
-use borrow.Author.Rules.{rules}
 use mathlib.Core.Path.{ap}
 use mathlib.Core.Bool.{not}
 use Rattle.call_commit.proofs.commit.Goals as goal

@@ -5,7 +5,6 @@ use lib.Seq.{length-take-le}
 use mathlib.Core.Path.{refl}
 use Rattle.bodega.specs.Replica.{Guard}
 use Rattle.node.specs.View.{view, ready}
-use borrow.Author.Rules.{rules}
 use mathlib.Core.Path.{ap}
 use mathlib.Core.Bool.{not}
 use Rattle.call_guard.proofs.guard.Goals as goal

@@ -1,5 +1,4 @@
 use native.Mathlib.Omega.{arith}
-use borrow.Author.Rules.{rules}
 use Rattle.call_heartbeat.proofs.Bars as law
 use Rattle.heard_new_conf.proofs.Laws.{readied}
 use Rattle.call_heartbeat.proofs.count_bars.Goals as goal

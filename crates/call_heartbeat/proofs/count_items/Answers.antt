@@ -1,5 +1,4 @@
 use Rattle.call_heartbeat.proofs.Call as law
-use borrow.Author.Rules.{rules}
 use mathlib.Core.Path.{ap}
 use mathlib.Core.Bool.{not}
 use Rattle.call_heartbeat.proofs.count_items.Goals as goal

@@ -1,6 +1,5 @@
 use Rattle.call_heartbeat.proofs.Refusals as law
 use Rattle.roster_conf.specs.Edits.{view as roster_of}
-use borrow.Author.Rules.{rules}
 use Rattle.call_heartbeat.proofs.early_refusal.Goals as goal
 
 pub returns-then-is_unformed : goal.returns-then-is_unformed

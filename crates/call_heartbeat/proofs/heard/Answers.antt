@@ -1,7 +1,5 @@
-use mathlib.Core.Path.{◌∙◌}
 use Rattle.call_heartbeat.proofs.Call as law
 use native.Mathlib.Omega.{arith}
-use borrow.Author.Rules.{rules}
 use Rattle.call_heartbeat.proofs.heard.Goals as goal
 
 pub heard_conf-first-requires : goal.heard_conf-first-requires

@@ -1,5 +1,4 @@
 use Rattle.call_heartbeat.proofs.Refusals as law
-use borrow.Author.Rules.{rules}
 use mathlib.Core.Path.{ap}
 use mathlib.Core.Bool.{not}
 use Rattle.call_heartbeat.proofs.is_fitting.Goals as goal

@@ -2,7 +2,6 @@ use Rattle.call_heartbeat.proofs.Refusals as law
 use Rattle.heard_new_conf.proofs.Laws.{readied}
 use native.Mathlib.Omega.{arith}
 use Rattle.ids.specs.Leader.{leader_of}
-use borrow.Author.Rules.{rules}
 use mathlib.Core.Path.{ap}
 use mathlib.Core.Bool.{not}
 use Rattle.call_heartbeat.proofs.lacks_slot.Goals as goal

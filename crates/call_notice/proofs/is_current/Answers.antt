@@ -3,7 +3,6 @@ use Rattle.call_notice.proofs.Laws as law
 use mathlib.Core.List.{[]}
 use Rattle.roster_conf.specs.Edits.{view as roster_of}
 use Rattle.node.specs.View.{view}
-use borrow.Author.Rules.{rules}
 use Rattle.call_notice.proofs.is_current.Goals as goal
 
 pub returns-then-is_leader : goal.returns-then-is_leader

@@ -5,7 +5,6 @@ use Rattle.call_notice.proofs.Laws as law
 use mathlib.Core.List.{[]}
 use Rattle.roster_conf.specs.Edits.{view as roster_of}
 use Rattle.node.specs.View.{view}
-use borrow.Author.Rules.{rules}
 use mathlib.Core.Path.{ap}
 use mathlib.Core.Bool.{not}
 use Rattle.call_notice.proofs.notice.Goals as goal

@@ -1,5 +1,4 @@
 use Rattle.call_notice.proofs.Laws as law
-use borrow.Author.Rules.{rules}
 use mathlib.Core.Path.{ap}
 use mathlib.Core.Bool.{not}
 use Rattle.call_notice.proofs.put_lead.Goals as goal

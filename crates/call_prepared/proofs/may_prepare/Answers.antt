@@ -3,7 +3,6 @@ use Rattle.ids.specs.Leader.{leader_of}
 use mathlib.Core.List.{[]}
 use Rattle.roster_conf.specs.Edits.{view as roster_of}
 use Rattle.node.specs.View.{view}
-use borrow.Author.Rules.{rules}
 use mathlib.Core.Path.{ap}
 use mathlib.Core.Bool.{not}
 use Rattle.call_prepared.proofs.may_prepare.Goals as goal

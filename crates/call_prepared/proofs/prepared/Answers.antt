@@ -4,7 +4,6 @@ use mathlib.Core.Path.{refl}
 use Rattle.bodega.specs.Replica.{Prepared}
 use Rattle.bodega.specs.Events.{prepared}
 use Rattle.node.specs.View.{view, ready}
-use borrow.Author.Rules.{rules}
 use mathlib.Core.Path.{ap}
 use mathlib.Core.Bool.{not}
 use Rattle.call_prepared.proofs.prepared.Goals as goal

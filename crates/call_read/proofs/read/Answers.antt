@@ -3,7 +3,6 @@ use Rattle.node.proofs.Calls as calls
 use Rattle.words.specs.Part.{part}
 use Rattle.bodega.specs.Replica.{Read}
 use native.Mathlib.Omega.{arith}
-use borrow.Author.Rules.{rules}
 use mathlib.Core.Path.{ap}
 use mathlib.Core.Bool.{not}
 use Rattle.call_read.proofs.read.Goals as goal

@@ -1,5 +1,4 @@
 use Rattle.call_record.proofs.Laws as law
-use borrow.Author.Rules.{rules}
 use mathlib.Core.Path.{ap}
 use mathlib.Core.Bool.{not}
 use Rattle.call_record.proofs.early_refusal.Goals as goal

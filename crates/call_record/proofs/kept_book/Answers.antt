@@ -1,5 +1,4 @@
 use Rattle.call_record.proofs.Laws as law
-use borrow.Author.Rules.{rules}
 use Rattle.call_record.proofs.kept_book.Goals as goal
 
 pub returns-in-None : goal.returns-in-None

@@ -3,7 +3,6 @@ use Rattle.call_record.proofs.Laws as law
 use mathlib.Core.List.{[]}
 use Rattle.roster_conf.specs.Edits.{view as roster_of}
 use Rattle.node.specs.View.{view}
-use borrow.Author.Rules.{rules}
 use Rattle.call_record.proofs.late_refusal.Goals as goal
 
 pub slice_bounds-overflows-end : goal.slice_bounds-overflows-end

@@ -1,9 +1,7 @@
-use mathlib.Core.Path.{◌∙◌}
 use Rattle.call_record.proofs.Laws as law
 use mathlib.Core.List.{[]}
 use Rattle.roster_conf.specs.Edits.{view as roster_of}
 use Rattle.node.specs.View.{view}
-use borrow.Author.Rules.{rules}
 use Rattle.call_record.proofs.recorded.Goals as goal
 
 pub slice_bounds-refresh-end : goal.slice_bounds-refresh-end

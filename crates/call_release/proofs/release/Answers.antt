@@ -2,7 +2,6 @@ use Rattle.bodega.specs.Replica.{Release}
 use native.Mathlib.Omega.{arith}
 use Rattle.node.proofs.Calls.{gives_2, is_ready}
 use Rattle.call_release.proofs.Laws as law
-use borrow.Author.Rules.{rules}
 use mathlib.Core.Path.{ap}
 use mathlib.Core.Bool.{not}
 use Rattle.call_release.proofs.release.Goals as goal

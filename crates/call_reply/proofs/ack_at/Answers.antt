@@ -1,7 +1,6 @@
 use Rattle.layout.specs.Layout.{batch_words}
 use Rattle.call_reply.proofs.Acks as law
 use Rattle.insts.proofs.Laws.{width}
-use borrow.Author.Rules.{rules}
 use Rattle.call_reply.proofs.ack_at.Goals as goal
 
 pub returns-in_default : goal.returns-in_default

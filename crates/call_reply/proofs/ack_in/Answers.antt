@@ -1,5 +1,4 @@
 use Rattle.words.specs.Part.{part}
-use borrow.Author.Rules.{rules}
 use Rattle.call_reply.proofs.ack_in.Goals as goal
 
 pub returns : goal.returns

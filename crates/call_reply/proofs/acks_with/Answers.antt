@@ -1,5 +1,4 @@
 use Rattle.call_reply.proofs.Acks as law
-use borrow.Author.Rules.{rules}
 use mathlib.Core.Path.{ap}
 use mathlib.Core.Bool.{not}
 use Rattle.call_reply.proofs.acks_with.Goals as goal

@@ -1,5 +1,4 @@
 use Rattle.call_reply.proofs.Acks as law
-use borrow.Author.Rules.{rules}
 use Rattle.call_reply.proofs.act.Goals as goal
 
 pub returns-in-Ignored : goal.returns-in-Ignored

@@ -3,7 +3,6 @@ use Rattle.call_reply.proofs.Replies as law
 use mathlib.Core.List.{[]}
 use Rattle.roster_conf.specs.Edits.{view as roster_of}
 use Rattle.node.specs.View.{view}
-use borrow.Author.Rules.{rules}
 use Rattle.call_reply.proofs.awaits.Goals as goal
 
 pub returns-then-slot-start : goal.returns-then-slot-start

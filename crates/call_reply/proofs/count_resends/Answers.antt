@@ -1,9 +1,7 @@
 use Rattle.call_reply.proofs.Resends as law
 use native.Mathlib.Omega.{arith}
-use mathlib.Core.Path.{◌≡◌, ap}
-use Prim.Native.Nat.{ℕ, ◌+◌, ◌-◌, ◌≤◌}
-use lib.ListN.{length}
-use Rattle.call_reply.specs.Resends.{resends_of}
+use mathlib.Core.Path.{ap}
+use Prim.Native.Nat.{ℕ, ◌+◌, ◌-◌}
 use Rattle.call_reply.proofs.count_resends.Goals as goal
 
 pub loop-k-init : goal.loop-k-init

@@ -1,7 +1,5 @@
-use Rattle.call_reply.proofs.Resends as law
-use native.Mathlib.Omega.{arith}
-use mathlib.Core.Path.{◌≡◌, ap}
-use Prim.Native.Nat.{ℕ, ◌+◌, ◌-◌, ◌≤◌}
+use mathlib.Core.Path.{◌≡◌}
+use Prim.Native.Nat.{◌+◌, ◌≤◌}
 use lib.ListN.{length}
 use Rattle.call_reply.specs.Resends.{resends_of}
 use Rattle.call_reply.proofs.count_resends.Given as goal

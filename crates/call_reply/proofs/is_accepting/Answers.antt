@@ -2,7 +2,6 @@ use mathlib.Core.Path.{sym, ap}
 use Rattle.bodega.specs.Replica.{is_accepting}
 use Rattle.inst_cell.specs.declared.Status.{Status}
 use Rattle.inst_cell.specs.Cell.{status_of}
-use borrow.Author.Rules.{rules}
 use Rattle.call_reply.proofs.is_accepting.Goals as goal
 
 pub returns-in-Null : goal.returns-in-Null

@@ -1,5 +1,4 @@
 use Rattle.call_reply.proofs.Acks as law
-use borrow.Author.Rules.{rules}
 use Rattle.call_reply.proofs.put_commit.Goals as goal
 
 pub returns-then-commits-eq0 : goal.returns-then-commits-eq0

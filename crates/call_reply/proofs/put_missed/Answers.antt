@@ -1,5 +1,4 @@
 use Rattle.call_reply.proofs.Resends as law
-use borrow.Author.Rules.{rules}
 use Rattle.call_reply.proofs.put_missed.Goals as goal
 
 pub returns-then-sent-eq0 : goal.returns-then-sent-eq0

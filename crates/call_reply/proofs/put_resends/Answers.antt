@@ -1,12 +1,8 @@
 use borrow.Author.Rules.{rules}
 use Rattle.call_reply.proofs.Resends as law
 use native.Mathlib.Omega.{arith}
-use mathlib.Core.Path.{◌≡◌, refl, ◌∙◌}
-use Prim.Native.Nat.{◌+◌, ◌-◌, ◌*◌, ◌≤◌}
-use lib.ListN.{length}
-use Rattle.words.specs.Writes.{writes}
-use Rattle.items.specs.Item.{encode}
-use Rattle.call_reply.specs.Resends.{resends_of}
+use mathlib.Core.Path.{refl, ◌∙◌}
+use Prim.Native.Nat.{◌-◌}
 use Rattle.call_reply.proofs.put_resends.Goals as goal
 
 pub loop-k-init : goal.loop-k-init

@@ -1,8 +1,5 @@
-use borrow.Author.Rules.{rules}
-use Rattle.call_reply.proofs.Resends as law
-use native.Mathlib.Omega.{arith}
-use mathlib.Core.Path.{◌≡◌, refl, ◌∙◌}
-use Prim.Native.Nat.{◌+◌, ◌-◌, ◌*◌, ◌≤◌}
+use mathlib.Core.Path.{◌≡◌}
+use Prim.Native.Nat.{◌+◌, ◌*◌, ◌≤◌}
 use lib.ListN.{length}
 use Rattle.words.specs.Writes.{writes}
 use Rattle.items.specs.Item.{encode}

@@ -1,5 +1,4 @@
 use Rattle.call_reply.proofs.Replies as law
-use borrow.Author.Rules.{rules}
 use Rattle.call_reply.proofs.reply_refusal.Goals as goal
 
 pub returns-then-population-peer : goal.returns-then-population-peer

@@ -1,5 +1,4 @@
 use Rattle.call_reply.proofs.Acks as law
-use borrow.Author.Rules.{rules}
 use Rattle.call_reply.proofs.set_acks.Goals as goal
 
 pub returns : goal.returns

@@ -2,7 +2,6 @@ use Prim.Native.Nat.{◌%◌}
 use Rattle.layout.specs.Layout.{slot_places}
 use Rattle.call_reply.proofs.Replies as law
 use native.Mathlib.Omega.{arith}
-use borrow.Author.Rules.{rules}
 use Rattle.call_reply.proofs.take_reply.Goals as goal
 
 pub overflow_add-count : goal.overflow_add-count

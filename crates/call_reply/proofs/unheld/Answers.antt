@@ -1,5 +1,4 @@
 use Rattle.call_reply.proofs.Replies as law
-use borrow.Author.Rules.{rules}
 use Rattle.call_reply.proofs.unheld.Goals as goal
 
 pub returns-then-slot-start : goal.returns-then-slot-start

@@ -1,5 +1,4 @@
 use Rattle.commit_condition.proofs.Laws as law
-use borrow.Author.Rules.{rules}
 use Rattle.commit_condition.proofs.acked.Goals as goal
 
 pub returns-then-batch-p2-eq1 : goal.returns-then-batch-p2-eq1

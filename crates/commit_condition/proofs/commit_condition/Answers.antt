@@ -1,11 +1,5 @@
-use mathlib.Core.Path.{◌≡◌, sym, ◌∙◌}
-use Prim.Native.Nat.{◌≤◌, ◌-◌}
+use mathlib.Core.Path.{sym, ◌∙◌}
 use native.Mathlib.Omega.{arith}
-use borrow.Author.Rules.{rules}
-use Rattle.layout.specs.Layout.{request_places}
-use Rattle.inst_reqs.specs.Batch.{requests_of}
-use Rattle.bodega.specs.Localread.{commit_condition}
-use Rattle.roster_conf.specs.Edits.{view}
 use Rattle.commit_condition.proofs.Laws as law
 use mathlib.Core.Path.{ap}
 use mathlib.Core.Bool.{not}

@@ -1,7 +1,6 @@
 use native.Mathlib.Nat.{sub-zero}
 use native.Mathlib.Omega.{arith}
 use Rattle.commit_condition.proofs.Laws as law
-use borrow.Author.Rules.{rules}
 use Rattle.commit_condition.proofs.responders_by_key.Goals as goal
 
 pub returns-in_default : goal.returns-in_default

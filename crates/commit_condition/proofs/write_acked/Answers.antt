@@ -1,5 +1,4 @@
 use Rattle.commit_condition.proofs.Laws as law
-use borrow.Author.Rules.{rules}
 use Rattle.commit_condition.proofs.write_acked.Goals as goal
 
 pub returns : goal.returns

@@ -1,7 +1,5 @@
 use Rattle.decimal.proofs.Laws as law
-use Rattle.inty.specs.Value.{value_of}
 use borrow.Author.Rules.{rules}
-use Prim.Native.Nat.{ℕ, ◌<◌}
 use Rattle.decimal.proofs.+digit_count.Goals as goal
 
 pub returns-then-is_zero : goal.returns-then-is_zero

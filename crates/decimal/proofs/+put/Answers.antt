@@ -1,9 +1,5 @@
 use Rattle.decimal.proofs.Laws as law
-use Rattle.inty.specs.Value.{value_of}
 use borrow.Author.Rules.{rules}
-use lib.ListN.{length-set}
-use mathlib.Core.Path.{◌∙◌}
-use Prim.Native.Nat.{ℕ, ◌<◌}
 use Rattle.decimal.proofs.+put.Goals as goal
 
 pub digit-d-requires : goal.digit-d-requires

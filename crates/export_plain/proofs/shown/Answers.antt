@@ -1,5 +1,4 @@
 use Rattle.export_plain.proofs.Laws as law
-use borrow.Author.Rules.{rules}
 use Rattle.export_plain.proofs.shown.Goals as goal
 
 pub returns-then-a-eq0 : goal.returns-then-a-eq0

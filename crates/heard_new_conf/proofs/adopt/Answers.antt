@@ -1,6 +1,5 @@
 use native.Mathlib.Omega.{arith}
 use Rattle.heard_new_conf.proofs.Laws as law
-use borrow.Author.Rules.{rules}
 use Rattle.heard_new_conf.proofs.adopt.Goals as goal
 
 pub slice_bounds-copy-end : goal.slice_bounds-copy-end

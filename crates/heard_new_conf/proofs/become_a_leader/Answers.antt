@@ -1,7 +1,6 @@
 use mathlib.Core.Path.{refl}
 use native.Mathlib.Omega.{arith}
 use Rattle.heard_new_conf.proofs.Laws as law
-use borrow.Author.Rules.{rules}
 use Rattle.heard_new_conf.proofs.become_a_leader.Goals as goal
 
 pub slice_bounds-slots_after-end : goal.slice_bounds-slots_after-end

@@ -1,6 +1,5 @@
 use native.Mathlib.Omega.{arith}
 use Rattle.heard_new_conf.proofs.Laws as law
-use borrow.Author.Rules.{rules}
 use mathlib.Core.Path.{ap}
 use mathlib.Core.Bool.{not}
 use Rattle.heard_new_conf.proofs.count_new_conf.Goals as goal

@@ -1,5 +1,4 @@
 use Rattle.heard_new_conf.proofs.Laws as law
-use borrow.Author.Rules.{rules}
 use Rattle.heard_new_conf.proofs.forget.Goals as goal
 
 pub returns : goal.returns

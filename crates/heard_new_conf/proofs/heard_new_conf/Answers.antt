@@ -1,5 +1,4 @@
 use Rattle.heard_new_conf.proofs.Laws as law
-use borrow.Author.Rules.{rules}
 use mathlib.Core.Path.{ap}
 use mathlib.Core.Bool.{not}
 use Rattle.heard_new_conf.proofs.heard_new_conf.Goals as goal

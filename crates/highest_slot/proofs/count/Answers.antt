@@ -1,6 +1,5 @@
 use Rattle.highest_slot.proofs.Laws as law
 use native.Mathlib.Omega.{arith}
-use borrow.Author.Rules.{rules}
 use Rattle.highest_slot.proofs.count.Goals as goal
 
 pub returns-then-n : goal.returns-then-n

@@ -1,7 +1,4 @@
-use Rattle.highest_slot.specs.Written.{place_of, written_of}
-use Rattle.key_words.specs.Key.{bytes_of}
-use Prim.Native.Nat.{◌≤◌, ◌-◌}
-use mathlib.Core.Path.{◌≡◌, sym, ◌∙◌}
+use mathlib.Core.Path.{sym, ◌∙◌}
 use Rattle.highest_slot.proofs.Laws as law
 use native.Mathlib.Omega.{arith}
 use Rattle.highest_slot.proofs.find.Goals as goal

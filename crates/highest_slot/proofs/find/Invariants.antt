@@ -1,9 +1,8 @@
 use Rattle.highest_slot.specs.Written.{place_of, written_of}
 use Rattle.key_words.specs.Key.{bytes_of}
 use Prim.Native.Nat.{◌≤◌, ◌-◌}
-use mathlib.Core.Path.{◌≡◌, sym, ◌∙◌}
+use mathlib.Core.Path.{◌≡◌}
 use Rattle.highest_slot.proofs.Laws as law
-use native.Mathlib.Omega.{arith}
 use Rattle.highest_slot.proofs.find.Given as goal
 
 abbrev pub invariant-loop-i : goal.invariant-loop-i

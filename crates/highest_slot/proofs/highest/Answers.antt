@@ -1,9 +1,6 @@
 use mathlib.Core.Path.{refl}
-use Prim.Native.Nat.{◌<◌}
-use Rattle.layout.specs.Layout.{written_places}
 use Rattle.highest_slot.proofs.Laws as law
 use native.Mathlib.Omega.{arith}
-use borrow.Author.Rules.{rules}
 use Rattle.highest_slot.proofs.highest.Goals as goal
 
 pub overflow_mul-p : goal.overflow_mul-p

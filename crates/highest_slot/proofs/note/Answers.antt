@@ -1,10 +1,7 @@
 use mathlib.Core.Path.{refl}
-use Prim.Native.Nat.{◌<◌}
-use Rattle.layout.specs.Layout.{written_places}
 use Rattle.highest_slot.proofs.Laws as law
 use native.Mathlib.Omega.{arith}
 use lib.ListN.{length-set}
-use borrow.Author.Rules.{rules}
 use Rattle.highest_slot.proofs.note.Goals as goal
 
 pub overflow_mul-p : goal.overflow_mul-p

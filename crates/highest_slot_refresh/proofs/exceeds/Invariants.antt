@@ -1,12 +1,9 @@
-use Prim.Native.Nat.{ℕ, ◌≤◌, ◌+◌, ◌-◌}
+use Prim.Native.Nat.{ℕ, ◌≤◌, ◌-◌}
 use mathlib.Core.Path.{◌≡◌}
 use lib.ListN.{length}
 use Rattle.ids.specs.Limits.{keys}
 use Rattle.layout.specs.Layout.{request_places}
 use Rattle.highest_slot_refresh.specs.Refresh.{after}
-use Rattle.highest_slot_refresh.proofs.Laws as law
-use borrow.Author.Rules.{rules}
-use native.Mathlib.Omega.{arith}
 use Rattle.highest_slot_refresh.proofs.exceeds.Given as goal
 
 abbrev pub invariant-loop-i : goal.invariant-loop-i

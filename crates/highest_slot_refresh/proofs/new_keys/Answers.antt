@@ -1,7 +1,6 @@
 use mathlib.Core.Path.{sym}
 use Rattle.highest_slot_refresh.proofs.Laws as law
 use native.Mathlib.Omega.{arith}
-use borrow.Author.Rules.{rules}
 use Rattle.highest_slot_refresh.proofs.new_keys.Goals as goal
 
 pub returns-in-Get : goal.returns-in-Get

@@ -1,5 +1,4 @@
 use Rattle.highest_slot_refresh.proofs.Laws as law
-use borrow.Author.Rules.{rules}
 use Rattle.highest_slot_refresh.proofs.note_at.Goals as goal
 
 pub returns-in-Get : goal.returns-in-Get

@@ -1,5 +1,4 @@
 use Rattle.highest_slot_refresh.proofs.Laws as law
-use borrow.Author.Rules.{rules}
 use Rattle.highest_slot_refresh.proofs.overflows.Goals as goal
 
 pub returns-then-n-m-le-KEYS : goal.returns-then-n-m-le-KEYS

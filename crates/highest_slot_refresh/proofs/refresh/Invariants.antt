@@ -1,9 +1,6 @@
 use Prim.Native.Nat.{◌≤◌, ◌-◌}
-use mathlib.Core.Path.{◌≡◌}
-use lib.ListN.{length}
 use Rattle.layout.specs.Layout.{request_places}
 use Rattle.highest_slot_refresh.proofs.Laws as law
-use native.Mathlib.Omega.{arith}
 use Rattle.highest_slot_refresh.proofs.refresh.Given as goal
 
 abbrev pub invariant-loop-i : goal.invariant-loop-i

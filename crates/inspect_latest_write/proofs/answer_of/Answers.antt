@@ -4,7 +4,6 @@ use mathlib.Core.Path.{refl}
 use Rattle.inspect_latest_write.specs.declared.ReadAnswer.TheVariants.{Found, FromStore, Again}
 use Rattle.words.specs.Part.{part}
 use Rattle.node.specs.View.{view}
-use borrow.Author.Rules.{rules}
 use Rattle.inspect_latest_write.proofs.answer_of.Goals as goal
 
 pub returns-in-StableLeader : goal.returns-in-StableLeader

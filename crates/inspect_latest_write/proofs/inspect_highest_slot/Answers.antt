@@ -1,7 +1,6 @@
 use Rattle.inspect_latest_write.proofs.Laws as law
 use Rattle.key_words.specs.Key.{bytes_of}
 use Rattle.insts.specs.Slots.{batch_at, reads_at}
-use borrow.Author.Rules.{rules}
 use mathlib.Core.Path.{ap}
 use mathlib.Core.Bool.{not}
 use Rattle.inspect_latest_write.proofs.inspect_highest_slot.Goals as goal

@@ -1,6 +1,5 @@
 use Rattle.inspect_latest_write.proofs.Laws as law
 use Rattle.key_words.specs.Key.{bytes_of}
-use borrow.Author.Rules.{rules}
 use Rattle.inspect_latest_write.proofs.inspect_latest_write.Goals as goal
 
 pub returns-in_default : goal.returns-in_default

@@ -1,7 +1,6 @@
 use Rattle.inspect_latest_write.proofs.Laws as law
 use mathlib.Core.Path.{sym, ◌∙◌}
 use borrow.Author.Tests.{not-true, not-false}
-use borrow.Author.Rules.{rules}
 use mathlib.Core.Path.{ap}
 use mathlib.Core.Bool.{not}
 use Rattle.inspect_latest_write.proofs.is_stable_leader.Goals as goal

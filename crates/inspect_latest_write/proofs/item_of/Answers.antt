@@ -1,7 +1,6 @@
 use Rattle.inspect_latest_write.proofs.Laws as law
 use Rattle.node.specs.View.{view}
 use Rattle.roster_conf.specs.Edits.{view as roster_of}
-use borrow.Author.Rules.{rules}
 use Rattle.inspect_latest_write.proofs.item_of.Goals as goal
 
 pub returns-in-Found : goal.returns-in-Found

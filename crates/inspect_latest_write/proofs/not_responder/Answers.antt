@@ -1,5 +1,4 @@
 use Rattle.inspect_latest_write.proofs.Laws as law
-use borrow.Author.Rules.{rules}
 use Rattle.inspect_latest_write.proofs.not_responder.Goals as goal
 
 pub returns-in-Mask : goal.returns-in-Mask

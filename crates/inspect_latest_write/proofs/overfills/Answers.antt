@@ -3,7 +3,6 @@ use Rattle.inspect_latest_write.proofs.Laws as law
 use Rattle.node.specs.View.{view}
 use Rattle.words.specs.Part.{part}
 use native.Mathlib.Omega.{arith}
-use borrow.Author.Rules.{rules}
 use Rattle.inspect_latest_write.proofs.overfills.Goals as goal
 
 pub returns-in_default : goal.returns-in_default

@@ -2,7 +2,6 @@ use Rattle.layout.specs.Layout.{slots_at, slot_words}
 use Rattle.inspect_latest_write.proofs.Laws as law
 use Rattle.node.specs.View.{view}
 use Rattle.words.specs.Part.{part}
-use borrow.Author.Rules.{rules}
 use Rattle.inspect_latest_write.proofs.read_answer.Goals as goal
 
 pub returns : goal.returns

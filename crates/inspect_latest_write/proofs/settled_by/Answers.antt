@@ -4,7 +4,6 @@ use mathlib.Core.Path.{refl}
 use Rattle.node.specs.View.{view}
 use Rattle.words.specs.Part.{part}
 use native.Mathlib.Omega.{arith}
-use borrow.Author.Rules.{rules}
 use mathlib.Core.Path.{ap}
 use mathlib.Core.Bool.{not}
 use Rattle.inspect_latest_write.proofs.settled_by.Goals as goal

@@ -1,7 +1,6 @@
 use Rattle.inspect_latest_write.proofs.Laws as law
 use mathlib.Core.Path.{◌∙◌}
 use Rattle.inst_cell.specs.Cell.{book_of}
-use borrow.Author.Rules.{rules}
 use Rattle.inspect_latest_write.proofs.waits.Goals as goal
 
 pub returns-in-Null : goal.returns-in-Null

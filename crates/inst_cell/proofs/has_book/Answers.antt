@@ -1,5 +1,4 @@
 use Rattle.inst_cell.proofs.Laws as law
-use borrow.Author.Rules.{rules}
 use Rattle.inst_cell.proofs.has_book.Goals as goal
 
 pub returns : goal.returns

@@ -1,4 +1,3 @@
-use borrow.Author.Rules.{rules}
 use Rattle.inst_cell.proofs.is_below_accepting.Goals as goal
 
 pub returns-in-Null : goal.returns-in-Null

@@ -1,4 +1,3 @@
-use borrow.Author.Rules.{rules}
 use Rattle.inst_cell.proofs.set_status.Goals as goal
 
 pub returns : goal.returns

@@ -4,7 +4,6 @@ use Rattle.inst_cell.specs.Cell.{status_of, acks_of, book_of}
 use Rattle.inst_cell.proofs.Laws as law
 use lib.ListN.{length-set}
 use native.Mathlib.Omega.{arith}
-use borrow.Author.Rules.{rules}
 use Rattle.inst_cell.proofs.store.Goals as goal
 
 pub bounds-cells-p1 : goal.bounds-cells-p1

@@ -1,5 +1,4 @@
 use Rattle.inst_holding.specs.Held.{read_from}
-use borrow.Author.Rules.{rules}
 use Rattle.inst_holding.proofs.get.Goals as goal
 
 pub returns : goal.returns

@@ -1,6 +1,5 @@
 use Rattle.inst_reqs.proofs.Laws as law
 use native.Mathlib.Omega.{arith}
-use borrow.Author.Rules.{rules}
 use Rattle.inst_reqs.proofs.count.Goals as goal
 
 pub returns-then-n : goal.returns-then-n

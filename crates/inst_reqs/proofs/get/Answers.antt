@@ -1,5 +1,4 @@
 use Rattle.inst_reqs.specs.Batch.{request_from}
-use borrow.Author.Rules.{rules}
 use Rattle.inst_reqs.proofs.get.Goals as goal
 
 pub returns : goal.returns

@@ -1,4 +1,3 @@
-use borrow.Author.Rules.{rules}
 use mathlib.Core.Path.{◌∙◌}
 use Rattle.inst_reqs.proofs.Laws as law
 use Rattle.inst_reqs.proofs.last_put.Goals as goal

@@ -1,11 +1,4 @@
-use borrow.Author.Rules.{rules}
-use Rattle.words.specs.Tab.{tab}
-use Rattle.layout.specs.Layout.{request_places}
-use Rattle.inst_reqs.specs.Batch.{request_at}
-use Rattle.bodega.specs.Localread.{last_put}
-use Rattle.key_words.specs.Key.{bytes_of}
-use Prim.Native.Nat.{◌≤◌}
-use mathlib.Core.Path.{◌≡◌, sym, ◌∙◌}
+use mathlib.Core.Path.{sym, ◌∙◌}
 use Rattle.inst_reqs.proofs.Laws as law
 use native.Mathlib.Omega.{arith}
 use Rattle.inst_reqs.proofs.last_put_among.Goals as goal

@@ -1,6 +1,5 @@
 use native.Mathlib.Omega.{arith}
 use lib.ListN.{length-set}
-use borrow.Author.Rules.{rules}
 use Rattle.inst_reqs.proofs.put.Goals as goal
 
 pub bounds-s-p1 : goal.bounds-s-p1

@@ -1,10 +1,7 @@
 use Rattle.insts.proofs.Laws as law
-use Rattle.insts.specs.Slots.{insts_of}
 use Rattle.bodega.specs.Replica.{Instance, is_open}
-use Rattle.bodega.specs.Grounds.{any}
-use mathlib.Core.Path.{◌≡◌, sym, ◌∙◌}
+use mathlib.Core.Path.{sym, ◌∙◌}
 use mathlib.Core.Bool.{Bool}
-use Prim.Native.Nat.{◌≤◌, ◌-◌}
 use native.Mathlib.Omega.{arith}
 use Rattle.insts.proofs.any_open.Goals as goal
 

@@ -2,10 +2,9 @@ use Rattle.insts.proofs.Laws as law
 use Rattle.insts.specs.Slots.{insts_of}
 use Rattle.bodega.specs.Replica.{Instance, is_open}
 use Rattle.bodega.specs.Grounds.{any}
-use mathlib.Core.Path.{◌≡◌, sym, ◌∙◌}
+use mathlib.Core.Path.{◌≡◌}
 use mathlib.Core.Bool.{Bool}
 use Prim.Native.Nat.{◌≤◌, ◌-◌}
-use native.Mathlib.Omega.{arith}
 use Rattle.insts.proofs.any_open.Given as goal
 
 abbrev is_open_at : Instance → Bool

@@ -1,7 +1,6 @@
 use Rattle.layout.specs.Layout.{held_words, reads_from}
 use Rattle.insts.proofs.Laws as law
 use Prim.Native.Nat.{◌+◌, ◌*◌}
-use borrow.Author.Rules.{rules}
 use Rattle.insts.proofs.clear_reads.Goals as goal
 
 pub returns : goal.returns

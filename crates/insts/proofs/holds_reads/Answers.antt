@@ -1,6 +1,5 @@
 use Rattle.insts.specs.Slots.{short_at}
 use Rattle.insts.proofs.Laws as law
-use borrow.Author.Rules.{rules}
 use mathlib.Core.Path.{ap}
 use mathlib.Core.Bool.{not}
 use Rattle.insts.proofs.holds_reads.Goals as goal

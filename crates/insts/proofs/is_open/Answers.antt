@@ -1,5 +1,4 @@
 use Rattle.insts.specs.Slots.{short_at, inst_in}
-use borrow.Author.Rules.{rules}
 use Rattle.insts.proofs.is_open.Goals as goal
 
 pub returns : goal.returns

@@ -2,7 +2,6 @@ use Rattle.layout.specs.Layout.{batch_words, batches_from}
 use Rattle.insts.proofs.Laws as law
 use Prim.Native.Nat.{◌+◌, ◌*◌}
 use Rattle.key_words.specs.Key.{bytes_of}
-use borrow.Author.Rules.{rules}
 use Rattle.insts.proofs.last_put.Goals as goal
 
 pub returns : goal.returns

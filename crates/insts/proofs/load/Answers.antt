@@ -1,5 +1,4 @@
 use Rattle.insts.specs.Slots.{short_at}
-use borrow.Author.Rules.{rules}
 use Rattle.insts.proofs.load.Goals as goal
 
 pub returns : goal.returns

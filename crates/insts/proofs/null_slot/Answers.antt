@@ -1,5 +1,4 @@
 use Rattle.insts.proofs.Laws as law
-use borrow.Author.Rules.{rules}
 use Rattle.insts.proofs.null_slot.Goals as goal
 
 pub returns : goal.returns

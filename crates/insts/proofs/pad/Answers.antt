@@ -1,12 +1,6 @@
 use Rattle.insts.proofs.Laws as law
 use native.Mathlib.Omega.{arith}
-use borrow.Author.Rules.{rules}
-use mathlib.Core.Path.{◌≡◌, refl, ◌∙◌}
-use mathlib.Core.List.{◌++◌}
-use Prim.Native.Nat.{◌-◌, ◌≤◌}
-use lib.ListN.{length, replicate}
-use Rattle.bodega.specs.Replica.{null_instance}
-use Rattle.insts.specs.Slots.{insts_of}
+use mathlib.Core.Path.{refl, ◌∙◌}
 use Rattle.insts.proofs.pad.Goals as goal
 
 pub loop-i-init : goal.loop-i-init

@@ -2,7 +2,6 @@ use Rattle.layout.specs.Layout.{held_words, reads_from}
 use Rattle.insts.proofs.Laws as law
 use Prim.Native.Nat.{◌+◌, ◌*◌}
 use Rattle.inst_holding.specs.Held.{read_of}
-use borrow.Author.Rules.{rules}
 use Rattle.insts.proofs.push_read.Goals as goal
 
 pub returns : goal.returns

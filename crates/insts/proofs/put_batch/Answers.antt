@@ -1,7 +1,6 @@
 use Rattle.layout.specs.Layout.{batch_words, batches_from}
 use Rattle.insts.proofs.Laws as law
 use Prim.Native.Nat.{◌+◌, ◌*◌}
-use borrow.Author.Rules.{rules}
 use Rattle.insts.proofs.put_batch.Goals as goal
 
 pub returns : goal.returns

@@ -1,6 +1,5 @@
 use Rattle.insts.proofs.Laws as law
 use Rattle.inst_cell.specs.Cell.{status_of}
-use borrow.Author.Rules.{rules}
 use Rattle.insts.proofs.set_status.Goals as goal
 
 pub returns : goal.returns

@@ -1,6 +1,5 @@
 use Rattle.insts.proofs.Laws as law
 use Rattle.inst_cell.specs.Cell.{cell_of}
-use borrow.Author.Rules.{rules}
 use Rattle.insts.proofs.store.Goals as goal
 
 pub returns : goal.returns

@@ -1,6 +1,5 @@
 use native.Mathlib.Omega.{arith}
 use lib.ListN.{length-set}
-use borrow.Author.Rules.{rules}
 use Rattle.items.proofs.store.Goals as goal
 
 pub bounds-area-p1 : goal.bounds-area-p1

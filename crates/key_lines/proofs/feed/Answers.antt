@@ -1,11 +1,6 @@
 use Rattle.key_lines.proofs.Laws as law
-use mathlib.Core.Path.{◌≡◌}
 use mathlib.Core.List.{[]}
-use Prim.Native.Nat.{◌+◌, ◌-◌, ◌*◌, ◌≤◌}
-use lib.ListN.{length, drop}
-use Rattle.stream_pieces.specs.Streamed.{streamed, output_after}
 use Rattle.stream_pieces.proofs.Laws as pieces
-use Rattle.key_lines.specs.Lines.{line_output}
 use borrow.Author.Rules.{rules}
 use Rattle.key_lines.proofs.feed.Goals as goal
 

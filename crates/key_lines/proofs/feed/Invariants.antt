@@ -1,12 +1,9 @@
-use Rattle.key_lines.proofs.Laws as law
 use mathlib.Core.Path.{◌≡◌}
 use mathlib.Core.List.{[]}
 use Prim.Native.Nat.{◌+◌, ◌-◌, ◌*◌, ◌≤◌}
 use lib.ListN.{length, drop}
 use Rattle.stream_pieces.specs.Streamed.{streamed, output_after}
-use Rattle.stream_pieces.proofs.Laws as pieces
 use Rattle.key_lines.specs.Lines.{line_output}
-use borrow.Author.Rules.{rules}
 use Rattle.key_lines.proofs.feed.Given as goal
 
 abbrev pub invariant-loop-long : goal.invariant-loop-long

@@ -1,7 +1,6 @@
 use lib.ListN.{get_or-eq_default}
 use mathlib.Core.Path.{sym}
 use native.Mathlib.Omega.{arith}
-use borrow.Author.Rules.{rules}
 use Rattle.key_words.proofs.byte_or_0.Goals as goal
 
 pub returns-then-i-k : goal.returns-then-i-k

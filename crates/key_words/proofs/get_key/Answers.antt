@@ -1,6 +1,5 @@
 use Rattle.key_words.specs.Key.{key_at}
 use mathlib.Core.Path.{refl}
-use borrow.Author.Rules.{rules}
 use Rattle.key_words.proofs.get_key.Goals as goal
 
 pub returns : goal.returns

@@ -1,5 +1,4 @@
 use mathlib.Core.Path.{sym}
-use borrow.Author.Rules.{rules}
 use Rattle.key_words.proofs.is_packed.Goals as goal
 
 pub returns-then-is_short : goal.returns-then-is_short

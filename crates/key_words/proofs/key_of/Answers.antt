@@ -1,5 +1,4 @@
 use Rattle.key_words.specs.Key.{pack_of}
-use borrow.Author.Rules.{rules}
 use Rattle.key_words.proofs.key_of.Goals as goal
 
 pub returns : goal.returns

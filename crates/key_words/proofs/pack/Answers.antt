@@ -1,6 +1,5 @@
 use Rattle.key_words.proofs.Laws as law
 use native.Mathlib.Omega.{arith}
-use borrow.Author.Rules.{rules}
 use Rattle.key_words.proofs.pack.Goals as goal
 
 pub returns-then-bytes-gt-KEY_BYTES : goal.returns-then-bytes-gt-KEY_BYTES

@@ -1,6 +1,5 @@
 use Rattle.key_words.proofs.Laws as law
 use native.Mathlib.Omega.{arith}
-use borrow.Author.Rules.{rules}
 use mathlib.Core.Path.{ap, ◌∙◌}
 use Rattle.key_words.specs.Key.{bytes_of}
 use Rattle.key_words.proofs.pack_short.Goals as goal

@@ -1,7 +1,6 @@
 use native.Mathlib.Nat.{sub-zero}
 use native.Mathlib.Omega.{arith}
 use Rattle.key_words.proofs.Laws as law
-use borrow.Author.Rules.{rules}
 use Rattle.key_words.proofs.packs_back.Goals as goal
 
 pub returns-then-k : goal.returns-then-k

@@ -1,6 +1,5 @@
 use native.Mathlib.Omega.{arith}
 use lib.ListN.{length-set}
-use borrow.Author.Rules.{rules}
 use Rattle.key_words.proofs.put_key.Goals as goal
 
 pub bounds-s-a1 : goal.bounds-s-a1

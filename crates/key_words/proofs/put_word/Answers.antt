@@ -1,6 +1,5 @@
 use native.Mathlib.Omega.{arith}
 use lib.ListN.{length-set}
-use borrow.Author.Rules.{rules}
 use Rattle.key_words.proofs.put_word.Goals as goal
 
 pub bounds-out-a1 : goal.bounds-out-a1

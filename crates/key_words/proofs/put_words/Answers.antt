@@ -1,5 +1,4 @@
 use Rattle.key_words.proofs.Laws as law
-use borrow.Author.Rules.{rules}
 use Rattle.key_words.proofs.put_words.Goals as goal
 
 pub returns : goal.returns

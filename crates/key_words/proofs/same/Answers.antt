@@ -1,6 +1,5 @@
 use Rattle.key_words.proofs.Laws as law
 use mathlib.Core.Path.{sym, ◌∙◌}
-use borrow.Author.Rules.{rules}
 use Rattle.key_words.proofs.same.Goals as goal
 
 pub returns : goal.returns

@@ -1,9 +1,4 @@
 use Rattle.keys.proofs.Laws as law
-use Rattle.keys.specs.Read.{number, overflow}
-use Rattle.inty.specs.Value.{value_of}
-use mathlib.Core.Path.{◌≡◌}
-use Prim.Native.Nat.{◌-◌, ◌^◌, ◌≤◌, ◌<◌}
-use lib.ListN.{length, drop}
 use borrow.Author.Rules.{rules}
 use Rattle.keys.proofs.read_long.Goals as goal
 

@@ -1,8 +1,4 @@
 use Rattle.keys.proofs.Laws as law
-use Rattle.keys.specs.Read.{strip}
-use mathlib.Core.Path.{◌≡◌}
-use Prim.Native.Nat.{◌-◌, ◌≤◌}
-use lib.ListN.{length, drop}
 use borrow.Author.Rules.{rules}
 use Rattle.keys.proofs.skip_ks.Goals as goal
 

@@ -1,9 +1,7 @@
-use Rattle.keys.proofs.Laws as law
 use Rattle.keys.specs.Read.{strip}
 use mathlib.Core.Path.{◌≡◌}
 use Prim.Native.Nat.{◌-◌, ◌≤◌}
 use lib.ListN.{length, drop}
-use borrow.Author.Rules.{rules}
 use Rattle.keys.proofs.skip_ks.Given as goal
 
 abbrev pub invariant-loop-i : goal.invariant-loop-i

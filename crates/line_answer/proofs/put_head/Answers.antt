@@ -1,7 +1,6 @@
 use Rattle.text.proofs.Laws.{field}
 use Rattle.line_answer.proofs.Laws as law
 use native.Mathlib.Omega.{arith}
-use borrow.Author.Rules.{rules}
 use Rattle.line_answer.proofs.put_head.Goals as goal
 
 pub returns : goal.returns

@@ -1,5 +1,4 @@
 use Rattle.line_answer.proofs.Items as items
-use borrow.Author.Rules.{rules}
 use Rattle.line_answer.proofs.put_item.Goals as goal
 
 pub returns : goal.returns

@@ -1,10 +1,7 @@
 use Rattle.line_answer.proofs.Items as items
 use borrow.Author.Rules.{rules}
-use mathlib.Core.Path.{◌≡◌, refl}
-use Prim.Native.Nat.{◌-◌, ◌≤◌}
-use Rattle.line_answer.specs.Wrote.{Listed}
+use mathlib.Core.Path.{refl}
 use native.Mathlib.Omega.{arith}
-use lib.ListN.{length}
 use Rattle.line_answer.proofs.put_items.Goals as goal
 
 pub loop-i-init : goal.loop-i-init

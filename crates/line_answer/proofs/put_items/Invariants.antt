@@ -1,9 +1,6 @@
-use Rattle.line_answer.proofs.Items as items
-use borrow.Author.Rules.{rules}
-use mathlib.Core.Path.{◌≡◌, refl}
+use mathlib.Core.Path.{◌≡◌}
 use Prim.Native.Nat.{◌-◌, ◌≤◌}
 use Rattle.line_answer.specs.Wrote.{Listed}
-use native.Mathlib.Omega.{arith}
 use lib.ListN.{length}
 use Rattle.line_answer.proofs.put_items.Given as goal
 

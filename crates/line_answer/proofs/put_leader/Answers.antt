@@ -1,5 +1,4 @@
 use Rattle.line_answer.proofs.Laws as law
-use borrow.Author.Rules.{rules}
 use Rattle.line_answer.proofs.put_leader.Goals as goal
 
 pub returns-then-c-eq0 : goal.returns-then-c-eq0

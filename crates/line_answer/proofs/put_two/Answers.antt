@@ -1,6 +1,5 @@
 use Rattle.line_answer.proofs.Laws as law
 use native.Mathlib.Omega.{arith}
-use borrow.Author.Rules.{rules}
 use Rattle.line_answer.proofs.put_two.Goals as goal
 
 pub returns : goal.returns

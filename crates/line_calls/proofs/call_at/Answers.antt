@@ -1,5 +1,4 @@
 use Rattle.line_calls.proofs.Laws as law
-use native.Mathlib.Omega.{arith}
 use borrow.Author.Rules.{rules}
 use Rattle.line_calls.proofs.call_at.Goals as goal
 

@@ -1,7 +1,5 @@
 use Rattle.line_calls.proofs.Laws as law
-use native.Mathlib.Omega.{arith}
 use lib.ListN.{get_or}
-use borrow.Author.Rules.{rules}
 use Rattle.line_calls.proofs.call_by.Goals as goal
 
 pub returns-in-Guard : goal.returns-in-Guard

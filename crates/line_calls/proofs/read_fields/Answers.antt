@@ -1,5 +1,4 @@
 use Rattle.line_calls.proofs.Laws as law
-use borrow.Author.Rules.{rules}
 use mathlib.Core.Path.{ap}
 use mathlib.Core.Bool.{not}
 use Rattle.line_calls.proofs.read_fields.Goals as goal

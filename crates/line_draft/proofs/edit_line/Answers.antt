@@ -1,6 +1,5 @@
 use Rattle.line_kind.specs.declared.EditKind.TheVariants.{Lead, Range, Whole, Drop, Reset}
 use Rattle.line_draft.proofs.Laws as law
-use borrow.Author.Rules.{rules}
 use Rattle.line_draft.proofs.edit_line.Goals as goal
 
 pub returns-in-Lead : goal.returns-in-Lead

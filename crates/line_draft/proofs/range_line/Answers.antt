@@ -1,9 +1,6 @@
 use borrow.Author.Tests.{not-false}
 use Rattle.line_draft.proofs.Laws as law
 use native.Mathlib.Omega.{arith}
-use borrow.Author.Rules.{rules}
-use mathlib.Core.Path.{ap}
-use mathlib.Core.Bool.{not}
 use Rattle.line_draft.proofs.range_line.Goals as goal
 
 pub returns-then-not-f : goal.returns-then-not-f

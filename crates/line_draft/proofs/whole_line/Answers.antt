@@ -1,7 +1,6 @@
 use Rattle.roster_conf.specs.Edit.{SetFull}
 use Rattle.line_draft.proofs.Laws as law
 use native.Mathlib.Omega.{arith}
-use borrow.Author.Rules.{rules}
 use mathlib.Core.Path.{ap}
 use mathlib.Core.Bool.{not}
 use Rattle.line_draft.proofs.whole_line.Goals as goal

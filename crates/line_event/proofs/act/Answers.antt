@@ -1,6 +1,5 @@
 use Rattle.line_kind.specs.declared.Kind.TheVariants.{Node, Edit, Show, Heard, Record, Call, Unknown}
 use Rattle.line_event.proofs.Laws as law
-use borrow.Author.Rules.{rules}
 use Rattle.line_event.proofs.act.Goals as goal
 
 pub returns-in-Node : goal.returns-in-Node

@@ -1,5 +1,4 @@
 use Rattle.line_event.proofs.Laws as law
-use borrow.Author.Rules.{rules}
 use Rattle.line_event.proofs.event.Goals as goal
 
 pub returns-then-out-lt65536 : goal.returns-then-out-lt65536

@@ -1,6 +1,5 @@
 use Rattle.line_event.proofs.Laws as law
 use native.Mathlib.Omega.{arith}
-use borrow.Author.Rules.{rules}
 use mathlib.Core.Path.{ap}
 use mathlib.Core.Bool.{not}
 use Rattle.line_event.proofs.hear.Goals as goal

@@ -1,5 +1,4 @@
 use Rattle.line_event.proofs.Laws as law
-use borrow.Author.Rules.{rules}
 use Rattle.line_event.proofs.population_of.Goals as goal
 
 pub returns-then-is_ready : goal.returns-then-is_ready

@@ -1,6 +1,5 @@
 use mathlib.Core.Path.{refl}
 use native.Mathlib.Omega.{arith}
-use borrow.Author.Rules.{rules}
 use Rattle.line_fields.proofs.closed.Goals as goal
 
 pub overflow_add-result : goal.overflow_add-result

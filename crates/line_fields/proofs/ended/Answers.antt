@@ -1,5 +1,4 @@
 use Rattle.line_fields.proofs.Laws as law
-use native.Mathlib.Omega.{arith}
 use Rattle.line_fields.proofs.ended.Goals as goal
 
 pub returns : goal.returns

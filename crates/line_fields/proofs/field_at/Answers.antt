@@ -1,7 +1,4 @@
-use Prim.Native.Nat.{◌-◌, ◌≤◌}
-use lib.ListN.{length}
 use Rattle.line_fields.proofs.Laws as law
-use Rattle.line_fields.proofs.Laws.{Passed}
 use native.Mathlib.Omega.{arith}
 use Rattle.line_fields.proofs.field_at.Goals as goal
 

@@ -1,8 +1,6 @@
 use Prim.Native.Nat.{◌-◌, ◌≤◌}
 use lib.ListN.{length}
-use Rattle.line_fields.proofs.Laws as law
 use Rattle.line_fields.proofs.Laws.{Passed}
-use native.Mathlib.Omega.{arith}
 use Rattle.line_fields.proofs.field_at.Given as goal
 
 abbrev pub invariant-loop-end : goal.invariant-loop-end

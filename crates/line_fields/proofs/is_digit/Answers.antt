@@ -1,5 +1,4 @@
 use Rattle.line_fields.proofs.Laws as law
-use native.Mathlib.Omega.{arith}
 use Rattle.line_fields.proofs.is_digit.Goals as goal
 
 pub returns-then-c-lt48 : goal.returns-then-c-lt48

@@ -1,8 +1,5 @@
-use Prim.Native.Nat.{◌-◌}
 use mathlib.Core.Path.{sym, ◌∙◌}
-use lib.ListN.{length}
 use Rattle.line_fields.proofs.Laws as law
-use Rattle.line_fields.proofs.Laws.{Digits}
 use native.Mathlib.Omega.{arith}
 use Rattle.line_fields.proofs.number_at.Goals as goal
 

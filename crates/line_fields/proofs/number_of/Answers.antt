@@ -1,6 +1,4 @@
 use Rattle.line_fields.proofs.Laws as law
-use native.Mathlib.Omega.{arith}
-use borrow.Author.Rules.{rules}
 use Rattle.line_fields.proofs.number_of.Goals as goal
 
 pub returns-then-ended : goal.returns-then-ended

@@ -1,8 +1,5 @@
 use Prim.Native.Nat.{◌-◌}
-use borrow.Author.Rules.{rules}
-use Rattle.line_fields.proofs.Laws as law
 use Rattle.line_fields.proofs.Laws.{ReadSoFar}
-use native.Mathlib.Omega.{arith}
 use Rattle.line_fields.proofs.numbers_at.Given as goal
 
 abbrev pub invariant-loop-i : goal.invariant-loop-i

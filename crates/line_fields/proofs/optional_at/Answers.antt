@@ -1,5 +1,4 @@
 use Rattle.line_fields.proofs.Laws as law
-use borrow.Author.Rules.{rules}
 use Rattle.line_fields.proofs.optional_at.Goals as goal
 
 pub returns-then-n : goal.returns-then-n

@@ -1,6 +1,5 @@
 use Rattle.line_host.proofs.Laws as law
 use mathlib.Core.Path.{refl}
-use borrow.Author.Rules.{rules}
 use Rattle.line_host.proofs.no_node.Goals as goal
 
 pub returns : goal.returns

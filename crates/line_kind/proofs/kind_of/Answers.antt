@@ -1,5 +1,4 @@
 use native.Mathlib.Omega.{arith}
-use borrow.Author.Rules.{rules}
 use Rattle.line_kind.proofs.Names as law
 use Rattle.line_kind.proofs.kind_of.Goals as goal
 

@@ -1,5 +1,3 @@
-use borrow.Author.Tests.{ne_eqb}
-use native.Mathlib.Omega.{arith}
 use Rattle.line_kind.proofs.of_eight.Goals as goal
 
 pub returns-in-8102650212938573156 : goal.returns-in-8102650212938573156

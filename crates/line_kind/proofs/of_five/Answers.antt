@@ -1,5 +1,3 @@
-use borrow.Author.Tests.{ne_eqb}
-use native.Mathlib.Omega.{arith}
 use Rattle.line_kind.proofs.of_five.Goals as goal
 
 pub returns-in-491260897125 : goal.returns-in-491260897125

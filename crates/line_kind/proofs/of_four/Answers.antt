@@ -1,5 +1,3 @@
-use borrow.Author.Tests.{ne_eqb}
-use native.Mathlib.Omega.{arith}
 use Rattle.line_kind.proofs.of_four.Goals as goal
 
 pub returns-in-1852793957 : goal.returns-in-1852793957

@@ -1,5 +1,3 @@
-use borrow.Author.Tests.{ne_eqb}
-use native.Mathlib.Omega.{arith}
 use Rattle.line_kind.proofs.of_seven.Goals as goal
 
 pub returns-in-32199663576773477 : goal.returns-in-32199663576773477

@@ -1,5 +1,3 @@
-use borrow.Author.Tests.{ne_eqb}
-use native.Mathlib.Omega.{arith}
 use Rattle.line_kind.proofs.of_six.Goals as goal
 
 pub returns-in-125779785511524 : goal.returns-in-125779785511524

@@ -1,8 +1,5 @@
-use Prim.Native.Nat.{◌-◌, ◌≤◌, ◌<◌, ◌^◌}
-use mathlib.Core.Path.{◌≡◌, refl}
+use mathlib.Core.Path.{refl}
 use lib.Dec.{lit<}
-use lib.ListN.{length, drop}
-use Rattle.line_kind.specs.Kind.{word_from, word_of}
 use Rattle.line_kind.proofs.Names as law
 use native.Mathlib.Omega.{arith}
 use Rattle.line_kind.proofs.word_of.Goals as goal

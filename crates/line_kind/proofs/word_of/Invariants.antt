@@ -1,10 +1,7 @@
 use Prim.Native.Nat.{◌-◌, ◌≤◌, ◌<◌, ◌^◌}
-use mathlib.Core.Path.{◌≡◌, refl}
-use lib.Dec.{lit<}
+use mathlib.Core.Path.{◌≡◌}
 use lib.ListN.{length, drop}
 use Rattle.line_kind.specs.Kind.{word_from, word_of}
-use Rattle.line_kind.proofs.Names as law
-use native.Mathlib.Omega.{arith}
 use Rattle.line_kind.proofs.word_of.Given as goal
 
 abbrev pub invariant-loop-i : goal.invariant-loop-i

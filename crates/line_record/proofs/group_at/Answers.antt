@@ -1,7 +1,4 @@
 use Rattle.line_record.proofs.Laws as law
-use borrow.Author.Rules.{rules}
-use mathlib.Core.Path.{ap}
-use mathlib.Core.Bool.{not}
 use Rattle.line_record.proofs.group_at.Goals as goal
 
 pub returns-then-not-request : goal.returns-then-not-request

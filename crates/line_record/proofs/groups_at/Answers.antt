@@ -1,7 +1,4 @@
-use Prim.Native.Nat.{◌+◌, ◌-◌}
-use lib.ListN.{length}
 use Rattle.line_record.proofs.Laws as law
-use Rattle.line_record.proofs.Laws.{Grouped}
 use native.Mathlib.Omega.{arith}
 use Rattle.line_record.proofs.groups_at.Goals as goal
 

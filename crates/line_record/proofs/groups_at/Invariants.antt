@@ -1,8 +1,6 @@
 use Prim.Native.Nat.{◌+◌, ◌-◌}
 use lib.ListN.{length}
-use Rattle.line_record.proofs.Laws as law
 use Rattle.line_record.proofs.Laws.{Grouped}
-use native.Mathlib.Omega.{arith}
 use Rattle.line_record.proofs.groups_at.Given as goal
 
 abbrev pub invariant-loop-next : goal.invariant-loop-next

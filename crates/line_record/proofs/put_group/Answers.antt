@@ -1,6 +1,5 @@
 use native.Mathlib.Omega.{arith}
 use lib.ListN.{length-set}
-use borrow.Author.Rules.{rules}
 use Rattle.line_record.proofs.put_group.Goals as goal
 
 pub bounds-groups-p1 : goal.bounds-groups-p1

@@ -1,8 +1,5 @@
 use Rattle.line_record.proofs.Laws as law
 use native.Mathlib.Omega.{arith}
-use borrow.Author.Rules.{rules}
-use mathlib.Core.Path.{ap}
-use mathlib.Core.Bool.{not}
 use Rattle.line_record.proofs.record_line.Goals as goal
 
 pub returns-then-not-n : goal.returns-then-not-n

@@ -1,9 +1,8 @@
 use Rattle.node.proofs.Laws as law
 use borrow.Author.Rules.{rules}
 use native.Mathlib.Omega.{arith}
-use mathlib.Core.Path.{◌≡◌, refl}
-use Prim.Native.Nat.{◌-◌, ◌≤◌}
-use lib.ListN.{length, length-set, take, replicate}
+use mathlib.Core.Path.{refl}
+use lib.ListN.{length-set}
 use Rattle.node.proofs.fill.Goals as goal
 
 pub loop-i-init : goal.loop-i-init

@@ -1,9 +1,6 @@
-use Rattle.node.proofs.Laws as law
-use borrow.Author.Rules.{rules}
-use native.Mathlib.Omega.{arith}
-use mathlib.Core.Path.{◌≡◌, refl}
+use mathlib.Core.Path.{◌≡◌}
 use Prim.Native.Nat.{◌-◌, ◌≤◌}
-use lib.ListN.{length, length-set, take, replicate}
+use lib.ListN.{length, take, replicate}
 use Rattle.node.proofs.fill.Given as goal
 
 abbrev pub invariant-loop-i : goal.invariant-loop-i

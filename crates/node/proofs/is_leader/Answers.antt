@@ -1,6 +1,5 @@
 use Rattle.node.specs.View.{view}
 use Rattle.roster_conf.specs.Edits.{view as roster_of}
-use borrow.Author.Rules.{rules}
 use Rattle.node.proofs.is_leader.Goals as goal
 
 pub returns : goal.returns

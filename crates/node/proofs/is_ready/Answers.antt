@@ -1,5 +1,4 @@
 use Rattle.node.specs.View.{ready}
-use borrow.Author.Rules.{rules}
 use Rattle.node.proofs.is_ready.Goals as goal
 
 pub returns : goal.returns

@@ -1,6 +1,4 @@
 use Rattle.node.proofs.Laws as law
-use lib.ListN.{length-set}
-use borrow.Author.Rules.{rules}
 use Rattle.node.proofs.reset.Goals as goal
 
 pub returns : goal.returns

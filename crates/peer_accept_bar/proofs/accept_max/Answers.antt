@@ -4,10 +4,8 @@ use native.Mathlib.Nat.{sub-zero}
 use mathlib.Core.Path.{◌≡◌, refl, ap, ◌∙◌}
 use mathlib.Core.List.{List}
 use Prim.Native.Nat.{ℕ, ◌-◌, ◌≤◌, ◌<◌}
-use lib.ListN.{length, length-set, take, get_or}
+use lib.ListN.{length, length-set, get_or}
 use lib.Seq.{length-take-le}
-use Rattle.words.specs.Tab.{tab}
-use Rattle.layout.specs.Layout.{replica_places}
 use Rattle.rank.specs.Sort.{sort}
 use Rattle.peer_accept_bar.proofs.accept_max.Goals as goal
 

@@ -1,14 +1,9 @@
 use Rattle.peer_accept_bar.proofs.Laws as law
-use native.Mathlib.Omega.{arith}
-use native.Mathlib.Nat.{sub-zero}
-use mathlib.Core.Path.{◌≡◌, refl, ap, ◌∙◌}
-use mathlib.Core.List.{List}
-use Prim.Native.Nat.{ℕ, ◌-◌, ◌≤◌, ◌<◌}
-use lib.ListN.{length, length-set, take, get_or}
-use lib.Seq.{length-take-le}
+use mathlib.Core.Path.{◌≡◌}
+use Prim.Native.Nat.{◌-◌, ◌≤◌}
+use lib.ListN.{length, take}
 use Rattle.words.specs.Tab.{tab}
 use Rattle.layout.specs.Layout.{replica_places}
-use Rattle.rank.specs.Sort.{sort}
 use Rattle.peer_accept_bar.proofs.accept_max.Given as goal
 
 abbrev pub invariant-loop-i : goal.invariant-loop-i

@@ -1,6 +1,5 @@
 use Rattle.peer_accept_bar.proofs.Laws as law
 use mathlib.Core.Path.{refl}
-use borrow.Author.Rules.{rules}
 use mathlib.Core.Path.{ap}
 use mathlib.Core.Bool.{not}
 use Rattle.peer_accept_bar.proofs.guard_accept_bar.Goals as goal

@@ -1,7 +1,6 @@
 use Rattle.peer_accept_bar.proofs.Laws as law
 use native.Mathlib.Omega.{arith}
 use lib.ListN.{length-set}
-use borrow.Author.Rules.{rules}
 use Rattle.peer_accept_bar.proofs.insert.Goals as goal
 
 pub bounds-pairs-i-2 : goal.bounds-pairs-i-2

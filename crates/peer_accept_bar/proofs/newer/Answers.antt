@@ -1,5 +1,4 @@
 use Rattle.peer_accept_bar.proofs.Laws as law
-use borrow.Author.Rules.{rules}
 use Rattle.peer_accept_bar.proofs.newer.Goals as goal
 
 pub returns : goal.returns

@@ -1,6 +1,5 @@
 use borrow.Author.Tests.{eq-eqb, ne_eqb}
 use mathlib.Core.Path.{sym}
-use borrow.Author.Rules.{rules}
 use Rattle.peer_exec_bar.proofs.has_passed.Goals as goal
 
 pub returns-then-i-id : goal.returns-then-i-id

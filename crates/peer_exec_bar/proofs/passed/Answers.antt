@@ -1,9 +1,7 @@
 use Rattle.peer_exec_bar.proofs.Laws as law
 use borrow.Author.Rules.{rules}
 use Rattle.bitmap.specs.Bitmap.{every}
-use Prim.Native.Nat.{◌-◌, ◌≤◌}
-use mathlib.Core.Bool.{true}
-use mathlib.Core.Path.{◌≡◌, refl}
+use mathlib.Core.Path.{refl}
 use native.Mathlib.Omega.{arith}
 use Rattle.peer_exec_bar.proofs.passed.Goals as goal
 

@@ -1,10 +1,8 @@
 use Rattle.peer_exec_bar.proofs.Laws as law
-use borrow.Author.Rules.{rules}
 use Rattle.bitmap.specs.Bitmap.{every}
 use Prim.Native.Nat.{◌-◌, ◌≤◌}
 use mathlib.Core.Bool.{true}
-use mathlib.Core.Path.{◌≡◌, refl}
-use native.Mathlib.Omega.{arith}
+use mathlib.Core.Path.{◌≡◌}
 use Rattle.peer_exec_bar.proofs.passed.Given as goal
 
 abbrev pub invariant-loop-i : goal.invariant-loop-i

@@ -1,10 +1,5 @@
 use Rattle.rank.proofs.Laws as law
 use native.Mathlib.Omega.{arith}
-use borrow.Author.Rules.{rules}
-use Prim.Native.Nat.{◌+◌, ◌-◌, ◌≤◌}
-use mathlib.Core.Path.{◌≡◌}
-use lib.ListN.{length, drop}
-use Rattle.rank.specs.Sort.{count_le}
 use Rattle.rank.proofs.count_le.Goals as goal
 use Rattle.rank.proofs.count_le.Goals.{then-b-i, else-b-i}
 

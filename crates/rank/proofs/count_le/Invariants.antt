@@ -1,10 +1,6 @@
-use Rattle.rank.proofs.Laws as law
-use native.Mathlib.Omega.{arith}
-use borrow.Author.Rules.{rules}
 use Prim.Native.Nat.{◌+◌, ◌-◌, ◌≤◌}
 use mathlib.Core.Path.{◌≡◌}
 use lib.ListN.{length, drop}
-use mathlib.Core.Logic.{⊎_elim}
 use Rattle.rank.specs.Sort.{count_le}
 use Rattle.rank.proofs.count_le.Given as goal
 

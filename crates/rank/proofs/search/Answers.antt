@@ -1,9 +1,6 @@
 use Rattle.rank.proofs.Laws as law
 use native.Mathlib.Omega.{arith}
 use borrow.Author.Rules.{rules}
-use Prim.Native.Nat.{◌-◌, ◌≤◌}
-use lib.ListN.{get_or}
-use Rattle.rank.specs.Sort.{sort}
 use Rattle.rank.proofs.search.Goals as goal
 
 pub loop-lo-preserved-then-k-count_le : goal.loop-lo-preserved-then-k-count_le

@@ -1,8 +1,6 @@
 use Rattle.rank.proofs.Laws as law
 use native.Mathlib.Omega.{arith}
 use borrow.Author.Rules.{rules}
-use Prim.Native.Nat.{ℕ, ◌-◌, ◌≤◌, ◌<◌}
-use lib.ListN.{length, get_or}
 use Rattle.rank.proofs.smallest.Goals as goal
 
 pub loop-i-init : goal.loop-i-init

@@ -1,6 +1,3 @@
-use Rattle.rank.proofs.Laws as law
-use native.Mathlib.Omega.{arith}
-use borrow.Author.Rules.{rules}
 use Prim.Native.Nat.{ℕ, ◌-◌, ◌≤◌, ◌<◌}
 use lib.ListN.{length, get_or}
 use Rattle.rank.proofs.smallest.Given as goal

@@ -1,6 +1,5 @@
 use Rattle.inst_reqs.specs.Batch.{requests_of}
 use Rattle.inst_holding.specs.Held.{read_of}
-use borrow.Author.Rules.{rules}
 use Rattle.release_held_reads.proofs.Laws as law
 use mathlib.Core.Path.{ap}
 use mathlib.Core.Bool.{not}

@@ -1,5 +1,4 @@
 use Rattle.release_held_reads.proofs.Laws as law
-use borrow.Author.Rules.{rules}
 use Rattle.release_held_reads.proofs.has_quorum.Goals as goal
 
 pub returns : goal.returns

@@ -1,5 +1,4 @@
 use Rattle.release_held_reads.proofs.Laws as law
-use borrow.Author.Rules.{rules}
 use Rattle.release_held_reads.proofs.is_bound.Goals as goal
 
 pub returns-in-Null : goal.returns-in-Null

@@ -1,16 +1,13 @@
 use Rattle.release_held_reads.proofs.Laws as law
 use native.Mathlib.Omega.{arith}
 use borrow.Author.Rules.{rules}
-use mathlib.Core.Path.{◌≡◌, refl}
+use mathlib.Core.Path.{refl}
 use mathlib.Core.Bool.{Bool}
 use mathlib.Core.List.{List}
-use Prim.Native.Nat.{ℕ, ◌*◌, ◌-◌, ◌≤◌}
-use lib.ListN.{length}
-use Rattle.words.specs.Tab.{tab}
-use Rattle.words.specs.Writes.{writes}
+use Prim.Native.Nat.{ℕ}
 use Rattle.ids.specs.Leader.{leader_of}
 use Rattle.ids.specs.declared.Leader.{Leader}
-use Rattle.items.specs.Item.{Item, encode}
+use Rattle.items.specs.Item.{Item}
 use Rattle.inst_reqs.specs.Batch.{requests_of}
 use Rattle.inst_holding.specs.Held.{read_at}
 use Rattle.release_held_reads.specs.Release.{answer_to}

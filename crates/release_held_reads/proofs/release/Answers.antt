@@ -1,7 +1,6 @@
 use Rattle.layout.specs.Layout.{batch_words, held_words}
 use Rattle.release_held_reads.proofs.Laws as law
 use Rattle.insts.proofs.Laws.{width}
-use borrow.Author.Rules.{rules}
 use Rattle.release_held_reads.proofs.release.Goals as goal
 
 pub returns : goal.returns

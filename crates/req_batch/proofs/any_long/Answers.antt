@@ -1,6 +1,4 @@
-use Prim.Native.Nat.{◌≤◌, ◌-◌}
-use mathlib.Core.Path.{◌≡◌, sym, ◌∙◌}
-use Rattle.req_batch.specs.Given.{given, any_long}
+use mathlib.Core.Path.{sym, ◌∙◌}
 use Rattle.req_batch.proofs.Laws as law
 use native.Mathlib.Omega.{arith}
 use Rattle.req_batch.proofs.any_long.Goals as goal

@@ -1,8 +1,7 @@
 use Prim.Native.Nat.{◌≤◌, ◌-◌}
-use mathlib.Core.Path.{◌≡◌, sym, ◌∙◌}
+use mathlib.Core.Path.{◌≡◌}
 use Rattle.req_batch.specs.Given.{given, any_long}
 use Rattle.req_batch.proofs.Laws as law
-use native.Mathlib.Omega.{arith}
 use Rattle.req_batch.proofs.any_long.Given as goal
 
 abbrev pub invariant-loop-i : goal.invariant-loop-i

@@ -1,6 +1,5 @@
 use mathlib.Core.Path.{refl, ◌∙◌}
 use Rattle.req_batch.proofs.Laws as law
-use borrow.Author.Rules.{rules}
 use Rattle.req_batch.proofs.key_in.Goals as goal
 
 pub pack_short-requires : goal.pack_short-requires

@@ -1,6 +1,3 @@
-use mathlib.Core.Path.{◌∙◌}
-use Prim.Native.Nat.{◌≤◌, ◌-◌}
-use Rattle.layout.specs.Layout.{request_places}
 use Rattle.req_batch.proofs.Laws as law
 use native.Mathlib.Omega.{arith}
 use Rattle.req_batch.proofs.load.Goals as goal

@@ -1,8 +1,6 @@
-use mathlib.Core.Path.{◌∙◌}
 use Prim.Native.Nat.{◌≤◌, ◌-◌}
 use Rattle.layout.specs.Layout.{request_places}
 use Rattle.req_batch.proofs.Laws as law
-use native.Mathlib.Omega.{arith}
 use Rattle.req_batch.proofs.load.Given as goal
 
 abbrev pub invariant-loop-i : goal.invariant-loop-i

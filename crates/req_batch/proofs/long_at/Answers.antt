@@ -1,6 +1,5 @@
 use Rattle.req_batch.specs.Given.{given_from}
 use Rattle.req_batch.proofs.Laws as law
-use borrow.Author.Rules.{rules}
 use Rattle.req_batch.proofs.long_at.Goals as goal
 
 pub returns : goal.returns

@@ -1,5 +1,4 @@
 use Rattle.req_batch.specs.Given.{given_from}
-use borrow.Author.Rules.{rules}
 use Rattle.req_batch.proofs.request_at.Goals as goal
 
 pub key_in-key-requires : goal.key_in-key-requires

@@ -1,10 +1,5 @@
 use Rattle.roster_compare.proofs.Laws as law
 use borrow.Author.Rules.{rules}
-use Rattle.bodega.specs.Grounds.{any}
-use Rattle.roster_map.proofs.Laws.{rows_from}
-use Rattle.roster_map.specs.Rows.{ranges_of}
-use Prim.Native.Nat.{◌-◌, ◌≤◌}
-use mathlib.Core.Path.{◌≡◌}
 use native.Mathlib.Omega.{arith}
 use Rattle.roster_compare.proofs.foreign_rows.Goals as goal
 

@@ -1,7 +1,6 @@
 use lib.Dec.{eqb}
 use Prim.Native.Nat.{ℕ, ◌+◌, ◌%◌}
 use mathlib.Core.Path.{ap}
-use borrow.Author.Rules.{rules}
 use Rattle.roster_compare.proofs.from_proposer.Goals as goal
 
 pub returns : goal.returns

@@ -4,7 +4,6 @@ use mathlib.Core.List.{[], ◌∷◌}
 use Prim.Native.Nat.{◌+◌, ◌*◌}
 use native.Mathlib.Omega.{arith}
 use Rattle.roster_map.specs.Rows.{range_at}
-use borrow.Author.Rules.{rules}
 use Rattle.roster_compare.proofs.heads.Goals as goal
 
 pub returns-then-lt : goal.returns-then-lt

@@ -1,5 +1,4 @@
 use Rattle.roster_compare.proofs.Laws as law
-use native.Mathlib.Omega.{arith}
 use borrow.Author.Rules.{rules}
 use Rattle.roster_compare.proofs.is_unformed.Goals as goal
 

@@ -1,11 +1,6 @@
 use Rattle.roster_map.proofs.Laws as law
 use native.Mathlib.Omega.{arith}
 use borrow.Author.Rules.{rules}
-use mathlib.Core.Path.{◌≡◌}
-use Prim.Native.Nat.{◌-◌, ◌≤◌}
-use Rattle.inty.specs.Value.{value_of}
-use Rattle.roster_ranges.specs.Range.{at}
-use Rattle.roster_map.specs.Rows.{ranges_of}
 use Rattle.roster_map.proofs.at.Goals as goal
 
 pub loop-i-init : goal.loop-i-init

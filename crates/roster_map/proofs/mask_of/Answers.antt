@@ -1,6 +1,5 @@
 use mathlib.Core.Path.{refl}
 use Rattle.roster_map.specs.Rows.{range_at}
-use borrow.Author.Rules.{rules}
 use Rattle.roster_map.proofs.mask_of.Goals as goal
 
 pub returns : goal.returns

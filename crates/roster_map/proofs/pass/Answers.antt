@@ -1,11 +1,7 @@
 use Rattle.roster_map.proofs.Laws as law
 use native.Mathlib.Omega.{arith}
 use borrow.Author.Rules.{rules}
-use mathlib.Core.Path.{◌≡◌, refl}
-use Prim.Native.Nat.{◌+◌, ◌-◌, ◌≤◌}
-use lib.ListN.{length}
-use Rattle.roster_ranges.specs.Range.{push_all, each}
-use Rattle.roster_map.specs.Rows.{ranges_of, kept}
+use mathlib.Core.Path.{refl}
 use Rattle.roster_map.proofs.pass.Goals as goal
 
 pub loop-i-init : goal.loop-i-init

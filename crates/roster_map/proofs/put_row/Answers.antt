@@ -1,6 +1,5 @@
 use native.Mathlib.Omega.{arith}
 use lib.ListN.{length-set}
-use borrow.Author.Rules.{rules}
 use Rattle.roster_map.proofs.put_row.Goals as goal
 
 pub bounds-rows-p1 : goal.bounds-rows-p1

@@ -1,13 +1,7 @@
 use Rattle.roster_show.proofs.Listing as law
 use native.Mathlib.Omega.{arith}
 use borrow.Author.Rules.{rules}
-use mathlib.Core.Path.{◌≡◌, refl}
-use Prim.Native.Nat.{◌-◌, ◌≤◌}
-use lib.ListN.{length}
-use Rattle.words.specs.Writes.{writes}
-use Rattle.items.specs.Item.{encode}
-use Rattle.roster_map.specs.Rows.{ranges_of}
-use Rattle.roster_show.specs.Show.{spans_of}
+use mathlib.Core.Path.{refl}
 use Rattle.roster_show.proofs.put_spans.Goals as goal
 
 pub loop-i-init : goal.loop-i-init

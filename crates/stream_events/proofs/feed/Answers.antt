@@ -1,11 +1,8 @@
 use Rattle.stream_events.proofs.Laws as law
 use Rattle.stream_pieces.proofs.Laws as pieces
-use mathlib.Core.Path.{◌≡◌, ◌∙◌}
+use mathlib.Core.Path.{◌∙◌}
 use native.Mathlib.Omega.{arith}
-use Prim.Native.Nat.{◌-◌}
-use lib.ListN.{length}
 use borrow.Author.Rules.{rules}
-use Rattle.stream_events.specs.Fed.{state_of}
 use Rattle.stream_events.proofs.feed.Goals as goal
 
 pub loop-out-init : goal.loop-out-init

@@ -1,10 +1,7 @@
 use Rattle.stream_events.proofs.Laws as law
-use Rattle.stream_pieces.proofs.Laws as pieces
-use mathlib.Core.Path.{◌≡◌, ◌∙◌}
-use native.Mathlib.Omega.{arith}
+use mathlib.Core.Path.{◌≡◌}
 use Prim.Native.Nat.{◌-◌}
 use lib.ListN.{length}
-use borrow.Author.Rules.{rules}
 use Rattle.stream_events.specs.Fed.{state_of}
 use Rattle.stream_events.proofs.feed.Given as goal
 

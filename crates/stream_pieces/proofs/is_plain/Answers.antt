@@ -1,10 +1,5 @@
 use native.Mathlib.Omega.{arith}
-use lib.ListN.{drop}
-use mathlib.Core.Path.{◌≡◌}
-use mathlib.Core.Bool.{true}
-use Prim.Native.Nat.{◌+◌, ◌-◌, ◌≤◌}
 use borrow.Author.Rules.{rules}
-use Rattle.stream_pieces.specs.Pieces.{before}
 use Rattle.stream_pieces.proofs.Laws as law
 use Rattle.stream_pieces.proofs.is_plain.Goals as goal
 

@@ -1,8 +1,4 @@
 use Rattle.stream_pieces.proofs.Laws as law
-use mathlib.Core.Path.{◌≡◌}
-use Prim.Native.Nat.{◌+◌, ◌-◌, ◌≤◌}
-use lib.ListN.{length, drop}
-use Rattle.stream_pieces.specs.Pieces.{before}
 use borrow.Author.Rules.{rules}
 use Rattle.stream_pieces.proofs.line_end.Goals as goal
 

@@ -1,9 +1,5 @@
 use native.Mathlib.Omega.{arith}
-use mathlib.Core.Path.{◌≡◌}
-use Prim.Native.Nat.{◌+◌, ◌-◌, ◌≤◌}
-use lib.ListN.{length, drop}
 use borrow.Author.Rules.{rules}
-use Rattle.stream_pieces.specs.Pieces.{before}
 use Rattle.stream_pieces.proofs.Laws as law
 use Rattle.stream_pieces.proofs.past_plain.Goals as goal
 

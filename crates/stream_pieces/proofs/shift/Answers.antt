@@ -1,8 +1,5 @@
 use Rattle.stream_pieces.proofs.Laws as law
-use mathlib.Core.Path.{◌≡◌}
-use Prim.Native.Nat.{◌-◌, ◌≤◌}
-use lib.ListN.{length, take, drop, length-set}
-use Rattle.words.specs.Writes.{writes}
+use lib.ListN.{length-set}
 use borrow.Author.Rules.{rules}
 use Rattle.stream_pieces.proofs.shift.Goals as goal
 

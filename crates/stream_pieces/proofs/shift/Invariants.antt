@@ -1,9 +1,7 @@
-use Rattle.stream_pieces.proofs.Laws as law
 use mathlib.Core.Path.{◌≡◌}
 use Prim.Native.Nat.{◌-◌, ◌≤◌}
-use lib.ListN.{length, take, drop, length-set}
+use lib.ListN.{length, take, drop}
 use Rattle.words.specs.Writes.{writes}
-use borrow.Author.Rules.{rules}
 use Rattle.stream_pieces.proofs.shift.Given as goal
 
 abbrev pub invariant-loop-i : goal.invariant-loop-i

@@ -1,7 +1,5 @@
-use mathlib.Core.Path.{◌≡◌}
 use Prim.Native.Nat.{ℕ}
 use native.Mathlib.Omega.{arith}
-use borrow.Author.Rules.{rules}
 use Rattle.stream_pieces.proofs.still.Goals as goal
 
 pub returns-then-b-eq10 : goal.returns-then-b-eq10

@@ -1,4 +1,3 @@
-use Prim.Native.Nat.{ℕ, ◌<◌}
 use borrow.Author.Rules.{rules}
 use Rattle.test_node_sum.proofs.Laws as law
 use Rattle.test_node_sum.proofs.+plus_digits.Goals as goal

@@ -1,9 +1,4 @@
-use mathlib.Core.Path.{◌≡◌}
-use Prim.Native.Nat.{◌+◌, ◌-◌, ◌≤◌}
-use native.Mathlib.Omega.{arith}
 use borrow.Author.Rules.{rules}
-use Rattle.test_node_sum.specs.Sum.{plus_numbers}
-use Rattle.test_node_sum.specs.Numbers.{slots_of}
 use Rattle.test_node_sum.proofs.Laws as law
 use Rattle.test_node_sum.proofs.plus_slots.Goals as goal
 

@@ -1,10 +1,7 @@
 use mathlib.Core.Path.{◌≡◌}
 use Prim.Native.Nat.{◌+◌, ◌-◌, ◌≤◌}
-use native.Mathlib.Omega.{arith}
-use borrow.Author.Rules.{rules}
 use Rattle.test_node_sum.specs.Sum.{plus_numbers}
 use Rattle.test_node_sum.specs.Numbers.{slots_of}
-use Rattle.test_node_sum.proofs.Laws as law
 use Rattle.test_node_sum.proofs.plus_slots.Given as goal
 
 abbrev pub invariant-loop-i : goal.invariant-loop-i

@@ -1,5 +1,4 @@
 use native.Mathlib.Omega.{arith}
-use borrow.Author.Rules.{rules}
 use Rattle.test_node_sum.proofs.Laws as law
 use Rattle.test_node_sum.proofs.word.Goals as goal
 

@@ -1,7 +1,5 @@
 use Rattle.text.proofs.Laws as law
 use borrow.Author.Rules.{rules}
-use lib.ListN.{length-set}
-use Prim.Native.Nat.{ℕ, ◌<◌}
 use Rattle.text.proofs.+digits.Goals as goal
 
 pub bounds-out-at : goal.bounds-out-at

@@ -1,5 +1,4 @@
 use Rattle.text.proofs.Laws as law
-use borrow.Author.Rules.{rules}
 use Rattle.text.proofs.put_wide_field.Goals as goal
 
 pub returns : goal.returns

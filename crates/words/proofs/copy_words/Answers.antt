@@ -1,10 +1,7 @@
 use Rattle.words.proofs.Laws as law
 use native.Mathlib.Omega.{arith}
 use borrow.Author.Rules.{rules}
-use mathlib.Core.Path.{◌≡◌, refl}
-use Prim.Native.Nat.{◌-◌, ◌≤◌}
-use lib.ListN.{length, take}
-use Rattle.words.specs.Writes.{writes}
+use mathlib.Core.Path.{refl}
 use Rattle.words.proofs.copy_words.Goals as goal
 
 pub loop-i-init : goal.loop-i-init

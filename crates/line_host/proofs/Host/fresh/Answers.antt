@@ -1,5 +1,4 @@
 use Rattle.line_host.proofs.Laws as law
-use borrow.Author.Rules.{rules}
 use Rattle.line_host.proofs.Host.fresh.Goals as goal
 
 pub returns : goal.returns

@@ -1,5 +1,4 @@
 use Rattle.stream_events.proofs.Laws as law
-use borrow.Author.Rules.{rules}
 use Rattle.stream_events.proofs.LineState.fresh.Goals as goal
 
 pub returns : goal.returns
