@@ -1,4 +1,5 @@
 -- A notice at a slot's place, in the words of the code.
+use Rattle.std.specs.Prelude.{if◌then◌else◌}
 use mathlib.Core.Path.{◌≡◌, refl, sym, ap, ◌∙◌}
 use mathlib.Core.Bool.{Bool, true, false, not, ◌||◌, ◌&&◌}
 use mathlib.Core.List.{List, [], ◌∷◌, ◌++◌, append-nil}
@@ -8,7 +9,7 @@ use native.Mathlib.Omega.{arith}
 use lib.Dec.{ltb, leb, eqb}
 use lib.ListN.{length, set, replicate, get_elem?, length-append, length-replicate}
 use borrow.Author.Tests.{lt-ltb, le-ltb, eq-eqb, ne_eqb, not-true, not-false}
-use Rattle.words.specs.Choice.{if◌then◌else◌, if_none◌then◌else◌}
+use Rattle.words.specs.Choice.{if_none◌then◌else◌}
 use Rattle.words.specs.Writes.{writes}
 use Rattle.layout.specs.Layout.{slot_places, held_places, slot_words}
 use Rattle.bitmap.specs.Bitmap.{count}

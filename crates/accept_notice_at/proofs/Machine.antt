@@ -1,4 +1,5 @@
 -- `noticed` of the machine, by the instances.
+use Rattle.std.specs.Prelude.{if◌then◌else◌}
 use mathlib.Core.Path.{◌≡◌, refl, sym, ap, ◌∙◌}
 use mathlib.Core.Bool.{Bool, true, false, not}
 use mathlib.Core.List.{List, [], ◌∷◌}
@@ -10,7 +11,7 @@ use lib.Dec.{eqb}
 use lib.ListN.{length, set, get_elem?}
 use lib.Seq.{set-set}
 use borrow.Author.Tests.{le-ltb, eq-eqb, ne_eqb}
-use Rattle.words.specs.Choice.{if◌then◌else◌, if_none◌then◌else◌}
+use Rattle.words.specs.Choice.{if_none◌then◌else◌}
 use Rattle.bodega.specs.Replica.{Instance, Replica, done, inst_at, set_inst, pad, with_insts}
 use Rattle.bodega.specs.Localread.{release_held_read_reqs}
 use Rattle.bodega.specs.Messages.{noticed}

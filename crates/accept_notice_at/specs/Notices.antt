@@ -1,9 +1,9 @@
 -- Bridge: `handle_msg_accept_notice` at the slot of a notice, over what it reads of the replica: quorum, leader and
 -- the instances; tied to `handle_msg_accept_notice` by proofs/Machine and call_notice/proofs/Laws.
-use Rattle.std.specs.Prelude.{◌≡◌, Bool, false, ◌&&◌, ◌||◌, not, List, [], ◌++◌, ℕ, ◌+◌, ◌-◌, ltb, leb, eqb, length, set, replicate}
+use Rattle.std.specs.Prelude.{◌≡◌, Bool, false, ◌&&◌, ◌||◌, not, List, [], ◌++◌, ℕ, ◌+◌, ◌-◌, ltb, leb, eqb, length, set, replicate, if◌then◌else◌}
 use Rattle.std.proofs.Math.Option.{Option}
 use Rattle.std.proofs.Math.ListN.{get_elem?}
-use Rattle.words.specs.Choice.{if◌then◌else◌, if_none◌then◌else◌}
+use Rattle.words.specs.Choice.{if_none◌then◌else◌}
 use Rattle.words.specs.Writes.{writes}
 use Rattle.bitmap.specs.Bitmap.{count}
 use Rattle.items.specs.Item.{Item, encode}

@@ -1,4 +1,5 @@
 -- The walk of `advance_commit_bar` at one slot, and as a pass over the slots.
+use Rattle.std.specs.Prelude.{if◌then◌else◌}
 use mathlib.Core.Path.{◌≡◌, refl, sym, ap, ◌∙◌}
 use mathlib.Core.Bool.{Bool, true, false, not}
 use mathlib.Core.List.{List, [], ◌∷◌, ◌++◌}
@@ -7,7 +8,6 @@ use native.Mathlib.Omega.{arith}
 use lib.Dec.{ltb}
 use lib.ListN.{length, drop}
 use borrow.Author.Tests.{lt-ltb, le-ltb, not-true, not-false}
-use Rattle.words.specs.Choice.{if◌then◌else◌}
 use Rattle.words.specs.Writes.{writes}
 use Rattle.layout.specs.Layout.{slot_places}
 use Rattle.items.specs.Item.{Commit, encode, places}

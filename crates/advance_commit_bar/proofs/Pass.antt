@@ -1,5 +1,6 @@
 -- Slots passed one after the other, up to the first where the pass stops: what is left of the pass, done onto what is
 -- built.
+use Rattle.std.specs.Prelude.{if◌then◌else◌}
 use mathlib.Core.Path.{◌≡◌, refl, sym, ap, ◌∙◌}
 use mathlib.Core.Bool.{Bool, true, false}
 use mathlib.Core.List.{List, [], ◌∷◌, ◌++◌, append_assoc}
@@ -7,7 +8,6 @@ use Prim.Native.Nat.{ℕ, zero, suc, ◌+◌, ◌-◌, ◌*◌, ◌%◌, ◌≤�
 use native.Mathlib.Omega.{arith}
 use native.Mathlib.Decide.{dec_lt}
 use lib.ListN.{length, drop, length-append, take-append-drop}
-use Rattle.words.specs.Choice.{if◌then◌else◌}
 use Rattle.words.specs.Writes.{writes, length_writes}
 use Rattle.layout.specs.Layout.{slot_places}
 use Rattle.items.specs.Item.{Item, encode, places}

@@ -1,7 +1,6 @@
 -- Bridge: `advance_commit_bar` over the slots' words: what the walk does at one slot, and what the whole of it leaves;
 -- tied to `walk` by proofs/Laws.
-use Rattle.std.specs.Prelude.{◌≡◌, Bool, ◌||◌, List, [], ◌∷◌, ◌++◌, ℕ, ◌+◌, ◌-◌, ◌*◌, ltb, length, take, drop}
-use Rattle.words.specs.Choice.{if◌then◌else◌}
+use Rattle.std.specs.Prelude.{◌≡◌, Bool, ◌||◌, List, [], ◌∷◌, ◌++◌, ℕ, ◌+◌, ◌-◌, ◌*◌, ltb, length, take, drop, if◌then◌else◌}
 use Rattle.words.specs.Writes.{writes}
 use Rattle.items.specs.Item.{Item, Commit, encode}
 use Rattle.bodega.specs.Replica.{Instance, Committed, order, is_open}

@@ -1,4 +1,5 @@
 -- The code's needs: the open slots of the slots' words, the two passes over them, and the whole.
+use Rattle.std.specs.Prelude.{if◌then◌else◌}
 use mathlib.Core.Path.{◌≡◌, refl, sym, ap, ◌∙◌}
 use mathlib.Core.Bool.{Bool, true, false, not}
 use mathlib.Core.List.{List, [], ◌∷◌, ◌++◌}
@@ -7,7 +8,6 @@ use Prim.Native.Nat.{ℕ, ◌+◌, ◌-◌, ◌*◌, ◌%◌, ◌≤◌, ◌<◌
 use native.Mathlib.Omega.{arith}
 use lib.ListN.{length, drop, replicate, take-append-drop}
 use borrow.Author.Tests.{not-true, not-false}
-use Rattle.words.specs.Choice.{if◌then◌else◌}
 use Rattle.words.specs.Writes.{writes}
 use Rattle.layout.specs.Layout.{slot_places, held_places}
 use Rattle.items.specs.Item.{Item, Prelog, encode, places}

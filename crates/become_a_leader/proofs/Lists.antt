@@ -1,4 +1,5 @@
 -- The two passes of a step-up as functions on lists, and how many items it has.
+use Rattle.std.specs.Prelude.{if◌then◌else◌}
 use mathlib.Core.Path.{◌≡◌, refl, sym, ap, ◌∙◌}
 use mathlib.Core.Bool.{Bool, true, false, ◌||◌, true≢false}
 use mathlib.Core.List.{List, [], ◌∷◌, ◌++◌, map}
@@ -8,7 +9,6 @@ use native.Mathlib.Nat.{not-suc-le-zero}
 use native.Mathlib.Omega.{arith}
 use lib.ListN.{length, take, drop, length-append}
 use lib.Seq.{drop-append_seam}
-use Rattle.words.specs.Choice.{if◌then◌else◌}
 use Rattle.items.specs.Item.{Item, Lead, Prelog, Prepare}
 use Rattle.bodega.specs.Replica.{Instance, Preparing, is_open, null_instance}
 use Rattle.bodega.specs.Conflease.{first_open, last_open, any_open, prelogs, reprepared}

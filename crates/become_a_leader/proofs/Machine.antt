@@ -1,4 +1,5 @@
 -- `become_a_leader` of the machine by the slots' instances alone; what it leaves.
+use Rattle.std.specs.Prelude.{if◌then◌else◌}
 use mathlib.Core.Path.{◌≡◌, refl, sym, ap, ◌∙◌}
 use mathlib.Core.Bool.{Bool, true, false, ◌||◌, not, true≢false}
 use mathlib.Core.List.{List, [], ◌∷◌, ◌++◌, map}
@@ -10,7 +11,7 @@ use borrow.Author.Tests.{le-ltb, eq-eqb, ne_eqb}
 use lib.Dec.{ltb, eqb}
 use lib.ListN.{length, take, drop, replicate, get_elem?, length-append, length-map, take-append-drop, length-drop}
 use lib.Seq.{append_snoc, set-append_seam, length-take-le}
-use Rattle.words.specs.Choice.{if◌then◌else◌, if_none◌then◌else◌}
+use Rattle.words.specs.Choice.{if_none◌then◌else◌}
 use Rattle.items.specs.Item.{Lead, Prepare, Commit}
 use Rattle.bodega.specs.Replica.{Instance, Book, Preparing, Committed, Replica, Done, done, ◌and_then◌, order, is_open, null_instance, inst_at, set_inst, with_status, with_replica_bk, with_holding, with_bal, with_peer_exec_bar, with_insts}
 use Rattle.bodega.specs.Localread.{release_from}

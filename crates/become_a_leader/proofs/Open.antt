@@ -1,11 +1,11 @@
 -- The first and the last open slot of a list.
+use Rattle.std.specs.Prelude.{if◌then◌else◌}
 use mathlib.Core.Path.{◌≡◌, refl, sym, ap, ◌∙◌}
 use mathlib.Core.Bool.{Bool, true, false, ◌&&◌, ◌||◌, not, true≢false}
 use mathlib.Core.List.{List, [], ◌∷◌, ◌++◌}
 use Prim.Native.Nat.{suc, ◌≤◌, ◌<◌}
 use native.Mathlib.Omega.{arith}
 use lib.ListN.{length}
-use Rattle.words.specs.Choice.{if◌then◌else◌}
 use Rattle.bodega.specs.Replica.{Instance, is_open, null_instance}
 use Rattle.bodega.specs.Conflease.{first_open, last_open, any_open}
 use Rattle.bodega.specs.Grounds.{any}

@@ -1,8 +1,7 @@
 -- Bridge: `become_a_leader` over what it reads of the replica: start, quorum, leader, ballot and the instances; tied
 -- to `become_a_leader` by proofs/Machine.
-use Rattle.std.specs.Prelude.{◌≡◌, true, List, [], ◌∷◌, ◌++◌, map, ℕ, zero, suc, ◌+◌, ◌-◌, ◌*◌, length, take, drop}
+use Rattle.std.specs.Prelude.{◌≡◌, true, List, [], ◌∷◌, ◌++◌, map, ℕ, zero, suc, ◌+◌, ◌-◌, ◌*◌, length, take, drop, if◌then◌else◌}
 use Rattle.std.proofs.Math.Option.{Option, some}
-use Rattle.words.specs.Choice.{if◌then◌else◌}
 use Rattle.words.specs.Writes.{writes}
 use Rattle.items.specs.Item.{Item, Lead, Prelog, Prepare, encode}
 use Rattle.bodega.specs.Replica.{Instance, Preparing, is_open, null_instance}

@@ -1,5 +1,6 @@
 -- The laws of sets of replicas: what marking does to membership, count and bound; what a superset and a mask below the
 -- population are; and what ties the code's operations to the definitions.
+use Rattle.std.specs.Prelude.{if◌then◌else◌}
 use mathlib.Core.Path.{◌≡◌, refl, sym, ap, ◌∙◌}
 use mathlib.Core.Logic.{◌≢◌}
 use mathlib.Core.Bool.{Bool, true, false, ◌&&◌, ◌||◌, not, true≢false, or-true, or-false, and-true, and-false}
@@ -14,7 +15,6 @@ use lib.Arith.{digits_div, digits_mod}
 use lib.Pow.{pow_pos, pow_mono, pow-lt, pow-add, shl-shr, split, mod-pow-add}
 use lib.Bits.{bit_and, bit_or, and_step, or_step, and_shr, or_shr, or_add_and, and_high, and_lt, or_lt}
 use lib.Count.{ones, ones_cat, ones-le}
-use Rattle.words.specs.Choice.{if◌then◌else◌}
 use Rattle.bitmap.specs.Bitmap.{tally, every, get, mark, unmark, set_to, count, is_superset, fits}
 
 -- ---- bits

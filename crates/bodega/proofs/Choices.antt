@@ -1,8 +1,9 @@
 -- What holds of both sides of a choice holds of the choice.
+use Rattle.std.specs.Prelude.{if◌then◌else◌}
 use mathlib.Core.Bool.{Bool, true, false}
 use mathlib.Core.Option.{Option, none, some}
 use mathlib.Core.Path.{◌≡◌, refl}
-use Rattle.words.specs.Choice.{if◌then◌else◌, if_none◌then◌else◌}
+use Rattle.words.specs.Choice.{if_none◌then◌else◌}
 
 module _ {A : Type 0} (P : A → Type 0) where
   pub of_if : (t : Bool) {a b : A} → P a → P b → P (if t then a else b)

@@ -1,7 +1,6 @@
 -- Trusted: document 01, "Strength of the statements", 1: the one statement that every public call of the code meets,
 -- for a node and a lent buffer that stand for a replica by `view`.
-use Rattle.std.specs.Prelude.{◌≡◌, Bool, true, List, ℕ, length}
-use Rattle.words.specs.Choice.{if◌then◌else◌}
+use Rattle.std.specs.Prelude.{◌≡◌, Bool, true, List, ℕ, length, if◌then◌else◌}
 use Rattle.words.specs.Writes.{writes}
 use Rattle.words.specs.Part.{Untouched}
 use Rattle.layout.specs.Layout.{node_words}

@@ -1,8 +1,7 @@
 -- Trusted: conflease.rs, adoptions, guards, the reading bar, step-up (document 01, port order 5).
-use Rattle.std.specs.Prelude.{ℕ, suc, ◌+◌, ◌-◌, Bool, true, false, ◌&&◌, ◌||◌, not, List, [], ◌∷◌, ◌++◌, map, ltb, eqb, length, get_or, set, replicate}
+use Rattle.std.specs.Prelude.{ℕ, suc, ◌+◌, ◌-◌, Bool, true, false, ◌&&◌, ◌||◌, not, List, [], ◌∷◌, ◌++◌, map, ltb, eqb, length, get_or, set, replicate, if◌then◌else◌}
 use Rattle.std.proofs.Math.Option.{some}
 use Rattle.rank.specs.Sort.{sort}
-use Rattle.words.specs.Choice.{if◌then◌else◌}
 use Rattle.ids.specs.Limits.{beyond}
 use Rattle.roster_conf.specs.Conf.{Conf}
 use Rattle.items.specs.Item.{Item, Lead, Prelog, Prepare}

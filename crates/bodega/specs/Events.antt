@@ -1,7 +1,7 @@
 -- Trusted: document 01, "Events taken": *prepared*, *record*, *bars*.
-use Rattle.std.specs.Prelude.{ℕ, zero, suc, ◌-◌, List, [], ◌∷◌, drop}
+use Rattle.std.specs.Prelude.{ℕ, zero, suc, ◌-◌, List, [], ◌∷◌, drop, if◌then◌else◌}
 use Rattle.std.proofs.Math.Option.{none, some}
-use Rattle.words.specs.Choice.{if◌then◌else◌, if_none◌then◌else◌}
+use Rattle.words.specs.Choice.{if_none◌then◌else◌}
 use Rattle.bodega.specs.Replica.{Request, new_book, Accepting, Executed, Instance, Replica, is_leader, inst_at, set_inst, pad, with_status, with_bal, with_bar, with_insts, with_highest_slot}
 use Rattle.bodega.specs.Localread.{refresh_highest_slot}
 

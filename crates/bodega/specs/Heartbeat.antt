@@ -1,7 +1,7 @@
 -- Trusted: heartbeat.rs, ballots, heartbeats, commit notices (document 01, port order 6).
-use Rattle.std.specs.Prelude.{ℕ, zero, suc, ◌+◌, ◌-◌, ◌%◌, max, Bool, false, ◌&&◌, ◌||◌, not, List, [], ◌∷◌, ◌++◌, ltb, leb, eqb, get_or, take, drop, set}
+use Rattle.std.specs.Prelude.{ℕ, zero, suc, ◌+◌, ◌-◌, ◌%◌, max, Bool, false, ◌&&◌, ◌||◌, not, List, [], ◌∷◌, ◌++◌, ltb, leb, eqb, get_or, take, drop, set, if◌then◌else◌}
 use Rattle.std.proofs.Math.Option.{Option}
-use Rattle.words.specs.Choice.{if◌then◌else◌, if_none◌then◌else◌}
+use Rattle.words.specs.Choice.{if_none◌then◌else◌}
 use Rattle.bitmap.specs.Bitmap.{every}
 use Rattle.roster_conf.specs.Conf.{Conf, into_filtered, same}
 use Rattle.items.specs.Item.{Item, Lead, Commit}

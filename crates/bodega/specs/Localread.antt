@@ -1,9 +1,9 @@
 -- Trusted: localread.rs, the commit condition, the highest slots, and reads at a responder (document 01, port order 4
 -- and 8).
-use Rattle.std.specs.Prelude.{ℕ, zero, suc, ◌+◌, max, Bool, true, false, ◌&&◌, ◌||◌, not, List, [], ◌∷◌, ◌++◌, map, ltb, leb, eqb}
+use Rattle.std.specs.Prelude.{ℕ, zero, suc, ◌+◌, max, Bool, true, false, ◌&&◌, ◌||◌, not, List, [], ◌∷◌, ◌++◌, map, ltb, leb, eqb, if◌then◌else◌}
 use Rattle.std.proofs.Math.Option.{Option, none, some}
 use Rattle.words.specs.Text.{Bytes}
-use Rattle.words.specs.Choice.{if◌then◌else◌, if_none◌then◌else◌}
+use Rattle.words.specs.Choice.{if_none◌then◌else◌}
 use Rattle.keys.specs.Same.{same_bytes}
 use Rattle.bitmap.specs.Bitmap.{count, is_superset}
 use Rattle.roster_conf.specs.Conf.{Conf, get_responders_by_key}

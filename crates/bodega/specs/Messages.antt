@@ -1,6 +1,6 @@
 -- Trusted: messages.rs, accept replies and accept notices (document 01, port order 7).
-use Rattle.std.specs.Prelude.{ℕ, zero, suc, ◌+◌, ◌-◌, ◌&&◌, ◌||◌, not, List, [], ◌∷◌, ◌++◌, ltb, leb, eqb}
-use Rattle.words.specs.Choice.{if◌then◌else◌, if_none◌then◌else◌}
+use Rattle.std.specs.Prelude.{ℕ, zero, suc, ◌+◌, ◌-◌, ◌&&◌, ◌||◌, not, List, [], ◌∷◌, ◌++◌, ltb, leb, eqb, if◌then◌else◌}
+use Rattle.words.specs.Choice.{if_none◌then◌else◌}
 use Rattle.bitmap.specs.Bitmap.{get, mark, count}
 use Rattle.items.specs.Item.{Item, Resend, Commit}
 use Rattle.bodega.specs.Replica.{Book, new_book, Committed, Replica, Done, done, is_accepting, is_leader, end, inst_at, set_inst, pad, with_status, with_leader_bk, with_replica_bk}

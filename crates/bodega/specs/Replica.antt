@@ -1,11 +1,10 @@
 -- Trusted: mod.rs, what a replica holds, the calls that it takes and the items that it answers. Where the Rust has one
 -- long struct the fields stand in groups: `bal_max_seen` is `.bal.max_seen`, `commit_bar` is `.bar.commit`,
 -- `start_slot` is `.bar.start`, `peer_accept_max` is `.peer_accept.max`.
-use Rattle.std.specs.Prelude.{ℕ, ◌+◌, ◌-◌, Bool, List, [], ◌++◌, ltb, eqb, length, replicate, set}
+use Rattle.std.specs.Prelude.{ℕ, ◌+◌, ◌-◌, Bool, List, [], ◌++◌, ltb, eqb, length, replicate, set, if◌then◌else◌}
 use Rattle.std.proofs.Math.Option.{Option, none, some}
 use Rattle.std.proofs.Math.ListN.{get_elem?}
 use Rattle.words.specs.Text.{Bytes}
-use Rattle.words.specs.Choice.{if◌then◌else◌}
 use Rattle.ids.specs.Limits.{beyond}
 use Rattle.items.specs.Item.{Item}
 use Rattle.roster_conf.specs.Conf.{Conf, empty, leads}

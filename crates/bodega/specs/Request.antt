@@ -1,7 +1,7 @@
 -- Trusted: request.rs, `treat_read_only_reqs`, for one read (document 01, port order 8).
-use Rattle.std.specs.Prelude.{ℕ, not, [], ◌∷◌, ltb}
+use Rattle.std.specs.Prelude.{ℕ, not, [], ◌∷◌, ltb, if◌then◌else◌}
 use Rattle.words.specs.Text.{Bytes}
-use Rattle.words.specs.Choice.{if◌then◌else◌, if_none◌then◌else◌}
+use Rattle.words.specs.Choice.{if_none◌then◌else◌}
 use Rattle.bitmap.specs.Bitmap.{get}
 use Rattle.keys.specs.Read.{read_key}
 use Rattle.roster_ranges.specs.Range.{at, mask_at}

@@ -1,4 +1,5 @@
 -- The grounds of *bars* test by test, the slots executed one by one, and the call.
+use Rattle.std.specs.Prelude.{if◌then◌else◌}
 use mathlib.Core.Path.{◌≡◌, refl, sym, ap, ◌∙◌}
 use mathlib.Core.Bool.{Bool, true, false, not, ◌&&◌, ◌||◌}
 use mathlib.Core.List.{List, [], ◌∷◌}
@@ -9,7 +10,6 @@ use native.Mathlib.Omega.{arith}
 use lib.Dec.{ltb, leb}
 use lib.ListN.{length, set, take, drop, get_elem?}
 use borrow.Author.Tests.{lt-ltb, le-ltb, le-leb, lt-leb, ltb-false, leb-true, not-false}
-use Rattle.words.specs.Choice.{if◌then◌else◌}
 use Rattle.words.specs.Part.{part, splice, length_part}
 use Rattle.ids.specs.declared.Slot.{Slot}
 use Rattle.inst_cell.specs.Cell.{with_status as short_with}

@@ -1,4 +1,5 @@
 -- The bars of a heartbeat: the walk, then a peer's exec and snap bar, at the node's view.
+use Rattle.std.specs.Prelude.{if◌then◌else◌}
 use mathlib.Core.Path.{◌≡◌, refl, sym, ap, ◌∙◌}
 use mathlib.Core.Bool.{true}
 use mathlib.Core.List.{List, [], append-nil}
@@ -7,7 +8,6 @@ use native.Mathlib.Omega.{arith}
 use lib.ListN.{length, take, drop}
 use borrow.Author.Tests.{lt-ltb, le-ltb}
 use Rattle.layout.specs.Layout.{slots_at, slot_words, execs_at, replica_places, node_words}
-use Rattle.words.specs.Choice.{if◌then◌else◌}
 use Rattle.words.specs.Tab.{words_from}
 use Rattle.words.specs.Part.{part, splice, length_part, part_before}
 use Rattle.ids.specs.declared.Slot.{Slot}

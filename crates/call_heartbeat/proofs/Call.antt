@@ -1,4 +1,5 @@
 -- *heartbeat*: its parts one after the other, and the one statement for a call that a roster may be attached to.
+use Rattle.std.specs.Prelude.{if◌then◌else◌}
 use mathlib.Core.Path.{◌≡◌, refl, sym, ap, ◌∙◌}
 use mathlib.Core.Bool.{Bool, true, false, not, ◌&&◌, ◌||◌}
 use mathlib.Core.List.{List}
@@ -12,7 +13,6 @@ use Rattle.layout.specs.Layout.{slots_at, slot_words}
 use Rattle.words.specs.Writes.{length_writes}
 use Rattle.words.specs.Part.{part}
 use Rattle.ids.specs.Leader.{leader_of}
-use Rattle.words.specs.Choice.{if◌then◌else◌}
 use Rattle.items.specs.Item.{encode, places}
 use Rattle.roster_conf.specs.Conf.{Conf, leads}
 use Rattle.roster_conf.specs.Edits.{view as roster_of}

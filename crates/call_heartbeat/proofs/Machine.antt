@@ -1,11 +1,11 @@
 -- A heartbeat of a whole replica: the roster, then the bars; how many items.
+use Rattle.std.specs.Prelude.{if◌then◌else◌}
 use mathlib.Core.Path.{◌≡◌, refl, sym, ap, ◌∙◌}
 use mathlib.Core.Bool.{Bool, true, false, ◌&&◌}
 use mathlib.Core.List.{List, [], ◌++◌, append-nil}
 use Prim.Native.Nat.{ℕ, ◌+◌}
 use lib.Dec.{ltb, eqb}
 use lib.ListN.{length, length-append}
-use Rattle.words.specs.Choice.{if◌then◌else◌}
 use Rattle.items.specs.Item.{Item}
 use Rattle.roster_conf.specs.Conf.{Conf, leads}
 use Rattle.bodega.specs.Replica.{Replica, Heartbeat, Done, done, ◌and_then◌}

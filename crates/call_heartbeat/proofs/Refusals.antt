@@ -1,4 +1,5 @@
 -- The roster of a heartbeat, and the grounds that turn it away, at the node's view.
+use Rattle.std.specs.Prelude.{if◌then◌else◌}
 use mathlib.Core.Path.{◌≡◌, refl, sym, ap, ◌∙◌}
 use mathlib.Core.Bool.{Bool, true, false, not, ◌&&◌, ◌||◌}
 use mathlib.Core.List.{List, []}
@@ -9,7 +10,7 @@ use lib.Dec.{ltb, leb}
 use lib.ListN.{length, take, drop}
 use borrow.Author.Tests.{lt-ltb, le-ltb, le-leb, lt-leb, not-true, not-false}
 use Rattle.layout.specs.Layout.{slots_at, slot_words}
-use Rattle.words.specs.Choice.{if◌then◌else◌, if_none◌then◌else◌}
+use Rattle.words.specs.Choice.{if_none◌then◌else◌}
 use Rattle.words.specs.Part.{part, length_part}
 use Rattle.ids.specs.Leader.{leader_of}
 use Rattle.roster_conf.specs.Conf.{Conf, same}

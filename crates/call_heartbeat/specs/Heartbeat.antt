@@ -1,8 +1,7 @@
 -- Trusted: the roster that a heartbeat carries, and whether its words are whole. What the code tests is a bridge, tied
 -- to `grounds` by proofs/Refusals.
-use Rattle.std.specs.Prelude.{◌≡◌, Bool, true, ◌&&◌, ◌||◌, not, List, [], ℕ, ◌≤◌, ltb, leb}
+use Rattle.std.specs.Prelude.{◌≡◌, Bool, true, ◌&&◌, ◌||◌, not, List, [], ℕ, ◌≤◌, ltb, leb, if◌then◌else◌}
 use Rattle.std.proofs.Math.Option.{Option, none, some}
-use Rattle.words.specs.Choice.{if◌then◌else◌}
 use Rattle.roster_conf.specs.Conf.{Conf, leads}
 use Rattle.roster_conf.specs.Edits.{view as roster_of}
 use Rattle.roster_conf.specs.Ground.{Ground, ◌when◌or◌}

@@ -1,7 +1,6 @@
 -- Bridge: *notice*, what the code tests, and a leader that steps down; tied to `grounds` and `check_ballot` by
 -- proofs/Laws.
-use Rattle.std.specs.Prelude.{◌≡◌, Bool, true, false, ◌&&◌, List, [], ◌∷◌, ℕ, ◌+◌, ltb, leb, length}
-use Rattle.words.specs.Choice.{if◌then◌else◌}
+use Rattle.std.specs.Prelude.{◌≡◌, Bool, true, false, ◌&&◌, List, [], ◌∷◌, ℕ, ◌+◌, ltb, leb, length, if◌then◌else◌}
 use Rattle.words.specs.Writes.{writes}
 use Rattle.ids.specs.Limits.{window, top}
 use Rattle.items.specs.Item.{Item, Lead, encode, places}

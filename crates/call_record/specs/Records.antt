@@ -1,9 +1,9 @@
 -- Bridge: what the code of *record* tests, from numbers and the slots held, and what it makes of a place and of the
 -- slots; tied to `grounds` and `recorded` by proofs/Laws.
-use Rattle.std.specs.Prelude.{◌≡◌, Bool, true, false, ◌||◌, not, List, [], ◌++◌, ℕ, ◌+◌, ◌-◌, ◌≤◌, ◌<◌, ltb, leb, eqb, length, set, replicate}
+use Rattle.std.specs.Prelude.{◌≡◌, Bool, true, false, ◌||◌, not, List, [], ◌++◌, ℕ, ◌+◌, ◌-◌, ◌≤◌, ◌<◌, ltb, leb, eqb, length, set, replicate, if◌then◌else◌}
 use Rattle.std.proofs.Math.Option.{Option, none, some}
 use Rattle.std.proofs.Math.ListN.{get_elem?}
-use Rattle.words.specs.Choice.{if◌then◌else◌, if_none◌then◌else◌}
+use Rattle.words.specs.Choice.{if_none◌then◌else◌}
 use Rattle.words.specs.Part.{part, Untouched}
 use Rattle.ids.specs.Limits.{window, batch, keys}
 use Rattle.ids.specs.Leader.{leader_of}

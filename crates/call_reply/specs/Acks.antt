@@ -1,7 +1,7 @@
 -- Bridge: the ack of a peer at its slot, over the slots' words; tied to `handle_msg_accept_reply` by proofs/Replies.
-use Rattle.std.specs.Prelude.{◌≡◌, ◌||◌, not, List, [], ◌∷◌, ℕ, ltb}
+use Rattle.std.specs.Prelude.{◌≡◌, ◌||◌, not, List, [], ◌∷◌, ℕ, ltb, if◌then◌else◌}
 use Rattle.std.proofs.Math.Option.{Option, none, some}
-use Rattle.words.specs.Choice.{if◌then◌else◌, if_none◌then◌else◌}
+use Rattle.words.specs.Choice.{if_none◌then◌else◌}
 use Rattle.bitmap.specs.Bitmap.{get, mark}
 use Rattle.items.specs.Item.{Item, Commit}
 use Rattle.roster_conf.specs.Conf.{Conf}

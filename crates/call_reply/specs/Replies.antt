@@ -1,8 +1,7 @@
 -- Bridge: *reply*, what the code tests, and what a reply that is waited on does to the slots' words and the answer
 -- area; tied to `grounds` and `handle_msg_accept_reply` by proofs/Replies.
-use Rattle.std.specs.Prelude.{◌≡◌, Bool, ◌&&◌, not, List, [], ◌++◌, ℕ, ◌+◌, ◌-◌, ◌≤◌, ◌<◌, ltb, leb, eqb, length}
+use Rattle.std.specs.Prelude.{◌≡◌, Bool, ◌&&◌, not, List, [], ◌++◌, ℕ, ◌+◌, ◌-◌, ◌≤◌, ◌<◌, ltb, leb, eqb, length, if◌then◌else◌}
 use Rattle.std.proofs.Math.Option.{Option}
-use Rattle.words.specs.Choice.{if◌then◌else◌}
 use Rattle.words.specs.Writes.{writes}
 use Rattle.roster_conf.specs.Ground.{◌when◌or◌}
 use Rattle.items.specs.Item.{Item, encode, places}

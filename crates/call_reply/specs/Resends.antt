@@ -1,6 +1,6 @@
 -- Bridge: `resend_missed_accepts`, adjacent, over the slots' words; tied to `resend_missed_accepts` by proofs/Replies.
-use Rattle.std.specs.Prelude.{not, List, [], ◌∷◌, ℕ, zero, suc, ◌+◌, ◌%◌, eqb}
-use Rattle.words.specs.Choice.{if◌then◌else◌, if_none◌then◌else◌}
+use Rattle.std.specs.Prelude.{not, List, [], ◌∷◌, ℕ, zero, suc, ◌+◌, ◌%◌, eqb, if◌then◌else◌}
+use Rattle.words.specs.Choice.{if_none◌then◌else◌}
 use Rattle.layout.specs.Layout.{slot_places}
 use Rattle.bitmap.specs.Bitmap.{get}
 use Rattle.items.specs.Item.{Item, Resend}

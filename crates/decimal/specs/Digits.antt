@@ -1,6 +1,5 @@
 -- Trusted: document 01, "key numbers are written in decimal, most significant digit first", in ASCII.
-use Rattle.std.specs.Prelude.{ℕ, zero, suc, ◌+◌, ◌/◌, ◌%◌, List, [], ◌∷◌, ◌++◌, ltb}
-use Rattle.words.specs.Choice.{if◌then◌else◌}
+use Rattle.std.specs.Prelude.{ℕ, zero, suc, ◌+◌, ◌/◌, ◌%◌, List, [], ◌∷◌, ◌++◌, ltb, if◌then◌else◌}
 
 -- below ten one digit, else the digits of the tenth and then the last digit. `fuel` bounds the steps: more than n is
 -- enough

@@ -1,6 +1,5 @@
 -- Trusted: what a writer of decimals answers and leaves in the lent bytes.
-use Rattle.std.specs.Prelude.{ℕ, ◌+◌, List, leb, length}
-use Rattle.words.specs.Choice.{if◌then◌else◌}
+use Rattle.std.specs.Prelude.{ℕ, ◌+◌, List, leb, length, if◌then◌else◌}
 use Rattle.words.specs.Writes.{writes}
 use Rattle.decimal.specs.declared.Written.{Written}
 use Rattle.decimal.specs.declared.Written.TheVariants.{End, Short}

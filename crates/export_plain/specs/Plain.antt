@@ -1,6 +1,5 @@
 -- Trusted: the node and a roster as plain structs, for a caller that has no enums.
-use Rattle.std.specs.Prelude.{◌≡◌, ℕ, eqb}
-use Rattle.words.specs.Choice.{if◌then◌else◌}
+use Rattle.std.specs.Prelude.{◌≡◌, ℕ, eqb, if◌then◌else◌}
 use Rattle.ids.specs.declared.Leader.{Leader}
 use Rattle.ids.specs.declared.Leader.TheVariants.{None, Some}
 use Rattle.roster_conf.specs.declared.RespondersConf.{RespondersConf}

@@ -1,4 +1,5 @@
 -- `heard_new_conf` on a node and its buffer.
+use Rattle.std.specs.Prelude.{if◌then◌else◌}
 use mathlib.Core.Path.{◌≡◌, refl, sym, ap, ◌∙◌}
 use mathlib.Core.Bool.{Bool, true, false, not}
 use mathlib.Core.List.{List, ◌∷◌}
@@ -9,7 +10,6 @@ use native.Mathlib.Omega.{arith}
 use lib.Dec.{leb}
 use lib.ListN.{length, get_or, set, take, drop, replicate, get_or-replicate}
 use borrow.Author.Tests.{leb-true, not-true, not-false}
-use Rattle.words.specs.Choice.{if◌then◌else◌}
 use Rattle.words.specs.Tab.{tab, words_from, tab_ext}
 use Rattle.words.specs.Part.{part, splice, Untouched, part_before, length_part}
 use Rattle.words.specs.Writes.{writes, length_writes, writes_same}

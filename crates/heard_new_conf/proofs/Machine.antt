@@ -1,11 +1,11 @@
 -- `heard_new_conf` of a whole replica: what it leaves as it was, how many items it has, and that the commit walk finds
 -- nothing after a step-up.
+use Rattle.std.specs.Prelude.{if◌then◌else◌}
 use mathlib.Core.Path.{◌≡◌, refl, ap, ◌∙◌}
 use mathlib.Core.Bool.{Bool, true, false}
 use mathlib.Core.List.{[]}
 use Prim.Native.Nat.{ℕ, ◌-◌}
 use lib.ListN.{length, take-append-drop}
-use Rattle.words.specs.Choice.{if◌then◌else◌}
 use Rattle.roster_conf.specs.Conf.{Conf, leads}
 use Rattle.bodega.specs.Replica.{Replica, Done, done}
 use Rattle.bodega.specs.Conflease.{update_peer_accept_max, become_a_leader, adopted, heard_new_conf}

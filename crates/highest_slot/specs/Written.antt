@@ -1,8 +1,7 @@
 -- Trusted: the written keys that lent words stand for. What a write leaves is a bridge, tied by
 -- highest_slot_refresh/proofs/Laws.
-use Rattle.std.specs.Prelude.{◌≡◌, Bool, false, List, [], ◌∷◌, ℕ, ◌+◌, ◌≤◌, leb, length, get_or}
+use Rattle.std.specs.Prelude.{◌≡◌, Bool, false, List, [], ◌∷◌, ℕ, ◌+◌, ◌≤◌, leb, length, get_or, if◌then◌else◌}
 use Rattle.std.proofs.Math.Option.{Option, none, some}
-use Rattle.words.specs.Choice.{if◌then◌else◌}
 use Rattle.words.specs.Counted.{counted}
 use Rattle.keys.specs.Same.{same_bytes}
 use Rattle.key_words.specs.Key.{key_at, bytes_of}

@@ -1,5 +1,6 @@
 -- `refresh_highest_slot` request by request: which keys are written after it, how many, and the written keys in lent
 -- words.
+use Rattle.std.specs.Prelude.{if◌then◌else◌}
 use mathlib.Core.Path.{◌≡◌, refl, sym, ap, ◌∙◌}
 use mathlib.Core.Bool.{Bool, true, false, ◌||◌, or-false}
 use mathlib.Core.List.{List, [], ◌∷◌, ◌++◌}
@@ -10,7 +11,7 @@ use native.Mathlib.Omega.{arith}
 use borrow.Author.Tests.{le-ltb, lt-ltb}
 use lib.Dec.{ltb}
 use lib.ListN.{length, get_or, drop, take-append-drop}
-use Rattle.words.specs.Choice.{if◌then◌else◌, if_none◌then◌else◌}
+use Rattle.words.specs.Choice.{if_none◌then◌else◌}
 use Rattle.words.specs.Tab.{tab, tab_snoc, take_tab, drop_tab}
 use Rattle.keys.specs.Same.{same_bytes}
 use Rattle.keys.proofs.Same.{same_true}

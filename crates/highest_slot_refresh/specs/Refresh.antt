@@ -1,7 +1,7 @@
 -- Bridge: `refresh_highest_slot` on the written keys in lent words; tied to `refresh_highest_slot` by
 -- call_record/proofs/Laws.
-use Rattle.std.specs.Prelude.{◌≡◌, List, ℕ, ◌≤◌, get_or}
-use Rattle.words.specs.Choice.{if◌then◌else◌, if_none◌then◌else◌}
+use Rattle.std.specs.Prelude.{◌≡◌, List, ℕ, ◌≤◌, get_or, if◌then◌else◌}
+use Rattle.words.specs.Choice.{if_none◌then◌else◌}
 use Rattle.words.specs.Tab.{tab}
 use Rattle.layout.specs.Layout.{written_words}
 use Rattle.bodega.specs.Replica as machine

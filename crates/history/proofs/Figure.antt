@@ -1,9 +1,9 @@
 -- Demand 3: the reading bar is the table's figure after every list of calls.
+use Rattle.std.specs.Prelude.{if◌then◌else◌}
 use Prim.Native.Nat.{ℕ}
 use mathlib.Core.List.{List, [], ◌∷◌}
 use mathlib.Core.Option.{Option, none, some}
 use mathlib.Core.Path.{◌≡◌, refl, ap, ◌∙◌}
-use Rattle.words.specs.Choice.{if◌then◌else◌}
 use Rattle.bodega.specs.Replica.{Replica, fresh}
 use Rattle.bodega.specs.Step.{Event, effect, refusal_of, step, step_by, step_of, after, is_taken, run}
 use Rattle.history.specs.Table.{Table, fresh_table, hear, feed, feed_all}

@@ -1,5 +1,6 @@
 -- Where there is no adoption and no raised ballot, the pairs are settled by the set of accepted guards, and the figure
 -- by the pairs.
+use Rattle.std.specs.Prelude.{if◌then◌else◌}
 use Prim.Native.Nat.{ℕ, ◌<◌}
 use mathlib.Core.Bool.{Bool, true, false, ◌&&◌, not, Bool-set, true≢false}
 use mathlib.Core.List.Memᴰ
@@ -11,7 +12,6 @@ use lib.Dec.{eqb}
 use lib.ListN.{length, get_or, length-set}
 use lib.Seq.{get_or-set_same, get_or-set_other, ext_get_or}
 use borrow.Author.Tests.{eqb-true, eqb-false}
-use Rattle.words.specs.Choice.{if◌then◌else◌}
 use Rattle.words.proofs.Tests.{and_both}
 use Rattle.ids.specs.Limits.{beyond}
 use Rattle.bodega.specs.Replica.{Pair, pair, Call, Heartbeat, Guard, Prepared, Record, Reply, Notice, CommitNotice, Bars, Read, Release}

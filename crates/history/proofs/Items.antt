@@ -1,4 +1,5 @@
 -- No call at a replica that calls reach has more than 546 items.
+use Rattle.std.specs.Prelude.{if◌then◌else◌}
 use Prim.Native.Nat.{ℕ, zero, suc, ◌+◌, ◌*◌, ◌-◌, ◌≤◌, ◌<◌}
 use mathlib.Core.Bool.{Bool, true, false, ◌&&◌, ◌||◌, not}
 use mathlib.Core.List.{List, [], ◌∷◌, ◌++◌, append-nil}
@@ -10,7 +11,7 @@ use lib.Dec.{ltb, leb, eqb}
 use lib.ListN.{length, drop, get_elem?, length-append, length-drop, length-map}
 use borrow.Author.Tests.{ltb-true, ltb-false, le-ltb, eqb-true, eqb-false, ne_eqb, not-false}
 use Rattle.words.proofs.Tests.{or_both}
-use Rattle.words.specs.Choice.{if◌then◌else◌, if_none◌then◌else◌}
+use Rattle.words.specs.Choice.{if_none◌then◌else◌}
 use Rattle.bitmap.specs.Bitmap.{get, mark, count}
 use Rattle.roster_conf.specs.Conf.{Conf, leads}
 use Rattle.roster_conf.specs.Ground.{Ground, ◌when◌or◌, refusal}

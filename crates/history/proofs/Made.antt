@@ -1,4 +1,5 @@
 -- From the machine to code that meets `Answers`.
+use Rattle.std.specs.Prelude.{if◌then◌else◌}
 use mathlib.Core.Path.{◌≡◌, refl, sym, ap, ◌∙◌}
 use mathlib.Core.Bool.{Bool, true, false, ◌&&◌}
 use mathlib.Core.List.Memᴰ
@@ -10,7 +11,6 @@ use native.Mathlib.Omega.{arith}
 use lib.Dec.{eqb}
 use lib.ListN.{length}
 use borrow.Author.Tests.{ne_eqb}
-use Rattle.words.specs.Choice.{if◌then◌else◌}
 use Rattle.items.specs.Item.{places}
 use Rattle.bodega.specs.Replica.{Replica, Call, Guard, Done}
 use Rattle.bodega.specs.Step.{Step, Refused, step, step_by, after, is_taken, refusal_of, effect}

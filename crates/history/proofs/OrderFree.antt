@@ -1,5 +1,6 @@
 -- Demand 3: whatever the order and repeats of guards between neighbouring changes of ballot or roster, the figure at
 -- their end is the same.
+use Rattle.std.specs.Prelude.{if◌then◌else◌}
 use Prim.Native.Nat.{ℕ, ◌<◌}
 use mathlib.Core.Bool.{Bool, true, false}
 use mathlib.Core.List.Memᴰ
@@ -9,7 +10,6 @@ use mathlib.Core.Option.{Option, none, some}
 use mathlib.Core.Path.{◌≡◌, refl, ap, sym, ◌∙◌}
 use lib.ListN.{length, length-set, length-replicate}
 use borrow.Author.Tests.{leb-false}
-use Rattle.words.specs.Choice.{if◌then◌else◌}
 use Rattle.bodega.specs.Replica.{Replica, fresh, pair, Call, Heartbeat, Guard, Prepared, Record, Reply, Notice, CommitNotice, Bars, Read, Release}
 use Rattle.roster_conf.specs.Conf.{Conf}
 use Rattle.bodega.specs.Grounds.{grounds}

@@ -1,4 +1,5 @@
 -- Every replica that calls reach is sound.
+use Rattle.std.specs.Prelude.{if◌then◌else◌}
 use Prim.Native.Nat.{ℕ, zero, suc, ◌+◌, ◌-◌, ◌%◌, ◌≤◌, ◌<◌}
 use mathlib.Core.Bool.{Bool, true, false, ◌&&◌, ◌||◌, not}
 use mathlib.Core.List.{List, [], ◌∷◌, ◌++◌}
@@ -10,7 +11,7 @@ use lib.Dec.{ltb, leb, eqb}
 use lib.ListN.{length, get_or, take, drop, set, replicate, length-set, length-append, length-map, length-drop, length-replicate, take-append-drop}
 use borrow.Author.Tests.{ltb-true, ltb-false, leb-true, leb-false, eqb-true, le-leb, not-false}
 use Rattle.words.proofs.Tests.{and_both, or_both}
-use Rattle.words.specs.Choice.{if◌then◌else◌, if_none◌then◌else◌}
+use Rattle.words.specs.Choice.{if_none◌then◌else◌}
 use Rattle.ids.specs.Limits.{window}
 use Rattle.roster_conf.specs.Conf.{Conf, leads, leader_without, into_filtered, same}
 use Rattle.items.specs.Item.{Commit, Lead}

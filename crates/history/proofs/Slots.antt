@@ -1,4 +1,5 @@
 -- Every slot of a replica that calls reach is sound.
+use Rattle.std.specs.Prelude.{if◌then◌else◌}
 use Prim.Native.Nat.{ℕ, zero, suc, ◌+◌, ◌-◌, ◌≤◌, ◌<◌}
 use mathlib.Core.Bool.{Bool, true, false, ◌&&◌, ◌||◌, not}
 use mathlib.Core.List.{List, [], ◌∷◌, ◌++◌, map}
@@ -10,7 +11,7 @@ use lib.Dec.{ltb, leb, eqb}
 use lib.ListN.{length, get_or, take, drop, set, replicate, get_elem?}
 use borrow.Author.Tests.{ltb-true, ltb-false, eqb-true, not-false}
 use Rattle.words.proofs.Tests.{or_both}
-use Rattle.words.specs.Choice.{if◌then◌else◌, if_none◌then◌else◌}
+use Rattle.words.specs.Choice.{if_none◌then◌else◌}
 use Rattle.bitmap.specs.Bitmap.{get, mark, count}
 use Rattle.roster_conf.specs.Conf.{Conf, leads}
 use Rattle.items.specs.Item.{Item, Commit}

@@ -1,5 +1,6 @@
 -- What the table holds is a part of what the replica holds, and each call changes that part as the table is changed by
 -- it.
+use Rattle.std.specs.Prelude.{if◌then◌else◌}
 use Prim.Native.Nat.{ℕ}
 use mathlib.Core.Bool.{Bool, true, false, ◌&&◌, not}
 use mathlib.Core.List.{List, [], ◌++◌}
@@ -8,7 +9,6 @@ use mathlib.Core.Path.{◌≡◌, refl, ◌∙◌}
 use lib.Dec.{ltb, leb, eqb}
 use lib.ListN.{get_or, set}
 use borrow.Author.Tests.{ltb-true, ltb-false, le-leb, lt-leb}
-use Rattle.words.specs.Choice.{if◌then◌else◌}
 use Rattle.roster_conf.specs.Conf.{Conf}
 use Rattle.bodega.specs.Replica.{Request, Instance, Highest, Replica, Call, Heartbeat, Guard, Prepared, Record, Reply, Notice, CommitNotice, Bars, Read, Release, Done, done, fresh_pair, with_highest_slot, set_inst, pad, inst_at, is_leader, with_peer_exec_bar}
 use Rattle.bodega.specs.Localread.{refresh_highest_slot}

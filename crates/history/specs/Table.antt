@@ -2,10 +2,9 @@
 -- call's arguments and whether it was taken, and nothing else: of the replica's definitions it uses the types of
 -- calls, pairs and rosters, and what a roster is with the own number filtered out. Beyond document 01 it holds the
 -- roster, since a heartbeat at the current ballot is an adoption just where its roster differs.
-use Rattle.std.specs.Prelude.{ℕ, ◌+◌, ◌-◌, ◌%◌, Bool, false, ◌&&◌, ◌||◌, not, List, [], ◌∷◌, map, ltb, leb, eqb, get_or, set, replicate}
+use Rattle.std.specs.Prelude.{ℕ, ◌+◌, ◌-◌, ◌%◌, Bool, false, ◌&&◌, ◌||◌, not, List, [], ◌∷◌, map, ltb, leb, eqb, get_or, set, replicate, if◌then◌else◌}
 use Rattle.std.proofs.Math.Option.{Option, none, some}
 use Rattle.rank.specs.Sort.{sort}
-use Rattle.words.specs.Choice.{if◌then◌else◌}
 use Rattle.ids.specs.Limits.{beyond}
 use Rattle.roster_conf.specs.Conf.{Conf, empty, into_filtered, same}
 use Rattle.bodega.specs.Replica.{Pair, pair, Call, Heartbeat, Guard, Prepared, Record, Reply, Notice, CommitNotice, Bars, Read, Release}

@@ -1,8 +1,8 @@
 -- Trusted: the short part of an instance that eight words stand for: ballot, status, whether there are acks, the acks,
 -- whether there is a notice book, its ballot, its notices, and one that is not used.
-use Rattle.std.specs.Prelude.{ℕ, ◌+◌, Bool, true, false, List, [], ◌∷◌, eqb, get_or}
+use Rattle.std.specs.Prelude.{ℕ, ◌+◌, Bool, true, false, List, [], ◌∷◌, eqb, get_or, if◌then◌else◌}
 use Rattle.std.proofs.Math.Option.{Option, none, some}
-use Rattle.words.specs.Choice.{if◌then◌else◌, if_none◌then◌else◌}
+use Rattle.words.specs.Choice.{if_none◌then◌else◌}
 use Rattle.bodega.specs.Replica as machine
 use Rattle.inst_cell.specs.declared.Status.{Status}
 use Rattle.inst_cell.specs.declared.Status.TheVariants.{Null, Preparing, Accepting, Committed, Executed}

@@ -1,8 +1,7 @@
 -- Trusted: the reads held by a slot that lent words stand for. What a push leaves is a bridge, tied by
 -- insts/proofs/Laws.
-use Rattle.std.specs.Prelude.{◌≡◌, Bool, false, List, [], ◌∷◌, ◌++◌, ℕ, ◌+◌, ◌*◌, ◌≤◌, leb, length, get_or}
+use Rattle.std.specs.Prelude.{◌≡◌, Bool, false, List, [], ◌∷◌, ◌++◌, ℕ, ◌+◌, ◌*◌, ◌≤◌, leb, length, get_or, if◌then◌else◌}
 use Rattle.std.proofs.Math.Option.{Option, none, some}
-use Rattle.words.specs.Choice.{if◌then◌else◌}
 use Rattle.words.specs.Counted.{counted}
 use Rattle.key_words.specs.Key.{key_at, words_of, bytes_of}
 use Rattle.layout.specs.Layout.{held_row, held_places, held_words}

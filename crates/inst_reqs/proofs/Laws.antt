@@ -1,4 +1,5 @@
 -- A slot's batch: what is stored is read back, a request goes after the others, and the last Put of a key from the end.
+use Rattle.std.specs.Prelude.{if◌then◌else◌}
 use mathlib.Core.Path.{◌≡◌, refl, sym, ap, ◌∙◌}
 use mathlib.Core.Bool.{Bool, true, false, true≢false}
 use mathlib.Core.Logic.{inr}
@@ -10,7 +11,7 @@ use native.Mathlib.Omega.{arith}
 use borrow.Author.Tests.{le-leb, eq-eqb, ne_eqb}
 use lib.ListN.{length, get_or, set, length-append, length-set}
 use lib.Seq.{get_or-set_other}
-use Rattle.words.specs.Choice.{if◌then◌else◌, if_none◌then◌else◌}
+use Rattle.words.specs.Choice.{if_none◌then◌else◌}
 use Rattle.words.specs.Counted.{count_of, length_counted, counted_push, counted_clear}
 use Rattle.words.specs.Tab.{tab, tab_snoc}
 use Rattle.words.specs.Writes.{writes, Agrees, writes_other, writes_same}

@@ -1,7 +1,6 @@
 -- Trusted: a slot's batch that lent words stand for. What a push leaves is a bridge, tied by req_batch/proofs/Laws.
-use Rattle.std.specs.Prelude.{◌≡◌, Bool, false, List, [], ◌∷◌, ◌++◌, ℕ, ◌+◌, ◌*◌, ◌≤◌, leb, eqb, length, get_or}
+use Rattle.std.specs.Prelude.{◌≡◌, Bool, false, List, [], ◌∷◌, ◌++◌, ℕ, ◌+◌, ◌*◌, ◌≤◌, leb, eqb, length, get_or, if◌then◌else◌}
 use Rattle.std.proofs.Math.Option.{Option, none, some}
-use Rattle.words.specs.Choice.{if◌then◌else◌}
 use Rattle.words.specs.Counted.{counted}
 use Rattle.key_words.specs.Key.{key_at, words_of, bytes_of}
 use Rattle.layout.specs.Layout.{request_places, request_row, batch_words}

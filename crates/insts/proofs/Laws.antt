@@ -1,4 +1,5 @@
 -- A place's three parts, one of them changed; the slots that a start and a number of them are.
+use Rattle.std.specs.Prelude.{if◌then◌else◌}
 use mathlib.Core.Path.{◌≡◌, refl, sym, ap, ◌∙◌}
 use mathlib.Core.Logic.{◌≢◌}
 use mathlib.Core.List.{List, [], ◌∷◌, ◌++◌, append_assoc, append-nil}
@@ -12,7 +13,7 @@ use lib.ListN.{length, set, take, drop, replicate, get_elem?, length-set, length
 use lib.Dec.{ltb}
 use lib.Seq.{take-length}
 use borrow.Author.Tests.{le-leb, not-true, not-false}
-use Rattle.words.specs.Choice.{if◌then◌else◌, if_none◌then◌else◌}
+use Rattle.words.specs.Choice.{if_none◌then◌else◌}
 use Rattle.words.specs.Tab.{tab, tab_ext, tab_set, tab_snoc, tab_shift, drop_tab, take_tab, elem_tab, elem_past, length_tab}
 use Rattle.words.specs.Part.{part, splice, part_here, part_before, part_after, length_splice, length_part, get_or_splice, part_set_below}
 use Rattle.words.specs.Writes.{writes, length_writes, part_writes, writes_all}

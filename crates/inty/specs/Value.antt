@@ -1,7 +1,6 @@
 -- Trusted: document 01, "`u128` becomes two 64-bit halves": the number that two halves are.
-use Rattle.std.specs.Prelude.{ℕ, ◌+◌, ◌*◌, ◌^◌, ltb}
+use Rattle.std.specs.Prelude.{ℕ, ◌+◌, ◌*◌, ◌^◌, ltb, if◌then◌else◌}
 use Rattle.std.proofs.Math.Option.{Option, none, some}
-use Rattle.words.specs.Choice.{if◌then◌else◌}
 use Rattle.inty.specs.declared.Inty.{Inty}
 use Rattle.inty.specs.declared.Checked.{Checked}
 use Rattle.inty.specs.declared.Checked.TheVariants.{Number, Overflow}

@@ -1,4 +1,5 @@
 -- The laws of items in an answer area: the code's exits, and that reading undoes putting.
+use Rattle.std.specs.Prelude.{if◌then◌else◌}
 use mathlib.Core.Path.{◌≡◌, refl, sym, ap, ◌∙◌}
 use mathlib.Core.Bool.{Bool, true, false, and-true, true≢false}
 use mathlib.Core.Logic.{◌⊎◌, inl, inr, ◌≢◌}
@@ -14,7 +15,6 @@ use lib.Dec.{eqb, ltb}
 use lib.ListN.{length, get_or, length-append}
 use lib.Seq.{get_or-append-add, take_at}
 use lib.Pow.{split}
-use Rattle.words.specs.Choice.{if◌then◌else◌}
 use Rattle.words.specs.Tab.{words_from, run_part}
 use Rattle.words.specs.Writes.{writes, length_writes, writes_other, writes_same, run_writes, run_agrees, writes_append}
 use Rattle.words.proofs.Tests.{and_both}

@@ -1,7 +1,7 @@
 -- Trusted: the answer to a line of the key reader.
-use Rattle.std.specs.Prelude.{ℕ, Bool, ◌||◌, List, [], ◌∷◌, ◌++◌, ltb, length}
+use Rattle.std.specs.Prelude.{ℕ, Bool, ◌||◌, List, [], ◌∷◌, ◌++◌, ltb, length, if◌then◌else◌}
 use Rattle.std.proofs.Math.Option.{Option, none}
-use Rattle.words.specs.Choice.{if◌then◌else◌, if_none◌then◌else◌}
+use Rattle.words.specs.Choice.{if_none◌then◌else◌}
 use Rattle.decimal.specs.Digits.{decimal}
 use Rattle.keys.specs.Read.{read_key}
 use Rattle.stream_pieces.specs.Pieces.{Begun}

@@ -1,5 +1,6 @@
 -- The laws of packed keys: put and get, bytes and words, and that keys are compared as their bytes are. Assumes
 -- nothing.
+use Rattle.std.specs.Prelude.{if◌then◌else◌}
 use mathlib.Core.Path.{◌≡◌, refl, sym, ap, ◌∙◌}
 use mathlib.Core.Bool.{Bool, true, false, and-true}
 use mathlib.Core.List.{List, [], ◌∷◌, ◌++◌}
@@ -13,7 +14,6 @@ use lib.Dec.{eqb}
 use lib.ListN.{length, get_or, take, replicate, length-take, get_or-eq_default}
 use lib.Pow.{pow_pos, shr_lt}
 use lib.Seq.{ext_get_or, length-take-le, get_or-take, take-take, take_all}
-use Rattle.words.specs.Choice.{if◌then◌else◌}
 use Rattle.words.specs.Tab.{words_from, length_tab, get_or_tab}
 use Rattle.words.specs.Writes.{writes, Agrees, writes_append, run_writes, run_agrees, length_writes, writes_same}
 use Rattle.keys.specs.Read.{is_k, strip, sign, is_digit, number, digits, read_key}

@@ -1,8 +1,8 @@
 -- Trusted: `key.trim_start_matches(['k', 'K']).parse::<u128>()` in four steps, each from Rust's library page, over the
 -- bytes of the key.
-use Rattle.std.specs.Prelude.{ℕ, ◌+◌, ◌-◌, ◌*◌, Bool, ◌&&◌, ◌||◌, List, [], ◌∷◌, leb, eqb}
+use Rattle.std.specs.Prelude.{ℕ, ◌+◌, ◌-◌, ◌*◌, Bool, ◌&&◌, ◌||◌, List, [], ◌∷◌, leb, eqb, if◌then◌else◌}
 use Rattle.std.proofs.Math.Option.{Option, none, some}
-use Rattle.words.specs.Choice.{if◌then◌else◌, if_none◌then◌else◌}
+use Rattle.words.specs.Choice.{if_none◌then◌else◌}
 use Rattle.inty.specs.Value.{bounded}
 
 -- 1. Strip. `trim_start_matches`: "all prefixes that match a pattern repeatedly removed", here each leading k and K

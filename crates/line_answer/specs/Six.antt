@@ -1,7 +1,6 @@
 -- Bridge: an item's line from its six words; tied to `item_text` by proofs/Items.
-use Rattle.std.specs.Prelude.{ℕ, ◌+◌, ◌*◌, ◌^◌, [], ◌∷◌, eqb}
+use Rattle.std.specs.Prelude.{ℕ, ◌+◌, ◌*◌, ◌^◌, [], ◌∷◌, eqb, if◌then◌else◌}
 use Rattle.words.specs.Text.{Bytes, bytes}
-use Rattle.words.specs.Choice.{if◌then◌else◌}
 use Rattle.decimal.specs.Digits.{decimal}
 use Rattle.line_answer.specs.Text.{line}
 

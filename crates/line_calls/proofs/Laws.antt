@@ -1,4 +1,5 @@
 -- A line's fields as a call's arguments.
+use Rattle.std.specs.Prelude.{if◌then◌else◌}
 use mathlib.Core.Path.{◌≡◌, refl, sym, ap, subst, ◌∙◌, fun_ext}
 use mathlib.Core.Bool.{Bool, true, false, not, ◌&&◌, and-true, and-false, true≢false}
 use mathlib.Core.List.{List, [], ◌∷◌}
@@ -9,7 +10,6 @@ use lib.Dec.{leb, ltb, eqb}
 use lib.ListN.{length, get_or}
 use borrow.Author.Tests.{le-leb, lt-ltb, le-ltb, ltb-true, ltb-false, ne_eqb, eq-eqb, not-true, not-false}
 use Rattle.words.specs.Text.{Bytes}
-use Rattle.words.specs.Choice.{if◌then◌else◌}
 use Rattle.items.specs.Item.{places}
 use Rattle.ids.specs.declared.Replica.{Replica}
 use Rattle.roster_conf.specs.declared.RespondersConf.{RespondersConf}

@@ -1,4 +1,5 @@
 -- A line's fields as the arguments of an edit, a listing or a node.
+use Rattle.std.specs.Prelude.{if◌then◌else◌}
 use mathlib.Core.Path.{◌≡◌, refl, sym, ap, subst, ◌∙◌}
 use mathlib.Core.Bool.{Bool, true, false, not, ◌&&◌, and-false, true≢false}
 use mathlib.Core.List.{List, [], ◌∷◌}
@@ -9,7 +10,6 @@ use lib.Dec.{leb, ltb, eqb}
 use lib.ListN.{length, get_or}
 use borrow.Author.Tests.{le-leb, leb-true, ltb-true, eq-eqb, ne_eqb, not-true, not-false}
 use Rattle.words.specs.Text.{Bytes}
-use Rattle.words.specs.Choice.{if◌then◌else◌}
 use Rattle.words.proofs.Tests.{and_both}
 use Rattle.layout.specs.Layout.{node_words}
 use Rattle.line_fields.specs.Split.{fields_from}

@@ -1,7 +1,6 @@
 -- Trusted: what the function of an event line answers and leaves.
-use Rattle.std.specs.Prelude.{◌≡◌, Bool, ◌&&◌, List, ℕ, ◌≤◌, ◌<◌, leb, eqb, length}
+use Rattle.std.specs.Prelude.{◌≡◌, Bool, ◌&&◌, List, ℕ, ◌≤◌, ◌<◌, leb, eqb, length, if◌then◌else◌}
 use Rattle.words.specs.Text.{Bytes}
-use Rattle.words.specs.Choice.{if◌then◌else◌}
 use Rattle.ids.specs.Limits.{items}
 use Rattle.items.specs.Item.{places}
 use Rattle.roster_conf.specs.declared.RespondersConf.{RespondersConf}

@@ -1,6 +1,5 @@
 -- Bridge: what a call, an edit or a listing leaves for the host; tied to `LineFollows` by proofs/Laws.
-use Rattle.std.specs.Prelude.{ℕ}
-use Rattle.words.specs.Choice.{if◌then◌else◌}
+use Rattle.std.specs.Prelude.{ℕ, if◌then◌else◌}
 use Rattle.roster_conf.specs.declared.Edited.{Edited}
 use Rattle.roster_conf.specs.declared.Edited.TheVariants as edits
 use Rattle.roster_show.specs.declared.Shown.{Shown}

@@ -1,8 +1,7 @@
 // An event line: what it does to the host, and the text that answers it.
 #![tactic(auto)]
 
-ghost use Rattle.std.specs.Prelude.{◌≡◌, true, ◌≤◌, length};
-ghost use Rattle.words.specs.Choice.{if◌then◌else◌};
+ghost use Rattle.std.specs.Prelude.{◌≡◌, true, ◌≤◌, length, if◌then◌else◌};
 ghost use Rattle.line_fields.specs.Split.{fields_from};
 ghost use Rattle.items.specs.Item.{places};
 ghost use Rattle.node.specs.View.{ready};

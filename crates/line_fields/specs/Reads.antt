@@ -1,7 +1,6 @@
 -- Bridge: what is read at a position of a line; tied to `fields_of` by proofs/Laws.
-use Rattle.std.specs.Prelude.{ℕ, zero, suc, ◌+◌, ◌-◌, ◌≤◌, ◌<◌, Bool, true, false, ◌&&◌, ◌||◌, not, List, [], ◌∷◌, ◌≡◌, eqb, length, get_or, take, drop}
+use Rattle.std.specs.Prelude.{ℕ, zero, suc, ◌+◌, ◌-◌, ◌≤◌, ◌<◌, Bool, true, false, ◌&&◌, ◌||◌, not, List, [], ◌∷◌, ◌≡◌, eqb, length, get_or, take, drop, if◌then◌else◌}
 use Rattle.words.specs.Text.{Bytes}
-use Rattle.words.specs.Choice.{if◌then◌else◌}
 use Rattle.line_fields.specs.declared.Field.{Field}
 use Rattle.line_fields.specs.declared.Number.{Number}
 use Rattle.line_fields.specs.declared.NumberAt.{NumberAt}

@@ -1,7 +1,6 @@
 -- Trusted: document 01, "The event program": "fields in fixed order parted by commas, no quoting".
-use Rattle.std.specs.Prelude.{ℕ, List, [], ◌∷◌, eqb, leb, length, drop}
+use Rattle.std.specs.Prelude.{ℕ, List, [], ◌∷◌, eqb, leb, length, drop, if◌then◌else◌}
 use Rattle.words.specs.Text.{Bytes}
-use Rattle.words.specs.Choice.{if◌then◌else◌}
 
 abbrev pub comma : ℕ
 comma = 44

@@ -1,8 +1,8 @@
 -- Trusted: document 01, "The event program": the node, the draft, and what a line answers.
-use Rattle.std.specs.Prelude.{ℕ, ◌+◌, List, [], ◌∷◌, ◌++◌}
+use Rattle.std.specs.Prelude.{ℕ, ◌+◌, List, [], ◌∷◌, ◌++◌, if◌then◌else◌}
 use Rattle.std.proofs.Math.Option.{Option, none, some}
 use Rattle.words.specs.Text.{Bytes}
-use Rattle.words.specs.Choice.{if◌then◌else◌, if_none◌then◌else◌}
+use Rattle.words.specs.Choice.{if_none◌then◌else◌}
 use Rattle.ids.specs.Limits.{items}
 use Rattle.items.specs.Item.{Item}
 use Rattle.roster_conf.specs.Conf.{Conf, empty}

@@ -1,8 +1,7 @@
 -- Trusted: document 01, "The event program": the seventeen kinds of lines, each with its fields.
-use Rattle.std.specs.Prelude.{ℕ, Bool, true, false, ◌&&◌, ◌||◌, not, List, [], ◌∷◌, eqb, ltb, leb, length, get_or, drop}
+use Rattle.std.specs.Prelude.{ℕ, Bool, true, false, ◌&&◌, ◌||◌, not, List, [], ◌∷◌, eqb, ltb, leb, length, get_or, drop, if◌then◌else◌}
 use Rattle.std.proofs.Math.Option.{Option, none, some}
 use Rattle.words.specs.Text.{Bytes}
-use Rattle.words.specs.Choice.{if◌then◌else◌}
 use Rattle.line_fields.specs.Split.{fields_of}
 use Rattle.line_kind.specs.Kind.{kind_of}
 use Rattle.line_kind.specs.declared.Kind.{Kind}

@@ -1,4 +1,5 @@
 -- A group, the rows of the groups and the record line, with premises as the code has them.
+use Rattle.std.specs.Prelude.{if◌then◌else◌}
 use mathlib.Core.Path.{◌≡◌, refl, sym, ap, ◌∙◌}
 use mathlib.Core.Bool.{Bool, true, false, ◌&&◌, ◌||◌, not, true≢false, and-false}
 use mathlib.Core.List.{List, [], ◌∷◌, ◌++◌, append_assoc, append-nil}
@@ -12,7 +13,6 @@ use lib.ListN.{length, get_or, take, drop}
 use lib.Seq.{get_or-take, length-take-le}
 use borrow.Author.Tests.{le-leb, eqb-true, not-true, not-false}
 use Rattle.words.specs.Text.{Bytes}
-use Rattle.words.specs.Choice.{if◌then◌else◌}
 use Rattle.words.specs.Part.{part}
 use Rattle.words.specs.Tab.{tab, tab_ext, tab_snoc}
 use Rattle.words.specs.Writes.{writes, Agrees, writes_other, writes_same, length_writes}

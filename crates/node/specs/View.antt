@@ -1,8 +1,8 @@
 -- Trusted: the replica that a node and its lent buffer stand for, on any words. The buffer: guard pairs, the peers'
 -- exec bars, the roster's rows, the slots, the written keys.
-use Rattle.std.specs.Prelude.{Bool, false, ◌&&◌, List, [], ◌∷◌, ℕ, ◌+◌, ltb, leb, eqb, length}
+use Rattle.std.specs.Prelude.{Bool, false, ◌&&◌, List, [], ◌∷◌, ℕ, ◌+◌, ltb, leb, eqb, length, if◌then◌else◌}
 use Rattle.std.proofs.Math.Option.{Option}
-use Rattle.words.specs.Choice.{if◌then◌else◌, if_none◌then◌else◌}
+use Rattle.words.specs.Choice.{if_none◌then◌else◌}
 use Rattle.words.specs.Tab.{words_from}
 use Rattle.words.specs.Part.{part}
 use Rattle.ids.specs.Limits.{window, ranges, replicas, top}

@@ -1,6 +1,5 @@
 -- Trusted: the guard pairs (`peer_accept_bar`) that lent words stand for: all numbers, then all bars.
-use Rattle.std.specs.Prelude.{List, map, ℕ, ◌+◌, ◌-◌, get_or, set}
-use Rattle.words.specs.Choice.{if◌then◌else◌}
+use Rattle.std.specs.Prelude.{List, map, ℕ, ◌+◌, ◌-◌, get_or, set, if◌then◌else◌}
 use Rattle.words.specs.Tab.{tab}
 use Rattle.layout.specs.Layout.{bars_at}
 use Rattle.rank.specs.Sort.{sort}

@@ -1,5 +1,6 @@
 -- What the proofs of this crate share, and that the lists say what the machine says of a whole replica. Assumes
 -- nothing.
+use Rattle.std.specs.Prelude.{if◌then◌else◌}
 use mathlib.Core.Path.{◌≡◌, refl, sym, ap, ◌∙◌}
 use mathlib.Core.Bool.{Bool, true, false, not, ◌||◌}
 use mathlib.Core.List.{List}
@@ -11,7 +12,6 @@ use lib.Dec.{ltb, leb, eqb}
 use lib.ListN.{length, get_or, set}
 use lib.Seq.{get_or-set_same, get_or-set_other}
 use borrow.Author.Tests.{lt-ltb, le-ltb, eq-eqb, ne_eqb, not-true, not-false}
-use Rattle.words.specs.Choice.{if◌then◌else◌}
 use Rattle.words.specs.Tab.{words_from, get_or_tab, tab_set}
 use Rattle.bitmap.specs.Bitmap.{every}
 use Rattle.bitmap.proofs.Laws.{every_each}

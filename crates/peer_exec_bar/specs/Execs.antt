@@ -1,7 +1,6 @@
 -- Bridge: `peer_exec_bar` as a list, one bar for each replica, and what a heartbeat's exec and snap bar make of it and
 -- of the snap bar (the end of `heard_heartbeat`); tied to `heard_exec_bar` by proofs/Laws.
-use Rattle.std.specs.Prelude.{◌≡◌, Bool, ◌||◌, List, ℕ, max, ltb, leb, eqb, get_or, set}
-use Rattle.words.specs.Choice.{if◌then◌else◌}
+use Rattle.std.specs.Prelude.{◌≡◌, Bool, ◌||◌, List, ℕ, max, ltb, leb, eqb, get_or, set, if◌then◌else◌}
 use Rattle.words.specs.Tab.{words_from}
 use Rattle.bitmap.specs.Bitmap.{every}
 

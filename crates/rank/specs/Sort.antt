@@ -1,6 +1,5 @@
 -- Trusted: a list of numbers in ascending order, equal ones each kept ("the quorum-th smallest").
-use Rattle.std.specs.Prelude.{ℕ, ◌+◌, List, [], ◌∷◌, leb}
-use Rattle.words.specs.Choice.{if◌then◌else◌}
+use Rattle.std.specs.Prelude.{ℕ, ◌+◌, List, [], ◌∷◌, leb, if◌then◌else◌}
 
 -- x before the first element that is at least x
 unfoldable pub insert : ℕ → List ℕ → List ℕ

@@ -1,5 +1,6 @@
 -- `release_held_read_reqs` of the machine, by the slot's instance; a place whose queue is emptied holds that instance
 -- without its reads.
+use Rattle.std.specs.Prelude.{if◌then◌else◌}
 use mathlib.Core.Path.{◌≡◌, refl, sym, ap}
 use mathlib.Core.Bool.{Bool, true, false}
 use mathlib.Core.List.{List, [], ◌∷◌, map}
@@ -8,7 +9,7 @@ use Prim.Native.Nat.{ℕ, zero, suc, ◌-◌}
 use native.Mathlib.Omega.{arith}
 use lib.Dec.{ltb}
 use lib.ListN.{set, get_elem?}
-use Rattle.words.specs.Choice.{if◌then◌else◌, if_none◌then◌else◌}
+use Rattle.words.specs.Choice.{if_none◌then◌else◌}
 use Rattle.bodega.specs.Replica.{Status, Request, ReadReq, Book, Instance, Replica, done, inst_at, set_inst, with_replica_bk, with_holding}
 use Rattle.bodega.specs.Localread.{is_bound, released, release_held_read_reqs}
 use Rattle.inst_cell.specs.Cell.{Notices}

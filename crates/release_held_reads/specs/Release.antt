@@ -1,8 +1,8 @@
 -- Bridge: `release_held_read_reqs` for one slot, over what it reads of the replica: quorum, leader and the slot's
 -- instance; tied to `release_held_read_reqs` by proofs/Machine.
-use Rattle.std.specs.Prelude.{◌≡◌, Bool, not, List, [], map, ℕ, ◌*◌, length}
+use Rattle.std.specs.Prelude.{◌≡◌, Bool, not, List, [], map, ℕ, ◌*◌, length, if◌then◌else◌}
 use Rattle.std.proofs.Math.Option.{Option}
-use Rattle.words.specs.Choice.{if◌then◌else◌, if_none◌then◌else◌}
+use Rattle.words.specs.Choice.{if_none◌then◌else◌}
 use Rattle.words.specs.Writes.{writes}
 use Rattle.items.specs.Item.{Item, Value, Retry, encode}
 use Rattle.bodega.specs.Replica.{Request, ReadReq, Instance, with_replica_bk, with_holding}

@@ -1,7 +1,6 @@
 -- Trusted: what a read of the input brought.
-use Rattle.std.specs.Prelude.{Bool, ℕ, zero, suc, ℤ, pos, negsuc}
+use Rattle.std.specs.Prelude.{Bool, ℕ, zero, suc, ℤ, pos, negsuc, if◌then◌else◌}
 use Rattle.words.specs.Text.{Bytes}
-use Rattle.words.specs.Choice.{if◌then◌else◌}
 use Rattle.stream_turns.specs.TurnList.{Fills}
 use Rattle.replay.specs.declared.Filled.{Filled}
 use Rattle.replay.specs.declared.Filled.TheVariants.{Piece, Ended, Failed}

@@ -1,7 +1,6 @@
 -- Bridge: `set_responders` and `set_full` in two parts, the range that is asked for and what storing it leaves; tied
 -- to `edit_result` by proofs/Laws.
-use Rattle.std.specs.Prelude.{ℕ, List, ◌≡◌}
-use Rattle.words.specs.Choice.{if◌then◌else◌}
+use Rattle.std.specs.Prelude.{ℕ, List, ◌≡◌, if◌then◌else◌}
 use Rattle.inty.specs.Value.{value_of}
 use Rattle.roster_map.specs.declared.Row.{Row}
 use Rattle.roster_conf.specs.declared.Asked.{Asked}

@@ -1,7 +1,7 @@
 -- Trusted: keyrange.rs, `RespondersConf`, a roster (document 01, port order 3).
-use Rattle.std.specs.Prelude.{ℕ, ◌-◌, ◌^◌, Bool, true, false, ◌&&◌, List, [], ◌∷◌, eqb}
+use Rattle.std.specs.Prelude.{ℕ, ◌-◌, ◌^◌, Bool, true, false, ◌&&◌, List, [], ◌∷◌, eqb, if◌then◌else◌}
 use Rattle.std.proofs.Math.Option.{Option, none, some}
-use Rattle.words.specs.Choice.{if◌then◌else◌, if_none◌then◌else◌}
+use Rattle.words.specs.Choice.{if_none◌then◌else◌}
 use Rattle.bitmap.specs.Bitmap.{set_to}
 use Rattle.keys.specs.Read.{read_key}
 use Rattle.roster_ranges.specs.Range.{Range, mask_at, overwrite, remasked}

@@ -1,7 +1,7 @@
 -- Trusted: the edits of a roster (document 01's draft lines), and why one is refused.
-use Rattle.std.specs.Prelude.{ℕ, Bool, true, false, ◌||◌, not, List, [], ltb, leb, length}
+use Rattle.std.specs.Prelude.{ℕ, Bool, true, false, ◌||◌, not, List, [], ltb, leb, length, if◌then◌else◌}
 use Rattle.std.proofs.Math.Option.{Option}
-use Rattle.words.specs.Choice.{if◌then◌else◌, if_none◌then◌else◌}
+use Rattle.words.specs.Choice.{if_none◌then◌else◌}
 use Rattle.ids.specs.Limits.{key_bytes, ranges}
 use Rattle.bitmap.specs.Bitmap.{fits}
 use Rattle.keys.specs.Read.{read_key}

@@ -1,7 +1,6 @@
 -- Trusted: the one statement that every public edit meets: a roster is the struct and its lent words, 64 rows of five.
-use Rattle.std.specs.Prelude.{ℕ, ◌*◌, ◌≤◌, ◌≡◌, Bool, ◌&&◌, List, leb, length}
+use Rattle.std.specs.Prelude.{ℕ, ◌*◌, ◌≤◌, ◌≡◌, Bool, ◌&&◌, List, leb, length, if◌then◌else◌}
 use Rattle.std.proofs.Math.Option.{Option, none, some}
-use Rattle.words.specs.Choice.{if◌then◌else◌}
 use Rattle.ids.specs.Leader.{leader_of}
 use Rattle.ids.specs.Limits.{ranges, replicas}
 use Rattle.words.specs.Part.{Untouched}

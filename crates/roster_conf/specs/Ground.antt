@@ -1,7 +1,6 @@
 -- Trusted: document 01, "Why a call is turned away": grounds by number, ascending, and the first that applies.
-use Rattle.std.specs.Prelude.{ℕ, ◌<◌, Bool, true, List, ◌∷◌, [], ◌≡◌, ◌⊎◌}
+use Rattle.std.specs.Prelude.{ℕ, ◌<◌, Bool, true, List, ◌∷◌, [], ◌≡◌, ◌⊎◌, if◌then◌else◌}
 use Rattle.std.proofs.Math.Option.{Option, none, some}
-use Rattle.words.specs.Choice.{if◌then◌else◌}
 
 pub record Ground : Type 0 where
   pub number : ℕ

@@ -1,8 +1,7 @@
 -- Trusted: the table of ranges that lent words stand for, five to a row: start high and low, end high and low, mask.
 -- What storing a list leaves is a bridge, tied by roster_conf/proofs/Laws.
-use Rattle.std.specs.Prelude.{ℕ, ◌+◌, ◌*◌, ◌^◌, ◌≤◌, Bool, false, List, ◌∷◌, [], ◌≡◌, get_or, length, leb}
+use Rattle.std.specs.Prelude.{ℕ, ◌+◌, ◌*◌, ◌^◌, ◌≤◌, Bool, false, List, ◌∷◌, [], ◌≡◌, get_or, length, leb, if◌then◌else◌}
 use Rattle.std.proofs.Math.Option.{Option, none, some}
-use Rattle.words.specs.Choice.{if◌then◌else◌}
 use Rattle.words.specs.Tab.{tab}
 use Rattle.words.specs.Part.{Untouched}
 use Rattle.ids.specs.Limits.{ranges}

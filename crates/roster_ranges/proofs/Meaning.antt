@@ -1,5 +1,6 @@
 -- What writing a range over a canonical table means: at each number in the range its mask, at any other what the table
 -- said; and the result is canonical. Two canonical tables that say the same are the same.
+use Rattle.std.specs.Prelude.{if◌then◌else◌}
 use mathlib.Core.Path.{◌≡◌, refl, sym, ap, ◌∙◌}
 use mathlib.Core.Bool.{Bool, true, false, ◌&&◌, not}
 use mathlib.Core.Option.{Option, none, some}

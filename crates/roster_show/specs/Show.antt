@@ -1,6 +1,5 @@
 -- Trusted: document 01, "For `show`, spans ascend, `rest` is last".
-use Rattle.std.specs.Prelude.{ℕ, List, ◌∷◌, ◌++◌, map, [], ltb, length}
-use Rattle.words.specs.Choice.{if◌then◌else◌}
+use Rattle.std.specs.Prelude.{ℕ, List, ◌∷◌, ◌++◌, map, [], ltb, length, if◌then◌else◌}
 use Rattle.words.specs.Writes.{writes}
 use Rattle.items.specs.Item.{Item, Span, Rest, encode, places}
 use Rattle.roster_ranges.specs.Range.{Range}

@@ -1,7 +1,6 @@
 -- Trusted: document 01, "The event program": what is written for a stream of event lines.
-use Rattle.std.specs.Prelude.{ℕ, ◌+◌, ◌-◌, ◌^◌, ◌<◌, ◌≡◌, ◌||◌, List, [], ◌∷◌, ◌++◌, ltb, eqb, length}
+use Rattle.std.specs.Prelude.{ℕ, ◌+◌, ◌-◌, ◌^◌, ◌<◌, ◌≡◌, ◌||◌, List, [], ◌∷◌, ◌++◌, ltb, eqb, length, if◌then◌else◌}
 use Rattle.words.specs.Text.{Bytes}
-use Rattle.words.specs.Choice.{if◌then◌else◌}
 use Rattle.line_host.specs.Host.{Host, fresh_host, LineResult, refused_line, answer_line, answer_lines, text_of}
 use Rattle.stream_pieces.specs.Pieces.{Begun, none_begun, concat}
 use Rattle.stream_pieces.specs.Streamed.{LineOutput, piecewise}

@@ -1,6 +1,5 @@
 -- Trusted: a line of a stream that comes in pieces ("exceeds 1,024 bytes").
-use Rattle.std.specs.Prelude.{ℕ, zero, suc, Bool, true, false, List, [], ◌∷◌, ◌++◌, ltb, eqb, length}
-use Rattle.words.specs.Choice.{if◌then◌else◌}
+use Rattle.std.specs.Prelude.{ℕ, zero, suc, Bool, true, false, List, [], ◌∷◌, ◌++◌, ltb, eqb, length, if◌then◌else◌}
 
 -- a line's bytes so far, or, if it is long, those that were not dropped
 pub record Begun : Type 0 where

@@ -1,6 +1,5 @@
 -- Trusted: what is written for a stream of lines, as a whole and read in pieces, whatever a line's answer is.
-use Rattle.std.specs.Prelude.{◌≡◌, ℕ, ◌+◌, ◌<◌, true, ◌||◌, List, [], ◌∷◌, ◌++◌, ltb, eqb, length}
-use Rattle.words.specs.Choice.{if◌then◌else◌}
+use Rattle.std.specs.Prelude.{◌≡◌, ℕ, ◌+◌, ◌<◌, true, ◌||◌, List, [], ◌∷◌, ◌++◌, ltb, eqb, length, if◌then◌else◌}
 use Rattle.words.specs.Writes.{writes}
 use Rattle.stream_pieces.specs.Pieces.{Begun, none_begun, longer, kept}
 

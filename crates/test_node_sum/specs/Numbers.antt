@@ -1,7 +1,6 @@
 -- Trusted: the numbers of a node and its buffer, and of a roster and its rows, of which a sum is made: on any words. A
 -- word past the end is 0.
-use Rattle.std.specs.Prelude.{ℕ, zero, suc, ◌+◌, ◌-◌, ◌*◌, ◌%◌, min, List, [], ◌∷◌, ◌++◌, eqb, get_or}
-use Rattle.words.specs.Choice.{if◌then◌else◌}
+use Rattle.std.specs.Prelude.{ℕ, zero, suc, ◌+◌, ◌-◌, ◌*◌, ◌%◌, min, List, [], ◌∷◌, ◌++◌, eqb, get_or, if◌then◌else◌}
 use Rattle.words.specs.Tab.{words_from}
 use Rattle.ids.specs.declared.Leader.{Leader}
 use Rattle.ids.specs.declared.Leader.TheVariants.{None, Some}

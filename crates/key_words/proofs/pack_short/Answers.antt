@@ -6,4 +6,4 @@ use Rattle.key_words.proofs.pack_short.Goals as goal
 
 pub returns : goal.returns
 returns c =
-    ap bytes_of c.key_of.ensures ∙ law.bytes_pack_of _ (λ i. omega (arith, c.shared_slice_known-1.given i)) c.requires
+    ap bytes_of c.key_of.ensures ∙ law.bytes_pack_of _ (λ i. omega (arith, c.type_inv.bytes i)) c.requires

@@ -1,3 +1,4 @@
+use mathlib.Core.Path.{◌≡◌}
 use Prim.Native.Nat.{ℕ}
 use native.Mathlib.Omega.{arith}
 use Rattle.stream_pieces.proofs.still.Goals as goal
