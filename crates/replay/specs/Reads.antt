@@ -1,9 +1,14 @@
 -- Trusted: what a read of the input brought.
-use Rattle.std.specs.Prelude.{Bool, ℕ, zero, suc, ℤ, pos, negsuc, if◌then◌else◌}
+use Rattle.std.specs.Prelude.{Bool, ℕ, zero, suc, ℤ, pos, negsuc, Result, Ok, Err, if◌then◌else◌}
 use Rattle.words.specs.Text.{Bytes}
 use Rattle.stream_turns.specs.TurnList.{Fills}
 use Rattle.replay.specs.declared.Filled.{Filled}
 use Rattle.replay.specs.declared.Filled.TheVariants.{Piece, Ended, Failed}
+
+-- the number that a read answers: how many bytes came, or one below 0 where it failed
+abbrev pub answered : {E : Type 0} → Result ℕ E → ℤ
+answered (Ok n) = pos n
+answered (Err e) = negsuc 0
 
 -- A read that answers 0 has met the end of the input. One that fails has not: it is read again if a signal interrupted
 -- it.

@@ -2,15 +2,35 @@
 // The input is read in pieces of 64 KB and never kept whole. A line of more than 1,024 bytes is refused 1; a last line
 // without a newline counts if it has a byte. The answers to a piece are written after it, or before, where the output
 // has no room for another answer. The program ends when the input does, or when a read or a write fails, which it says
-// on standard error. After a read that failed, the line that has begun is not answered.
+// on standard error and by its status. After a read that failed, the line that has begun is not answered.
 #![tactic(auto)]
 
-ghost use Rattle.std.specs.Prelude.{◌≡◌, true, ◌≤◌, ◌<◌, length};
+ghost use Rattle.std.specs.Prelude.{◌≡◌, ◌↔◌, true, false, ◌≤◌, ◌<◌, length, IfOk, MatchResult, IsTrue};
+ghost use Rattle.std.specs.IoError.{error_kind};
 ghost use Rattle.layout.specs.Layout.{roster_words, node_words};
-ghost use Rattle.replay.specs.Reads.{filled_as, Filling};
+ghost use Rattle.replay.specs.Reads.{answered, filled_as, Filling};
 ghost use Rattle.replay.specs.Steps.{Stands, Steps};
 
+use std::io::{ErrorKind, Read, Stdin, Stdout};
+use std::process::ExitCode;
+use std::{fmt, io};
 use stream_turns::Stream;
+
+// What the program ends early for.
+#[derive(Clone, Copy)]
+enum Failure {
+    Read,
+    Write,
+}
+
+impl fmt::Display for Failure {
+    fn fmt<W: fmt::Write>(&self, f: &mut fmt::Formatter<W>) -> fmt::Result {
+        match *self {
+            Failure::Read => f.write_str("cannot read standard input"),
+            Failure::Write => f.write_str("cannot write to standard output"),
+        }
+    }
+}
 
 // What a read brought: the bytes of the buffer now end there, the input has ended, or the read failed.
 #[derive(Clone, Copy)]
@@ -27,51 +47,60 @@ struct Next {
     on: bool,
 }
 
-// Writes what is used of the output. If that fails, says so.
-fn flush(out: &[u8], used: usize) -> bool
+// Writes what is used of the output.
+fn flush(output: Stdout, out: &[u8], used: usize) -> Result<(), Failure>
     requires { used ≤ length out.now }
 {
-    if used == 0 {
-        return true;
+    if output.write_all(&out[0..used]).is_err() {
+        return Err(Failure::Write);
     }
-    let wrote = io::write_all(1, &out[0..used]);
-    if !wrote {
-        os::fail(b"replay: cannot write to standard output");
+    Ok(())
+}
+
+// Whether a signal interrupted a read that failed.
+fn was_interrupted(got: io::Result<usize>) -> bool
+    ensures { MatchResult got (λ _. result ≡ false) (λ e. IsTrue result ↔ (error_kind e ≡ ErrorKind.Interrupted)) }
+{
+    match got {
+        Ok(_) => false,
+        Err(e) => e.kind() == ErrorKind::Interrupted,
     }
-    wrote
 }
 
 // What a read that answered `got` brought: the bytes ended at `have` before it, and if it got any, end at `end`. One
 // that a signal interrupted is a piece without bytes.
-fn outcome(got: isize, interrupted: bool, have: usize, end: usize) -> Filled
-    ensures { result ≡ filled_as got interrupted have end }
+#[tactic(auto, unfolding(crate::specs::Reads::filled_as))]
+fn outcome(got: io::Result<usize>, interrupted: bool, have: usize, end: usize) -> Filled
+    ensures { result ≡ filled_as (answered got) interrupted have end }
 {
-    if got > 0 {
-        return Filled::Piece(end);
-    }
-    if got < 0 {
+    let Ok(count) = got else {
         if interrupted {
             return Filled::Piece(have);
         }
         return Filled::Failed;
+    };
+    if count == 0 {
+        return Filled::Ended;
     }
-    Filled::Ended
+    Filled::Piece(end)
 }
 
 // Reads a piece behind the bytes that were kept.
-fn fill(buf: &mut [u8], have: usize) -> Filled
+fn fill(mut input: Stdin, buf: &mut [u8], have: usize) -> Filled
     requires { have < length buf.old }
     ensures { Filling buf.old have result buf.new }
 {
-    let got = libc::read(0, &mut buf[have..]);
-    let interrupted = os::errno() == libc::EINTR;
-    let end = have + io::count(got, &buf[have..]);
+    let got = input.read(&mut buf[have..]);
+    let interrupted = was_interrupted(got);
+    let end = have + got.unwrap_or(0);
     outcome(got, interrupted, have, end)
 }
 
 // A turn over the bytes that wait, and its text written; or, where no line ends in them, a read. At the end of the
 // input, the last line.
 fn step(
+    input: Stdin,
+    output: Stdout,
     buf: &mut [u8],
     from: Stream,
     mem: &mut [u64],
@@ -79,27 +108,27 @@ fn step(
     area: &mut [u64],
     groups: &mut [u64],
     out: &mut [u8],
-) -> Next
+) -> Result<Next, Failure>
     requires { Stands from buf.old mem.old rows.old area.old groups.old × (1025 ≤ length buf.old) × (65536 ≤ length out.old) }
-    ensures { result.on ≡ true → Steps from buf.old mem.old rows.old result.stream buf.new mem.new rows.new area.new groups.new }
+    ensures { IfOk result (λ next. next.on ≡ true → Steps from buf.old mem.old rows.old next.stream buf.new mem.new rows.new area.new groups.new) }
 {
     if from.more {
-        let refused_line = stream_turns::turn(buf, from, mem, rows, area, groups, out);
-        let on = flush(out, refused_line.used);
-        let stream = refused_line.stream;
-        return Next { stream, on };
+        let turned = stream_turns::turn(buf, from, mem, rows, area, groups, out);
+        flush(output, out, turned.used)?;
+        let stream = turned.stream;
+        return Ok(Next { stream, on: true });
     }
     let have = from.end;
     let place = from.place;
-    match fill(buf, have) {
-        Filled::Piece(end) => Next {
+    match fill(input, buf, have) {
+        Filled::Piece(end) => Ok(Next {
             stream: Stream {
                 place,
                 end,
                 more: true,
             },
             on: true,
-        },
+        }),
         Filled::Ended => {
             let said = stream_events::last_line(
                 place.state,
@@ -111,41 +140,38 @@ fn step(
                 &buf[0..have],
                 out,
             );
-            flush(out, said.end);
-            Next {
+            flush(output, out, said.end)?;
+            Ok(Next {
                 stream: from,
                 on: false,
-            }
+            })
         }
-        Filled::Failed => {
-            os::fail(b"replay: cannot read standard input");
-            Next {
-                stream: from,
-                on: false,
-            }
-        }
+        Filled::Failed => Err(Failure::Read),
     }
 }
 
 // A proved loop has to end, and nothing says that the input does: so it counts its steps down, from a number that no
 // run uses up.
 fn run(
+    input: Stdin,
+    output: Stdout,
     buf: &mut [u8],
     mem: &mut [u64],
     rows: &mut [u64],
     area: &mut [u64],
     groups: &mut [u64],
     out: &mut [u8],
-)
+) -> Result<(), Failure>
     requires { (1025 ≤ length buf.old) × (node_words ≤ length mem.old) × (roster_words ≤ length rows.old) × (length area.old ≡ 3276) × (1542 ≤ length groups.old) × (65536 ≤ length out.old) }
 {
     let stream = Stream::fresh();
     let mut s = Next { stream, on: true };
     let mut steps = u64::MAX;
     while steps > 0 && s.on {
-        s = step(buf, s.stream, mem, rows, area, groups, out);
+        s = step(input, output, buf, s.stream, mem, rows, area, groups, out)?;
         steps -= 1;
     }
+    Ok(())
 }
 
 // Room for a piece of 64 KB behind the start of a line.
@@ -162,14 +188,16 @@ fn text_space() -> [u8; 196608]
     [0; 196608]
 }
 
-fn main() {
+fn main(rt: HostRuntime) -> ExitCode {
     let mut buf = piece_space();
     let mut mem = line_buffers::node_words();
     let mut rows = line_buffers::draft_rows();
     let mut area = line_buffers::item_area();
     let mut groups = line_buffers::group_words();
     let mut out = text_space();
-    run(
+    let ran = run(
+        rt.stdin(),
+        rt.stdout(),
         &mut buf,
         &mut mem,
         &mut rows,
@@ -177,4 +205,9 @@ fn main() {
         &mut groups,
         &mut out,
     );
+    if let Err(failure) = ran {
+        let _ = eprintln!(rt; "replay: {failure}");
+        return ExitCode::FAILURE;
+    }
+    ExitCode::SUCCESS
 }

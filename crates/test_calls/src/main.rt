@@ -2,7 +2,7 @@
 // recorded ones are made.
 #![tactic(auto)]
 
-ghost use Rattle.std.specs.Prelude.{◌≡◌, ◌≤◌, length};
+ghost use Rattle.std.specs.Prelude.{◌≡◌, ◌≤◌, length, IfOk};
 
 use ids::Slot;
 use line_host::Host;
@@ -10,6 +10,8 @@ use line_kind::{CallKind, EditKind, Kind};
 use node::{Answered, Node};
 use roster_conf::{Edited, RespondersConf};
 use roster_show::Shown;
+use std::io;
+use std::io::{ErrorKind, Read, Stdin, Stdout};
 
 // ---- what a line of document 01 does to the node and the draft
 
@@ -161,32 +163,33 @@ fn least(a: usize, b: usize) -> usize
 
 // ---- answers
 
-fn say(text: &[u8]) {
-    io::write_all(1, text);
+// Room for any answer.
+fn text_space() -> [u8; 65536]
+    ensures { 65536 ≡ length result }
+{
+    [0; 65536]
 }
 
-fn say_field(n: u32) {
-    say(b",");
-    io::print_decimal(1, n as u64);
+fn say_sums(output: Stdout, node: u32, draft: u32) -> io::Result<()> {
+    println!(output; "sum,{node},{draft}")
 }
 
-fn say_sums(node: u32, draft: u32) {
-    say(b"sum");
-    say_field(node);
-    say_field(draft);
-    say(b"\n");
-}
-
-fn say_answer(line: u64, number: u64, count: usize, area: &[u64]) {
+fn say_answer(
+    output: Stdout,
+    line: u64,
+    number: u64,
+    count: usize,
+    area: &[u64],
+) -> io::Result<()> {
     if 546 < count {
-        return;
+        return Ok(());
     }
     if area.len() < count * 6 {
-        return;
+        return Ok(());
     }
-    let mut out = io::large_buffer();
+    let mut out = text_space();
     let end = line_answer::put_answer(&mut out, line, number, count, area);
-    say(&out[0..end]);
+    output.write_all(&out[0..end])
 }
 
 // ---- lines
@@ -271,37 +274,58 @@ fn name_end(line: &[u8]) -> usize
 }
 
 // A line of document 01, with places for so many items.
-fn call(s: State, mem: &mut [u64], rows: &mut [u64], places: usize, line: &[u8]) -> State
+fn call(
+    output: Stdout,
+    s: State,
+    mem: &mut [u64],
+    rows: &mut [u64],
+    places: usize,
+    line: &[u8],
+) -> io::Result<State>
     requires { (places ≤ 546) × (length line.now ≤ 1024) }
 {
     let end = name_end(line);
     let kind = line_kind::kind_of(&line[0..end]);
     let mut area = line_buffers::item_area();
     let done = act(s, mem, rows, &mut area, places, kind, line, end + 1);
-    say_answer(s.lines, done.number, done.count, &area);
+    say_answer(output, s.lines, done.number, done.count, &area)?;
     let next = done.state;
     say_sums(
+        output,
         test_node_sum::of_node(next.node, mem),
         test_node_sum::of_roster(next.draft, rows),
-    );
-    next
+    )?;
+    Ok(next)
 }
 
-fn take(from: State, mem: &mut [u64], rows: &mut [u64], line: &[u8]) -> State {
+fn take(
+    output: Stdout,
+    from: State,
+    mem: &mut [u64],
+    rows: &mut [u64],
+    line: &[u8],
+) -> io::Result<State> {
     let mut s = from;
-    s.lines = std::num::wrapping_add_u64(s.lines, 1);
+    s.lines = s.lines.wrapping_add(1);
     let places = line_fields::number_at(line, 0);
     if !places.good {
-        return prepare(s, line);
+        return Ok(prepare(s, line));
     }
     let at = places.next;
     if line.len() < at {
-        return s;
+        return Ok(s);
     }
     if 1024 < line.len() - at {
-        return s;
+        return Ok(s);
     }
-    call(s, mem, rows, least(places.value as usize, 546), &line[at..])
+    call(
+        output,
+        s,
+        mem,
+        rows,
+        least(places.value as usize, 546),
+        &line[at..],
+    )
 }
 
 // ---- pieces of standard input
@@ -314,18 +338,24 @@ fn line_end(piece: &[u8], at: usize) -> usize
     stream_pieces::line_end(piece, at)
 }
 
-fn drain(piece: &[u8], from: State, mem: &mut [u64], rows: &mut [u64]) -> Place
-    ensures { result.at ≤ length piece.now }
+fn drain(
+    output: Stdout,
+    piece: &[u8],
+    from: State,
+    mem: &mut [u64],
+    rows: &mut [u64],
+) -> io::Result<Place>
+    ensures { IfOk result (λ place. place.at ≤ length piece.now) }
 {
     let mut state = from;
     let mut at = 0;
     loop {
         let end = line_end(piece, at);
         if end == piece.len() {
-            return Place { at, state };
+            return Ok(Place { at, state });
         }
         let next = end + 1;
-        state = take(state, mem, rows, &piece[at..end]);
+        state = take(output, state, mem, rows, &piece[at..end])?;
         at = next;
     }
 }
@@ -345,39 +375,74 @@ fn fresh() -> State {
     }
 }
 
-// Reads a piece behind the bytes that were kept, and returns where it ends.
-fn fill(buf: &mut [u8], have: usize) -> usize
-    requires { have ≤ length buf.old }
-    ensures { (have ≤ result) × (result ≤ length buf.old) }
+// Reads until the buffer is full or the input ends, and returns how many bytes it put at the buffer's start.
+// A proved loop has to end, and nothing says that a signal does not interrupt each read: so it counts them.
+fn read_full(mut input: Stdin, buf: &mut [u8]) -> io::Result<usize>
+    ensures { IfOk result (λ n. n ≤ length buf.new) }
 {
-    have + io::read_full(0, &mut buf[have..])
+    let mut done = 0;
+    for _ in 0..u64::MAX {
+        if done == buf.len() {
+            break;
+        }
+        match input.read(&mut buf[done..]) {
+            Ok(0) => break,
+            Ok(n) => done += n,
+            Err(e) if e.kind() == ErrorKind::Interrupted => {}
+            Err(e) => return Err(e),
+        }
+    }
+    Ok(done)
+}
+
+// Reads a piece behind the bytes that were kept, and returns where it ends.
+fn fill(input: Stdin, buf: &mut [u8], have: usize) -> io::Result<usize>
+    requires { have ≤ length buf.old }
+    ensures { IfOk result (λ end. (have ≤ end) × (end ≤ length buf.old)) }
+{
+    let n = read_full(input, &mut buf[have..])?;
+    Ok(have + n)
 }
 
 // Reads pieces, each behind the bytes that were kept, and takes the lines that end in them.
 // A proved loop has to end, and nothing says that the input does: so it counts its turns down, from a number that no
 // run uses up.
-fn run(buf: &mut [u8], mem: &mut [u64], rows: &mut [u64])
+fn run(
+    input: Stdin,
+    output: Stdout,
+    buf: &mut [u8],
+    mem: &mut [u64],
+    rows: &mut [u64],
+) -> io::Result<()>
     requires { length buf.old ≡ 65536 }
 {
     let mut state = fresh();
     let mut have = 0;
     let mut turns = u64::MAX;
     while turns > 0 {
-        let end = fill(buf, have);
+        let end = fill(input, buf, have)?;
         if end == have {
-            return;
+            return Ok(());
         }
-        let place = drain(&buf[0..end], state, mem, rows);
+        let place = drain(output, &buf[0..end], state, mem, rows)?;
         let kept = stream_pieces::keep(buf, place.at, end, false);
         have = kept.have;
         state = place.state;
         turns -= 1;
     }
+    Ok(())
 }
 
-fn main() {
-    let mut buf = io::large_buffer();
+// Room for a piece behind the start of a line.
+fn piece_space() -> [u8; 65536]
+    ensures { 65536 ≡ length result }
+{
+    [0; 65536]
+}
+
+fn main(rt: HostRuntime) -> io::Result<()> {
+    let mut buf = piece_space();
     let mut mem = line_buffers::node_words();
     let mut rows = line_buffers::draft_rows();
-    run(&mut buf, &mut mem, &mut rows);
+    run(rt.stdin(), rt.stdout(), &mut buf, &mut mem, &mut rows)
 }

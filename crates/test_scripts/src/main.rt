@@ -5,10 +5,11 @@
 
 mod scripts;
 
-ghost use Rattle.std.specs.Prelude.{◌≡◌, ◌+◌, ◌≤◌, length};
+ghost use Rattle.std.specs.Prelude.{◌≡◌, ◌+◌, ◌≤◌, length, IfOk};
 ghost use Rattle.stream_events.specs.Fed.{Lent};
 
-use scripts::Script;
+use std::io;
+use std::io::{ErrorKind, Read, Stdin, Stdout};
 use stream_events::{LineState, Place};
 use stream_pieces::Carry;
 
@@ -53,7 +54,7 @@ fn meet(answers: &[u8], met: Met, text: &[u8], n: usize) -> Met
         return Met { at, same: false };
     }
     let end = at + n;
-    let same = check::same(&answers[at..end], &text[0..n]);
+    let same = answers[at..end] == text[0..n];
     Met {
         at: end,
         same: met.same && same,
@@ -174,7 +175,7 @@ fn finish(
     let met = meet(answers, p.met, out, said.end);
     Outcome {
         same: met.same && met.at == answers.len(),
-        lines: std::num::wrapping_sub_u64(said.state.number, 1),
+        lines: said.state.number.wrapping_sub(1),
     }
 }
 
@@ -251,46 +252,36 @@ struct Tally {
     differ: u64,
 }
 
-fn say(text: &[u8]) {
-    io::write_all(1, text);
+fn differs(output: Stdout, name: &[u8]) -> io::Result<()> {
+    output.write_all(b"differs,")?;
+    output.write_all(name)?;
+    output.write_all(b"\n")
 }
 
-fn say_number(n: u64) {
-    io::print_decimal(1, n);
+fn malformed(output: Stdout, at: usize) -> io::Result<()> {
+    println!(output; "malformed at byte {at}")
 }
 
-fn differs(name: &[u8]) {
-    say(b"differs,");
-    say(name);
-    say(b"\n");
-}
-
-fn malformed(at: usize) {
-    say(b"malformed at byte ");
-    say_number(at as u64);
-    say(b"\n");
-}
-
-fn report(t: Tally) {
-    say_number(t.scripts);
-    say(b" scripts, ");
-    say_number(t.lines);
-    say(b" lines, ");
-    say_number(t.differ);
-    say(b" differ\n");
+fn report(output: Stdout, t: Tally) -> io::Result<()> {
+    let Tally {
+        scripts,
+        lines,
+        differ,
+    } = t;
+    println!(output; "{scripts} scripts, {lines} lines, {differ} differ")
 }
 
 // One script more.
 fn counted(t: Tally, lines: u64, same: bool) -> Tally {
     Tally {
-        scripts: std::num::wrapping_add_u64(t.scripts, 1),
-        lines: std::num::wrapping_add_u64(t.lines, lines),
-        differ: std::num::wrapping_add_u64(t.differ, !same as u64),
+        scripts: t.scripts.wrapping_add(1),
+        lines: t.lines.wrapping_add(lines),
+        differ: t.differ.wrapping_add(u64::from(!same)),
     }
 }
 
 // Replays a script as a whole and in two pieces.
-fn replay(t: Tally, name: &[u8], input: &[u8], answers: &[u8]) -> Tally
+fn replay(output: Stdout, t: Tally, name: &[u8], input: &[u8], answers: &[u8]) -> io::Result<Tally>
     requires { length input.now ≤ 262144 }
 {
     let none = &input[0..0];
@@ -301,13 +292,13 @@ fn replay(t: Tally, name: &[u8], input: &[u8], answers: &[u8]) -> Tally
     let cut = run(first, second, answers);
     let same = whole.same && cut.same;
     if !same {
-        differs(name);
+        differs(output, name)?;
     }
-    counted(t, whole.lines, same)
+    Ok(counted(t, whole.lines, same))
 }
 
 // Replays the scripts of a file.
-fn replay_all(file: &[u8])
+fn replay_all(output: Stdout, file: &[u8]) -> io::Result<()>
     requires { length file.now ≤ 262144 }
 {
     let mut t = Tally {
@@ -319,8 +310,7 @@ fn replay_all(file: &[u8])
     while at < file.len() {
         let s = scripts::script_at(file, at);
         if !s.good {
-            malformed(at);
-            return;
+            return malformed(output, at);
         }
         let name = s.name;
         let name_end = s.name_end;
@@ -328,14 +318,15 @@ fn replay_all(file: &[u8])
         let answers = s.answers;
         let end = s.end;
         t = replay(
+            output,
             t,
             &file[name..name_end],
             &file[input..answers],
             &file[answers..end],
-        );
+        )?;
         at = end;
     }
-    report(t);
+    report(output, t)
 }
 
 // Room for the file.
@@ -345,8 +336,28 @@ fn space() -> [u8; 262144]
     [0; 262144]
 }
 
-fn main() {
+// Reads until the buffer is full or the input ends, and returns how many bytes it put at the buffer's start.
+// A proved loop has to end, and nothing says that a signal does not interrupt each read: so it counts them.
+fn read_full(mut input: Stdin, buf: &mut [u8]) -> io::Result<usize>
+    ensures { IfOk result (λ n. n ≤ length buf.new) }
+{
+    let mut done = 0;
+    for _ in 0..u64::MAX {
+        if done == buf.len() {
+            break;
+        }
+        match input.read(&mut buf[done..]) {
+            Ok(0) => break,
+            Ok(n) => done += n,
+            Err(e) if e.kind() == ErrorKind::Interrupted => {}
+            Err(e) => return Err(e),
+        }
+    }
+    Ok(done)
+}
+
+fn main(rt: HostRuntime) -> io::Result<()> {
     let mut file = space();
-    let n = io::read_full(0, &mut file);
-    replay_all(&file[0..n]);
+    let n = read_full(rt.stdin(), &mut file)?;
+    replay_all(rt.stdout(), &file[0..n])
 }

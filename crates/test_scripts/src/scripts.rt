@@ -5,6 +5,7 @@ ghost use Rattle.std.specs.Prelude.{◌<◌, ◌≤◌, length};
 use line_fields::Field;
 
 // Where a script's name, its event lines and the answers to them are. After one that is not good nothing is left.
+#[derive(Clone, Copy)]
 pub(crate) struct Script {
     pub good: bool,
     pub name: usize,
@@ -57,7 +58,7 @@ fn read_header(line: &[u8]) -> Header
     let word = field(line, 0);
     let from = word.start;
     let to = word.end;
-    if !check::same(&line[from..to], b"script") {
+    if &line[from..to] != b"script".as_slice() {
         return no_header();
     }
     let name = field(line, word.next);

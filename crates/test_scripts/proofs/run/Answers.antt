@@ -1,0 +1,12 @@
+use Rattle.std.proofs.Common.{sym, arith}
+use Rattle.stream_events.proofs.Laws.{fresh_lent}
+use Rattle.test_scripts.proofs.run.Goals as goal
+
+pub hear-q-requires : goal.hear-q-requires
+hear-q-requires c = (
+  omega arith,
+  omega arith,
+  omega arith,
+  fresh_lent _ _ _ _ _ c.fresh-state.ensures.1 (omega arith) (omega arith) (sym c.item_area-area.ensures) (omega arith),
+  omega arith,
+)
