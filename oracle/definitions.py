@@ -18,27 +18,25 @@ ROOT = os.path.dirname(os.path.dirname(os.path.abspath(__file__)))
 ORACLE = os.path.join(ROOT, "oracle", "target", "release", "oracle")
 PER_FILE = 60
 
-HEAD = """use Prim.Native.Nat.{ℕ}
-use mathlib.Core.Bool.{true, false}
-use mathlib.Core.List.{List, [], _∷_, map}
-use mathlib.Core.Option.{none, some}
-use mathlib.Core.Path.{_≡_, refl}
-use Rattle·items.specs.Item.{Item, Value, Absent, Store, Pass, Hold, Retry, Resend, Commit, Lead, Prelog, Prepare}
-use Rattle·roster_conf.specs.Conf.{empty, setLeader, setFull, intoFiltered, resetFull}
-use Rattle·roster_conf.specs.Edit.{edit, SetResponders}
-use Rattle·bodega.specs.Replica.{Request, ReadReq, Put, Get, Replica, fresh, Call, Heartbeat, Guard, Prepared, Record, Reply, Notice, CommitNotice, Bars, Read, Release}
-use Rattle·bodega.specs.Step.{Step, Refused, Taken, answers}
-use Rattle·words.specs.Text.{bytes}
-use Rattle·bodega.proofs.Computes.{computes}
+HEAD = """use Rattle.std.specs.Prelude.{◌≡◌, ℕ, true, false, List, [], ◌∷◌, map}
+use Rattle.std.proofs.Common.{refl}
+use Rattle.std.proofs.Math.Option.{none, some}
+use Rattle.items.specs.Item.{Item, Value, Absent, Store, Pass, Hold, Retry, Resend, Commit, Lead, Prelog, Prepare}
+use Rattle.roster_conf.specs.Conf.{empty, set_leader, set_full, into_filtered, reset_full}
+use Rattle.roster_conf.specs.Edit.{edit, SetResponders}
+use Rattle.bodega.specs.Replica.{Request, ReadReq, Put, Get, Replica, fresh, Call, Heartbeat, Guard, Prepared, Record, Reply, Notice, CommitNotice, Bars, Read, Release}
+use Rattle.bodega.specs.Step.{Step, Refused, Taken, answers}
+use Rattle.words.specs.Text.{bytes}
+use Rattle.bodega.proofs.Computes.{computes}
 
 -- the items of a step, or the number of its refusal
 data Line : Type 0 where
   items : List Item → Line
   refused : ℕ → Line
 
-abbrev lineOf : Step → Line
-lineOf (Refused n) = refused n
-lineOf (Taken r l) = items l
+abbrev line_of : Step → Line
+line_of (Refused n) = refused n
+line_of (Taken r l) = items l
 
 abbrev put : ℕ → ℕ → List ℕ → ℕ → Request
 put c n key v = record { client = c; request = n; key = key; command = Put v }
@@ -54,13 +52,13 @@ record Told : Type 0 where
   call : Call
   line : Line
 
-infixr 4 _gives_then_
-abbrev _gives_then_ : Call → Line → List Told → List Told
+infixr 4 ◌gives◌then◌
+abbrev ◌gives◌then◌ : Call → Line → List Told → List Told
 c gives l then ts = record { call = c; line = l } ∷ ts
 
 -- the replica answers each call so
 abbrev Plays : Replica → List Told → Type 0
-Plays r ts = map lineOf (answers r (map (λ (t : Told). record { call = t .call; places = 546 }) ts)) ≡ map (λ (t : Told). t .line) ts
+Plays r ts = map line_of (answers r (map (λ (t : Told). record { call = t.call; places = 546 }) ts)) ≡ map (λ (t : Told). t.line) ts
 
 """
 
@@ -80,15 +78,15 @@ def item(text):
 
 def edited(roster, f):
     if f[0] == "lead":
-        return f"setLeader {int(f[1])} ({roster})"
+        return f"set_leader {int(f[1])} ({roster})"
     if f[0] == "range":
         return f'edit ({roster}) (SetResponders (bytes "{f[1]}") (bytes "{f[2]}") {int(f[3])})'
     if f[0] == "whole":
-        return f"setFull {int(f[1])} ({roster})"
+        return f"set_full {int(f[1])} ({roster})"
     if f[0] == "drop":
-        return f"intoFiltered {int(f[1])} ({roster})"
+        return f"into_filtered {int(f[1])} ({roster})"
     if f[0] == "reset":
-        return f"resetFull ({roster})"
+        return f"reset_full ({roster})"
     return roster
 
 
@@ -167,9 +165,9 @@ def main():
         name = f"s{len(texts)}"
         sizes[name] = len(pairs)
         body = "\n    ".join(f"({c}) gives ({a}) then" for c, a in pairs)
-        texts.append(f"abbrev {name} : List Told\n{name} =\n    ({body}\n    [])\n\nplays-{name} : Plays (fresh {node}) {name}\nunfolding computes edit\nplays-{name} = refl\n\n")
+        texts.append(f"abbrev {name} : List Told\n{name} =\n    ({body}\n    [])\n\nplays_{name} : Plays (fresh {node}) {name}\nunfolding computes edit\nplays_{name} = refl\n\n")
     repo = os.path.join(work, "repo")
-    shutil.copytree(os.path.join(ROOT, "crates"), os.path.join(repo, "crates"), ignore=shutil.ignore_patterns("must-fail", "key_program", "key_lines", "exports"))
+    shutil.copytree(os.path.join(ROOT, "crates"), os.path.join(repo, "crates"), ignore=shutil.ignore_patterns("must-fail", "key_program", "key_lines", "exports*", "out"))
     with open(os.path.join(ROOT, "crates.txt"), encoding="utf-8") as f:
         listed = [l for l in f if not l.startswith(("#", "key_program", "key_lines", "exports"))]
     crate = os.path.join(repo, "crates", "definitions")
@@ -178,7 +176,7 @@ def main():
     with open(os.path.join(repo, "crates.txt"), "w", encoding="utf-8") as f:
         f.write("".join(listed) + "definitions: bodega items roster_conf words\n")
     with open(os.path.join(crate, "src", "lib.rt"), "w", encoding="utf-8") as f:
-        f.write("// Scripts, by computing.\n")
+        f.write("// Scripts, by computing.\n#![tactic(auto)]\n")
     open(os.path.join(crate, "specs", "Lib.antt"), "w").close()
     files = range(0, len(texts), PER_FILE)
     with open(os.path.join(crate, "proofs", "Lib.antt"), "w", encoding="utf-8") as f:
@@ -186,15 +184,14 @@ def main():
     for i in files:
         with open(os.path.join(crate, "proofs", f"Part{i}.antt"), "w", encoding="utf-8") as f:
             f.write(HEAD + "".join(texts[i : i + PER_FILE]))
-    wide = dict(os.environ, RT_CUT="0")
-    done = subprocess.run(["rt", "check", "definitions"], cwd=repo, stdout=subprocess.PIPE, stderr=subprocess.STDOUT, env=wide)
+    done = subprocess.run(["rt", "check"], cwd=crate, stdout=subprocess.PIPE, stderr=subprocess.STDOUT)
     errors = [l for l in done.stdout.decode("utf-8", "replace").split("\n") if ": error:" in l]
     endless = [l for l in errors if "stopped at the step limit" in l]
     if len(errors) > len(endless) or (done.returncode != 0 and not endless):
-        print("\n".join(l[:300] for l in errors if l not in endless))
+        print("\n".join(l[:300] for l in errors if l not in endless) or done.stdout.decode("utf-8", "replace")[-600:])
         sys.exit(f"definitions: something differs; the files are in {crate}")
     shutil.rmtree(work)
-    stopped = {n for n in sizes if any(f"`plays-{n}`" in l for l in endless)}
+    stopped = {n for n in sizes if any(f"`plays_{n}`" in l for l in endless)}
     if len(stopped) != len(endless):
         sys.exit("definitions: a script that the check did not compute is not named")
     calls = sum(size for n, size in sizes.items() if n not in stopped)

@@ -22,7 +22,7 @@ use Rattle.inst_cell.specs.declared.NoticeBook.{NoticeBook}
 use Rattle.inst_cell.specs.declared.ReplicaBk.{ReplicaBk}
 use Rattle.inst_cell.specs.declared.ReplicaBk.TheVariants as replica
 use Rattle.accept_notices.specs.Book.{book_with, fresh_book, Takes}
-use Rattle.insts.specs.Slots.{short_at, batch_at, reads_at, seen_reads, book_of as slotBook, inst_of, inst_in, insts_of, Puts}
+use Rattle.insts.specs.Slots.{short_at, batch_at, reads_at, seen_reads, book_of as slot_book, inst_of, inst_in, insts_of, Puts}
 use Rattle.insts.proofs.Laws.{puts_then, short_after, here_is, moved, inst_at_lem, length_insts}
 use Rattle.release_held_reads.specs.Release.{holding_of, answers_of, emptied, Releases}
 use Rattle.release_held_reads.proofs.Laws.{length_answers}
@@ -33,7 +33,7 @@ use Rattle.accept_notice_at.specs.Notices.{noticed_book, with_notice, applies, q
 
 module _ (bk : ReplicaBk) (r : NoticeBook) (peer ballot : ℕ) where
   abbrev Noted : Type 0
-  Noted = (held : List machine.ReadReq) → book_with r (seen_reads (book_of bk) held) ≡ noticed_book peer ballot (slotBook (book_of bk) held)
+  Noted = (held : List machine.ReadReq) → book_with r (seen_reads (book_of bk) held) ≡ noticed_book peer ballot (slot_book (book_of bk) held)
 
   pub new_book_lem : (b : NoticeBook) → bk ≡ replica.None → b ≡ fresh_book → Takes peer ballot b r → Noted
   new_book_lem b e g f held = rw e (f [] ∙ ap (λ (k : NoticeBook). take_notice peer ballot (book_with k [])) g)
@@ -101,11 +101,11 @@ module _ (s : List ℕ) (c : ℕ) (cell : Cell) (e : cell_of cell ≡ short_at s
   noted = with_notice peer ballot here
 
   module _ (book : NoticeBook)
-      (b : (held : List machine.ReadReq) → book_with book (seen_reads (book_of cell.replica_bk) held) ≡ noticed_book peer ballot (slotBook (book_of cell.replica_bk) held)) where
+      (b : (held : List machine.ReadReq) → book_with book (seen_reads (book_of cell.replica_bk) held) ≡ noticed_book peer ballot (slot_book (book_of cell.replica_bk) held)) where
     -- the book that takes the notice
     book_is : book_with book (seen_reads (book_of cell.replica_bk) (reads_at s c)) ≡ noticed_book peer ballot here.replica_bk
     unfolding inst_in
-    book_is = b (reads_at s c) ∙ ap (λ (x : Short). noticed_book peer ballot (slotBook x.replica_bk (reads_at s c))) e
+    book_is = b (reads_at s c) ∙ ap (λ (x : Short). noticed_book peer ballot (slot_book x.replica_bk (reads_at s c))) e
 
     abbrev next : Cell
     next = record { bal = cell.bal; status = cell.status; leader_bk = cell.leader_bk; replica_bk = replica.Some book }
@@ -154,7 +154,7 @@ module _ (s : List ℕ) (c : ℕ) (cell : Cell) (e : cell_of cell ≡ short_at s
     module _ (h : not t ≡ false) where
       -- the number of items, before the notice is taken
       module _ (book : NoticeBook)
-          (b : (held : List machine.ReadReq) → book_with book (seen_reads (book_of cell.replica_bk) held) ≡ noticed_book peer ballot (slotBook (book_of cell.replica_bk) held))
+          (b : (held : List machine.ReadReq) → book_with book (seen_reads (book_of cell.replica_bk) held) ≡ noticed_book peer ballot (slot_book (book_of cell.replica_bk) held))
           (u : Bool) (g : u ≡ (if_none book_of (replica.Some book) then false else λ x. leb quorum (count x.notices))) where
         pub due_open : not u ≡ true → 0 ≡ length items
         due_open k = rw (is_for, h, quorum_of book b quorum u g, not-true u k)
@@ -169,10 +169,10 @@ module _ (s : List ℕ) (c : ℕ) (cell : Cell) (e : cell_of cell ≡ short_at s
         quorum_here : quorate quorum noted ≡ u
         unfolding inst_in
         quorum_here =
-            ap (quorate quorum) (sym p.inst) ∙ ap (λ (x : Short). if_none slotBook x.replica_bk (reads_at s₁ c) then false else λ k. leb quorum (count k.notices)) (sym e₁)
+            ap (quorate quorum) (sym p.inst) ∙ ap (λ (x : Short). if_none slot_book x.replica_bk (reads_at s₁ c) then false else λ k. leb quorum (count k.notices)) (sym e₁)
             ∙ go (book_of cell₁.replica_bk) ∙ sym g
           where
-            go : (o : Option Notices) → (if_none slotBook o (reads_at s₁ c) then false else λ k. leb quorum (count k.notices)) ≡ (if_none o then false else λ k. leb quorum (count k.notices))
+            go : (o : Option Notices) → (if_none slot_book o (reads_at s₁ c) then false else λ k. leb quorum (count k.notices)) ≡ (if_none o then false else λ k. leb quorum (count k.notices))
             go none = refl
             go (some k) = refl
 

@@ -10,7 +10,7 @@ ghost use Rattle.items.specs.Item.{places};
 ghost use Rattle.bodega.specs.Replica.{ReadReq};
 ghost use Rattle.inst_cell.specs.Cell.{book_of};
 ghost use Rattle.accept_notices.specs.Book.{book_with};
-ghost use Rattle.insts.specs.Slots.{seen_reads, book_of as slotBook, inst_in, insts_of};
+ghost use Rattle.insts.specs.Slots.{seen_reads, book_of as slot_book, inst_in, insts_of};
 ghost use Rattle.accept_notice_at.specs.Notices.{noticed_book, applies, with_notice, noticed_items, noticed_at, after, Sets, Notes, NotesAt};
 
 use ids::{Ballot, Leader, Replica, Slot};
@@ -18,7 +18,7 @@ use inst_cell::{Cell, NoticeBook, ReplicaBk};
 
 // A slot's book takes a notice, a new one where there is none.
 fn noticed_book(book: ReplicaBk, peer: Replica, ballot: Ballot) -> NoticeBook
-    ensures { (held : List ReadReq) → book_with result (seen_reads (book_of book) held) ≡ noticed_book peer.0 ballot.0 (slotBook (book_of book) held) }
+    ensures { (held : List ReadReq) → book_with result (seen_reads (book_of book) held) ≡ noticed_book peer.0 ballot.0 (slot_book (book_of book) held) }
 {
     let ReplicaBk::Some(b) = book else {
         let fresh = accept_notices::fresh();

@@ -10,7 +10,7 @@ use lib.Dec.{ltb, leb}
 use lib.ListN.{length, get_or, set, take, drop, replicate, get_or-replicate}
 use lib.Seq.{get_or-set_other, take-suc-set, take-length, length-take-le}
 use borrow.Author.Tests.{lt-ltb, le-ltb, le-leb, lt-leb, leb-true, not-true, not-false}
-use Rattle.words.specs.Part.{part, splice, part_here, part_before, length_splice, length_part, part_set_above, part_set_first, get_d_part, Untouched, splice_untouched}
+use Rattle.words.specs.Part.{part, splice, part_here, part_before, length_splice, length_part, part_set_above, part_set_first, get_or_part, Untouched, splice_untouched}
 use Rattle.words.specs.Counted.{counted, counted_clear}
 use Rattle.ids.specs.Limits.{replicas}
 use Rattle.highest_slot.specs.Written.{highest_at, written_of}
@@ -161,11 +161,11 @@ tab_const {A = A} v i (suc n) = ap (λ (l : List A). v ∷ l) (tab_const v (i + 
 module _ (s : List ℕ) (a : part s 0 replica_places ≡ replicate replica_places 0) (b : part s bars_at replica_places ≡ replicate replica_places 18446744073709551615) where
   number_0 : (i : ℕ) → i < replicas → get_or (part s 0 pair_words) i 0 ≡ 0
   number_0 i h =
-      get_d_part s 0 pair_words i (omega arith) ∙ sym (get_d_part s 0 replica_places i h) ∙ ap (λ (l : List ℕ). get_or l i 0) a ∙ get_or-replicate {A = ℕ} replicas i 0 0 h
+      get_or_part s 0 pair_words i (omega arith) ∙ sym (get_or_part s 0 replica_places i h) ∙ ap (λ (l : List ℕ). get_or l i 0) a ∙ get_or-replicate {A = ℕ} replicas i 0 0 h
 
   bar_beyond : (i : ℕ) → i < replicas → get_or (part s 0 pair_words) (bars_at + i) 0 ≡ 18446744073709551615
   bar_beyond i h =
-      get_d_part s 0 pair_words (bars_at + i) (omega arith) ∙ ap (λ (k : ℕ). get_or s k 0) (zero-add (bars_at + i)) ∙ sym (get_d_part s bars_at replica_places i h) ∙ ap (λ (l : List ℕ). get_or l i 0) b
+      get_or_part s 0 pair_words (bars_at + i) (omega arith) ∙ ap (λ (k : ℕ). get_or s k 0) (zero-add (bars_at + i)) ∙ sym (get_or_part s bars_at replica_places i h) ∙ ap (λ (l : List ℕ). get_or l i 0) b
       ∙ get_or-replicate {A = ℕ} replicas i 18446744073709551615 0 h
 
   fresh_pairs : (n : ℕ) → n ≤ replicas → pairs_of n (part s 0 pair_words) ≡ replicate n fresh_pair

@@ -7,13 +7,13 @@ ghost use Rattle.ids.specs.Limits.{replicas};
 ghost use Rattle.layout.specs.Layout.{pair_words};
 ghost use Rattle.rank.specs.Sort.{sort};
 ghost use Rattle.bodega.specs.Replica.{pair, fresh_pair};
-ghost use Rattle.bodega.specs.Conflease.{counted, newer as isNewer};
+ghost use Rattle.bodega.specs.Conflease.{counted, newer as is_newer};
 ghost use Rattle.peer_accept_bar.specs.Pairs.{pairs_of, peer_accept, guarded};
 
 use ids::{Ballot, Replica, Slot};
 
 fn beats(was: Ballot, stood: Slot, number: Ballot, bar: Slot) -> bool
-    ensures { result ≡ isNewer (pair was.0 stood.0) number.0 bar.0 }
+    ensures { result ≡ is_newer (pair was.0 stood.0) number.0 bar.0 }
 {
     if was.0 < number.0 {
         return true;
@@ -27,7 +27,7 @@ fn beats(was: Ballot, stood: Slot, number: Ballot, bar: Slot) -> bool
 // A larger number, or an equal one with a smaller bar.
 fn newer(pairs: &[u64], population: u8, peer: Replica, number: Ballot, bar: Slot) -> bool
     requires { (peer.0 < population) × (population ≤ replicas) × (pair_words ≤ length pairs.now) }
-    ensures { result ≡ isNewer (get_or (pairs_of population pairs.now) peer.0 fresh_pair) number.0 bar.0 }
+    ensures { result ≡ is_newer (get_or (pairs_of population pairs.now) peer.0 fresh_pair) number.0 bar.0 }
 {
     let i = peer.0 as usize;
     let was = pairs[i];

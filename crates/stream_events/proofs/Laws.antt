@@ -61,7 +61,7 @@ fresh_lent h mem rows area groups c m r a g = record {
   groups_size = g;
 }
 
--- ---- a line that is refused_line away leaves the host as it was
+-- ---- a line that is turned away leaves the host as it was
 abbrev Stays : Host → LineResult → Type 0
 Stays h t = (n : ℕ) → t.outcome ≡ Refusal n → t.host ≡ h
 
