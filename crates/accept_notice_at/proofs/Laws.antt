@@ -3,11 +3,11 @@ use Rattle.std.specs.Prelude.{if◌then◌else◌}
 use mathlib.Core.Path.{◌≡◌, refl, sym, ap, ◌∙◌}
 use mathlib.Core.Bool.{Bool, true, false, not, ◌||◌, ◌&&◌}
 use mathlib.Core.List.{List, [], ◌∷◌, ◌++◌, append-nil}
-use mathlib.Core.Option.{Option, none, some}
+use Rattle.std.specs.Prelude.{Option, None, Some}
 use Prim.Native.Nat.{ℕ, zero, suc, ◌+◌, ◌-◌, ◌%◌, ◌≤◌, ◌<◌}
 use native.Mathlib.Omega.{arith}
 use lib.Dec.{ltb, leb, eqb}
-use lib.ListN.{length, set, replicate, get_elem?, length-append, length-replicate}
+use lib.ListN.{length, set, replicate, slice_get, length-append, length-replicate}
 use borrow.Author.Tests.{lt-ltb, le-ltb, eq-eqb, ne_eqb, not-true, not-false}
 use Rattle.words.specs.Choice.{if_none◌then◌else◌}
 use Rattle.words.specs.Writes.{writes}
@@ -19,8 +19,6 @@ use Rattle.bodega.specs.Messages.{take_notice}
 use Rattle.inst_cell.specs.Cell.{Notices, Short, cell_of, book_of, status_of, acks_of}
 use Rattle.inst_cell.specs.declared.Cell.{Cell}
 use Rattle.inst_cell.specs.declared.NoticeBook.{NoticeBook}
-use Rattle.inst_cell.specs.declared.ReplicaBk.{ReplicaBk}
-use Rattle.inst_cell.specs.declared.ReplicaBk.TheVariants as replica
 use Rattle.accept_notices.specs.Book.{book_with, fresh_book, Takes}
 use Rattle.insts.specs.Slots.{short_at, batch_at, reads_at, seen_reads, book_of as slot_book, inst_of, inst_in, insts_of, Puts}
 use Rattle.insts.proofs.Laws.{puts_then, short_after, here_is, moved, inst_at_lem, length_insts}
@@ -31,14 +29,14 @@ use Rattle.accept_notice_at.specs.Notices.{noticed_book, with_notice, applies, q
 
 -- ---- one book
 
-module _ (bk : ReplicaBk) (r : NoticeBook) (peer ballot : ℕ) where
+module _ (bk : Option NoticeBook) (r : NoticeBook) (peer ballot : ℕ) where
   abbrev Noted : Type 0
   Noted = (held : List machine.ReadReq) → book_with r (seen_reads (book_of bk) held) ≡ noticed_book peer ballot (slot_book (book_of bk) held)
 
-  pub new_book_lem : (b : NoticeBook) → bk ≡ replica.None → b ≡ fresh_book → Takes peer ballot b r → Noted
+  pub new_book_lem : (b : NoticeBook) → bk ≡ None → b ≡ fresh_book → Takes peer ballot b r → Noted
   new_book_lem b e g f held = rw e (f [] ∙ ap (λ (k : NoticeBook). take_notice peer ballot (book_with k [])) g)
 
-  pub old_book : (b : NoticeBook) → bk ≡ replica.Some b → Takes peer ballot b r → Noted
+  pub old_book : (b : NoticeBook) → bk ≡ Some b → Takes peer ballot b r → Noted
   old_book b e f held = rw e (f held)
 
 -- ---- whether a notice is one for a slot
@@ -90,8 +88,8 @@ holding_stays peer ballot i = go i.replica_bk
     book false b x y = refl
 
     go : (o : Option machine.Book) → (take_notice peer ballot (if_none o then machine.new_book else λ b. b)).holding ≡ (if_none o then [] else λ b. b.holding)
-    go none = book (ltb 0 ballot) machine.new_book _ _
-    go (some b) = book (ltb b.bal ballot) b _ _
+    go None = book (ltb 0 ballot) machine.new_book _ _
+    go (Some b) = book (ltb b.bal ballot) b _ _
 
 module _ (s : List ℕ) (c : ℕ) (cell : Cell) (e : cell_of cell ≡ short_at s c) (peer ballot : ℕ) where
   abbrev here : machine.Instance
@@ -108,7 +106,7 @@ module _ (s : List ℕ) (c : ℕ) (cell : Cell) (e : cell_of cell ≡ short_at s
     book_is = b (reads_at s c) ∙ ap (λ (x : Short). noticed_book peer ballot (slot_book x.replica_bk (reads_at s c))) e
 
     abbrev next : Cell
-    next = record { bal = cell.bal; status = cell.status; leader_bk = cell.leader_bk; replica_bk = replica.Some book }
+    next = record { bal = cell.bal; status = cell.status; leader_bk = cell.leader_bk; replica_bk = Some book }
 
     pub notice_put : (s₁ t : List ℕ) → Puts s c (short_at s c) (batch_at s c) (seen_reads (short_at s c).replica_bk (reads_at s c)) s₁
         → Puts s₁ c (cell_of next) (batch_at s₁ c) (reads_at s₁ c) t → Sets s c noted t
@@ -117,10 +115,10 @@ module _ (s : List ℕ) (c : ℕ) (cell : Cell) (e : cell_of cell ≡ short_at s
         let k : seen_reads (short_at s c).replica_bk (reads_at s c) ≡ seen_reads (book_of cell.replica_bk) (reads_at s c) =
         ap (λ (x : Short). seen_reads x.replica_bk (reads_at s c)) (sym e) in
         sets_by noted (short_after (rw k at p) q)
-        (ap (λ (k : machine.Book). record { bal = cell.bal.0; status = status_of cell.status; reqs = batch_at s c; leader_bk = acks_of cell.leader_bk; replica_bk = some k }) book_is
-        ∙ ap (λ (x : Short). record { bal = x.bal; status = x.status; reqs = batch_at s c; leader_bk = x.leader_bk; replica_bk = some (noticed_book peer ballot here.replica_bk) }) e)
+        (ap (λ (k : machine.Book). record { bal = cell.bal.0; status = status_of cell.status; reqs = batch_at s c; leader_bk = acks_of cell.leader_bk; replica_bk = Some k }) book_is
+        ∙ ap (λ (x : Short). record { bal = x.bal; status = x.status; reqs = batch_at s c; leader_bk = x.leader_bk; replica_bk = Some (noticed_book peer ballot here.replica_bk) }) e)
 
-    quorum_of : (quorum : ℕ) (u : Bool) → u ≡ (if_none book_of (replica.Some book) then false else λ x. leb quorum (count x.notices)) → quorate quorum noted ≡ u
+    quorum_of : (quorum : ℕ) (u : Bool) → u ≡ (if_none book_of (Some book) then false else λ x. leb quorum (count x.notices)) → quorate quorum noted ≡ u
     quorum_of quorum u f = sym (f ∙ ap (λ (x : machine.Book). leb quorum (count x.notices)) book_is)
 
   module _ (quorum : ℕ) (leader : Option ℕ) (last t : Bool) (f : t ≡ eqb ballot cell.bal.0 || (eqb cell.bal.0 0 && last)) where
@@ -155,7 +153,7 @@ module _ (s : List ℕ) (c : ℕ) (cell : Cell) (e : cell_of cell ≡ short_at s
       -- the number of items, before the notice is taken
       module _ (book : NoticeBook)
           (b : (held : List machine.ReadReq) → book_with book (seen_reads (book_of cell.replica_bk) held) ≡ noticed_book peer ballot (slot_book (book_of cell.replica_bk) held))
-          (u : Bool) (g : u ≡ (if_none book_of (replica.Some book) then false else λ x. leb quorum (count x.notices))) where
+          (u : Bool) (g : u ≡ (if_none book_of (Some book) then false else λ x. leb quorum (count x.notices))) where
         pub due_open : not u ≡ true → 0 ≡ length items
         due_open k = rw (is_for, h, quorum_of book b quorum u g, not-true u k)
 
@@ -173,8 +171,8 @@ module _ (s : List ℕ) (c : ℕ) (cell : Cell) (e : cell_of cell ≡ short_at s
             ∙ go (book_of cell₁.replica_bk) ∙ sym g
           where
             go : (o : Option Notices) → (if_none slot_book o (reads_at s₁ c) then false else λ k. leb quorum (count k.notices)) ≡ (if_none o then false else λ k. leb quorum (count k.notices))
-            go none = refl
-            go (some k) = refl
+            go None = refl
+            go (Some k) = refl
 
         module _ (k : not u ≡ true) where
           items_open : items ≡ []
@@ -216,11 +214,11 @@ module _ (s : List ℕ) (c : ℕ) (cell : Cell) (e : cell_of cell ≡ short_at s
 
 -- ---- the k-th of the slots from start on
 
-elem_last : (k : ℕ) → get_elem? (replicate (suc k) machine.null_instance) k ≡ some machine.null_instance
+elem_last : (k : ℕ) → slice_get (replicate (suc k) machine.null_instance) k ≡ Some machine.null_instance
 elem_last zero = refl
 elem_last (suc k) = elem_last k
 
-elem_null : (l : List machine.Instance) (k : ℕ) → length l ≤ k → get_elem? (padded k l) k ≡ some machine.null_instance
+elem_null : (l : List machine.Instance) (k : ℕ) → length l ≤ k → slice_get (padded k l) k ≡ Some machine.null_instance
 elem_null [] k h =
     let e : k + 1 - 0 ≡ suc k = omega arith in
     rw e (elem_last k)
@@ -230,7 +228,7 @@ elem_null (x ∷ l) (suc k) h =
     rw e (elem_null l k (omega arith))
 
 module _ (quorum : ℕ) (leader : Option ℕ) (peer ballot : ℕ) where
-  noticed_by : (k : ℕ) (l p : List machine.Instance) (i : machine.Instance) (last : Bool) → padded k l ≡ p → get_elem? p k ≡ some i → eqb (k + 1) (length p) ≡ last
+  noticed_by : (k : ℕ) (l p : List machine.Instance) (i : machine.Instance) (last : Bool) → padded k l ≡ p → slice_get p k ≡ Some i → eqb (k + 1) (length p) ≡ last
       → noticed_at quorum leader peer ballot k l ≡ record { insts = set p k (noticed_inst quorum peer ballot last i); items = noticed_items quorum leader peer ballot last i }
   unfolding noticed_at
   noticed_by k l p i last e f g = rw (e, f, g)
@@ -289,8 +287,8 @@ module _ (quorum : ℕ) (leader : Option ℕ) (peer ballot : ℕ) where
       filled_is : padded k insts ≡ filled
       filled_is = ap (λ (n : ℕ). insts ++ replicate (k + 1 - n) machine.null_instance) (length_insts start held s)
 
-      elem_filled : get_elem? filled k ≡ some machine.null_instance
-      elem_filled = ap (λ (l : List machine.Instance). get_elem? l k) (sym filled_is) ∙ elem_null insts k (omega (arith, length_insts start held s))
+      elem_filled : slice_get filled k ≡ Some machine.null_instance
+      elem_filled = ap (λ (l : List machine.Instance). slice_get l k) (sym filled_is) ∙ elem_null insts k (omega (arith, length_insts start held s))
 
       length_filled : length filled ≡ k + 1
       length_filled = simp (length-append, length-replicate) (omega (arith, length_insts start held s))
@@ -304,7 +302,7 @@ module _ (quorum : ℕ) (leader : Option ℕ) (peer ballot : ℕ) where
       module _ (s₁ : List ℕ) (x : (insts_of start (k + 1) s₁ ≡ filled) × (length s₁ ≡ length s)) where
         null_here : inst_in s₁ place ≡ machine.null_instance
         null_here =
-            let f : some (inst_in s₁ place) ≡ some machine.null_instance = sym (inst_at_lem start (k + 1) k s₁ (omega arith)) ∙ ap (λ (l : List machine.Instance). get_elem? l k) x.0 ∙ elem_filled in
+            let f : Some (inst_in s₁ place) ≡ Some machine.null_instance = sym (inst_at_lem start (k + 1) k s₁ (omega arith)) ∙ ap (λ (l : List machine.Instance). slice_get l k) x.0 ∙ elem_filled in
             cc
 
         pub null_room : (area : List ℕ) → length Due.items ≤ places area → length (noticed_items quorum leader peer ballot true (inst_in s₁ place)) ≤ places area

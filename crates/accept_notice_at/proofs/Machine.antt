@@ -3,12 +3,12 @@ use Rattle.std.specs.Prelude.{if◌then◌else◌}
 use mathlib.Core.Path.{◌≡◌, refl, sym, ap, ◌∙◌}
 use mathlib.Core.Bool.{Bool, true, false, not}
 use mathlib.Core.List.{List, [], ◌∷◌}
-use mathlib.Core.Option.{Option, none, some}
+use Rattle.std.specs.Prelude.{Option, None, Some}
 use Prim.Native.Nat.{ℕ, zero, suc, ◌+◌, ◌-◌, ◌≤◌}
 use native.Mathlib.Omega.{arith}
 use native.Mathlib.Decide.{ℕ_discrete}
 use lib.Dec.{eqb}
-use lib.ListN.{length, set, get_elem?}
+use lib.ListN.{length, set, slice_get}
 use lib.Seq.{set-set}
 use borrow.Author.Tests.{le-ltb, eq-eqb, ne_eqb}
 use Rattle.words.specs.Choice.{if_none◌then◌else◌}
@@ -19,7 +19,7 @@ use Rattle.release_held_reads.specs.Release.{answers_of, emptied}
 use Rattle.release_held_reads.proofs.Machine.{put_back, release_is}
 use Rattle.accept_notice_at.specs.Notices.{with_notice, applies, quorate, noticed_inst, noticed_items, padded, Noticed, noticed_at}
 
-elem_set : (l : List Instance) (k : ℕ) (i j : Instance) → get_elem? l k ≡ some i → get_elem? (set l k j) k ≡ some j
+elem_set : (l : List Instance) (k : ℕ) (i j : Instance) → slice_get l k ≡ Some i → slice_get (set l k j) k ≡ Some j
 elem_set [] k i j e = let z : ◌≡◌ {A = ℕ} 0 1 = cc in absurd (omega arith)
 elem_set (x ∷ l) zero i j e = refl
 elem_set (x ∷ l) (suc k) i j e = elem_set l k i j e
@@ -55,11 +55,11 @@ module _ (r : Replica) (peer slot ballot : ℕ) (h : r.bar.start ≤ slot) where
       let e : slot + 1 ≡ r.bar.start + (k + 1) = omega arith in
       rw e (eqb_from r.bar.start (k + 1) (length p))
 
-  inst_of_lem : (l : List Instance) → inst_at (with_insts l r) slot ≡ get_elem? l k
+  inst_of_lem : (l : List Instance) → inst_at (with_insts l r) slot ≡ slice_get l k
   unfolding inst_at
   inst_of_lem l = rw (le-ltb slot r.bar.start h)
 
-  module _ (i : Instance) (e : get_elem? p k ≡ some i) where
+  module _ (i : Instance) (e : slice_get p k ≡ Some i) where
     abbrev j : Instance
     j = with_notice peer ballot i
 
@@ -86,17 +86,17 @@ module _ (r : Replica) (peer slot ballot : ℕ) (h : r.bar.start ≤ slot) where
         go true = taken_is
         go false = ap (λ (l : List Instance). done (with_insts l r) []) (sym (put_back p k i e))
 
-  at_none : get_elem? p k ≡ none → noticed (with_insts p r) peer slot ballot ≡ done (with_insts p r) []
+  at_none : slice_get p k ≡ None → noticed (with_insts p r) peer slot ballot ≡ done (with_insts p r) []
   unfolding noticed
   at_none e = rw (inst_of_lem p ∙ e)
 
   pub noticed_is : noticed (pad slot r) peer slot ballot
       ≡ done (with_insts (noticed_at quorum r.conf.leader peer ballot k r.insts).insts r) (noticed_at quorum r.conf.leader peer ballot k r.insts).items
   unfolding noticed_at
-  noticed_is = ap (λ (s : Replica). noticed s peer slot ballot) pad_is ∙ go (get_elem? p k) refl
+  noticed_is = ap (λ (s : Replica). noticed s peer slot ballot) pad_is ∙ go (slice_get p k) refl
     where
-      go : (o : Option Instance) → get_elem? p k ≡ o → noticed (with_insts p r) peer slot ballot
+      go : (o : Option Instance) → slice_get p k ≡ o → noticed (with_insts p r) peer slot ballot
           ≡ (let w : Noticed = if_none o then record { insts = p; items = [] } else λ i. record { insts = set p k (noticed_inst quorum peer ballot last i); items = noticed_items quorum r.conf.leader peer ballot last i } in
           done (with_insts w.insts r) w.items)
-      go none e = at_none e
-      go (some i) e = at_some i e
+      go None e = at_none e
+      go (Some i) e = at_some i e

@@ -1,8 +1,8 @@
 -- Bridge: `handle_msg_accept_notice` at the slot of a notice, over what it reads of the replica: quorum, leader and
 -- the instances; tied to `handle_msg_accept_notice` by proofs/Machine and call_notice/proofs/Laws.
 use Rattle.std.specs.Prelude.{◌≡◌, Bool, false, ◌&&◌, ◌||◌, not, List, [], ◌++◌, ℕ, ◌+◌, ◌-◌, ltb, leb, eqb, length, set, replicate, if◌then◌else◌}
-use Rattle.std.proofs.Math.Option.{Option}
-use Rattle.std.proofs.Math.ListN.{get_elem?}
+use Rattle.std.specs.Prelude.{Option}
+use Rattle.std.specs.Prelude.{slice_get}
 use Rattle.words.specs.Choice.{if_none◌then◌else◌}
 use Rattle.words.specs.Writes.{writes}
 use Rattle.bitmap.specs.Bitmap.{count}
@@ -56,7 +56,7 @@ unfoldable pub noticed_at : ℕ → Option ℕ → ℕ → ℕ → ℕ → List 
 noticed_at quorum leader peer ballot k l =
     let p = padded k l in
     let last = eqb (k + 1) (length p) in
-    if_none get_elem? p k then record { insts = p; items = [] } else λ i.
+    if_none slice_get p k then record { insts = p; items = [] } else λ i.
     record { insts = set p k (noticed_inst quorum peer ballot last i); items = noticed_items quorum leader peer ballot last i }
 
 abbrev pub after : ℕ → ℕ → ℕ

@@ -2,7 +2,7 @@
 #![tactic(auto)]
 
 ghost use Rattle.std.specs.Prelude.{◌≡◌, ◌&&◌, ◌||◌, List, ℕ, ◌+◌, ◌≤◌, ◌<◌, eqb, length};
-ghost use Rattle.std.proofs.Math.Option.{Option};
+ghost use Rattle.std.specs.Prelude.{Option};
 ghost use Rattle.ids.specs.Leader.{leader_of};
 ghost use Rattle.ids.specs.Limits.{top};
 ghost use Rattle.layout.specs.Layout.{slot_places, slot_words};
@@ -13,14 +13,14 @@ ghost use Rattle.accept_notices.specs.Book.{book_with};
 ghost use Rattle.insts.specs.Slots.{seen_reads, book_of as slot_book, inst_in, insts_of};
 ghost use Rattle.accept_notice_at.specs.Notices.{noticed_book, applies, with_notice, noticed_items, noticed_at, after, Sets, Notes, NotesAt};
 
-use ids::{Ballot, Leader, Replica, Slot};
-use inst_cell::{Cell, NoticeBook, ReplicaBk};
+use ids::{Ballot, Replica, Slot};
+use inst_cell::{Cell, NoticeBook};
 
 // A slot's book takes a notice, a new one where there is none.
-fn noticed_book(book: ReplicaBk, peer: Replica, ballot: Ballot) -> NoticeBook
+fn noticed_book(book: Option<NoticeBook>, peer: Replica, ballot: Ballot) -> NoticeBook
     ensures { (held : List ReadReq) → book_with result (seen_reads (book_of book) held) ≡ noticed_book peer.0 ballot.0 (slot_book (book_of book) held) }
 {
-    let ReplicaBk::Some(b) = book else {
+    let Some(b) = book else {
         let fresh = accept_notices::fresh();
         return accept_notices::noticed(fresh, peer, ballot);
     };
@@ -52,7 +52,7 @@ fn put_notice(s: &mut [u64], c: usize, peer: Replica, ballot: Ballot)
     let bal = cell.bal;
     let status = cell.status;
     let leader_bk = cell.leader_bk;
-    let replica_bk = ReplicaBk::Some(book);
+    let replica_bk = Some(book);
     let next = Cell {
         bal,
         status,
@@ -74,7 +74,7 @@ fn due_in(s: &[u64], c: usize, last: bool, quorum: u8, peer: Replica, ballot: Ba
     }
     let old = cell.replica_bk;
     let book = noticed_book(old, peer, ballot);
-    if !release_held_reads::has_quorum(ReplicaBk::Some(book), quorum) {
+    if !release_held_reads::has_quorum(Some(book), quorum) {
         return 0;
     }
     release_held_reads::holding(s, c)
@@ -86,7 +86,7 @@ fn notice_in(
     c: usize,
     last: bool,
     quorum: u8,
-    leader: Leader,
+    leader: Option<Replica>,
     peer: Replica,
     ballot: Ballot,
     area: &mut [u64],
@@ -148,7 +148,7 @@ pub fn notice_at(
     held: usize,
     k: usize,
     quorum: u8,
-    leader: Leader,
+    leader: Option<Replica>,
     peer: Replica,
     ballot: Ballot,
     area: &mut [u64],

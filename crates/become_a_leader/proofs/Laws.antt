@@ -3,7 +3,7 @@ use Rattle.std.specs.Prelude.{if◌then◌else◌}
 use mathlib.Core.Path.{◌≡◌, refl, sym, ap, ◌∙◌}
 use mathlib.Core.Bool.{Bool, true, false, not}
 use mathlib.Core.List.{List, [], ◌∷◌, ◌++◌}
-use mathlib.Core.Option.{Option, none, some}
+use Rattle.std.specs.Prelude.{Option, None, Some}
 use Prim.Native.Nat.{ℕ, ◌+◌, ◌-◌, ◌*◌, ◌%◌, ◌≤◌, ◌<◌}
 use native.Mathlib.Omega.{arith}
 use lib.ListN.{length, drop, replicate, take-append-drop}
@@ -115,14 +115,14 @@ module _ (start n : ℕ) (s : List ℕ) (t : Bool) (e : t ≡ any (λ (i : Insta
     within = (omega (arith, slot.first_last (insts_of start n s)), omega (arith, slot.last_within (insts_of start n s) some_open, length_insts start n s))
 
     pub counts : (opens held : ℕ) → (opens ≡ length (prelogs start (insts_of start n s))) × (opens ≤ slot_places)
-        → (held ≡ length (released_from 0 none (last + 1 - from) (drop from (insts_of start n s))).items) × (held ≤ slot_places * held_places)
+        → (held ≡ length (released_from 0 None (last + 1 - from) (drop from (insts_of start n s))).items) × (held ≤ slot_places * held_places)
         → (quorum : ℕ) (leader : Option ℕ) (ballot : ℕ) → 2 + opens + held ≡ length (step_up start quorum leader ballot (insts_of start n s)).items
     counts opens held o d quorum leader ballot = count_some start quorum leader ballot (insts_of start n s) some_open from last opens held g h o.0 d.0
 
 -- ---- one slot prepared anew
 
 pub prepared : (s : List ℕ) (c ballot : ℕ) (cell : Cell) (t : List ℕ) → cell_of cell ≡ short_at s c
-    → Puts s c (record { bal = ballot; status = Preparing; leader_bk = some 0; replica_bk = book_of cell.replica_bk }) (batch_at s c) (reads_at s c) t → Puts s c (prepare_short ballot (short_at s c)) (batch_at s c) (reads_at s c) t
+    → Puts s c (record { bal = ballot; status = Preparing; leader_bk = Some 0; replica_bk = book_of cell.replica_bk }) (batch_at s c) (reads_at s c) t → Puts s c (prepare_short ballot (short_at s c)) (batch_at s c) (reads_at s c) t
 prepared s c ballot cell t e p = let q : book_of cell.replica_bk ≡ (short_at s c).replica_bk = ap (λ (x : Short). x.replica_bk) e in rw q at p
 
 module _ (s : List ℕ) (c : ℕ) (t : Bool) (e : t ≡ is_open (inst_in s c).status) where
@@ -168,7 +168,7 @@ unfolding inst_in
 anew_is ballot s c = go (is_open (short_at s c).status)
   where
     go : (b : Bool) → inst_of (if b then prepare_short ballot (short_at s c) else short_at s c) (batch_at s c) (reads_at s c)
-        ≡ (if b then (let i = inst_of (short_at s c) (batch_at s c) (reads_at s c) in record { bal = ballot; status = Preparing; reqs = i.reqs; leader_bk = some 0; replica_bk = i.replica_bk }) else inst_of (short_at s c) (batch_at s c) (reads_at s c))
+        ≡ (if b then (let i = inst_of (short_at s c) (batch_at s c) (reads_at s c) in record { bal = ballot; status = Preparing; reqs = i.reqs; leader_bk = Some 0; replica_bk = i.replica_bk }) else inst_of (short_at s c) (batch_at s c) (reads_at s c))
     go true = refl
     go false = refl
 
@@ -246,5 +246,5 @@ module _ (start n to quorum : ℕ) (leader : Option ℕ) where
           (emptied_is s ((start + k) % slot_places)) p.items (ap (λ (j : ℕ). at + j) p.count)
 
 pub count_held_start : (start n to from : ℕ) (s : List ℕ) → from ≤ n
-    → 0 + length (held_left start n to 0 none from s).items ≡ length (released_from 0 none (to - from) (drop from (insts_of start n s))).items
-count_held_start start n to from s h = rw (held_left_lem start n to 0 none from s h) (omega arith)
+    → 0 + length (held_left start n to 0 None from s).items ≡ length (released_from 0 None (to - from) (drop from (insts_of start n s))).items
+count_held_start start n to from s h = rw (held_left_lem start n to 0 None from s h) (omega arith)

@@ -3,7 +3,7 @@ use Rattle.std.specs.Prelude.{if◌then◌else◌}
 use mathlib.Core.Path.{◌≡◌, refl, sym, ap, ◌∙◌}
 use mathlib.Core.Bool.{Bool, true, false, ◌||◌, true≢false}
 use mathlib.Core.List.{List, [], ◌∷◌, ◌++◌, map}
-use mathlib.Core.Option.{Option, none, some}
+use Rattle.std.specs.Prelude.{Option, None, Some}
 use Prim.Native.Nat.{ℕ, zero, suc, ◌+◌, ◌-◌, ◌≤◌}
 use native.Mathlib.Nat.{not-suc-le-zero}
 use native.Mathlib.Omega.{arith}
@@ -56,7 +56,7 @@ drop_map f (suc k) (i ∷ l) = drop_map f k l
 same_holding : (ballot : ℕ) (i : Instance) → holding_of (reprepared ballot i) ≡ holding_of i
 same_holding ballot i = go (is_open i.status)
   where
-    go : (b : Bool) → holding_of (if b then record { bal = ballot; status = Preparing; reqs = i.reqs; leader_bk = some 0; replica_bk = i.replica_bk } else i) ≡ holding_of i
+    go : (b : Bool) → holding_of (if b then record { bal = ballot; status = Preparing; reqs = i.reqs; leader_bk = Some 0; replica_bk = i.replica_bk } else i) ≡ holding_of i
     go true = refl
     go false = refl
 
@@ -79,13 +79,13 @@ ends x y a b = omega (arith, length-append (a ++ b) (y ∷ []), length-append a 
 
 module _ (start quorum : ℕ) (leader : Option ℕ) (ballot : ℕ) (l : List Instance) where
   pub count_is : length (step_up start quorum leader ballot l).items
-      ≡ 2 + length (prelogs start (opened l)) + length (released_from 0 none (suc (last_open l - first_open l)) (drop (first_open l) (opened l))).items
+      ≡ 2 + length (prelogs start (opened l)) + length (released_from 0 None (suc (last_open l - first_open l)) (drop (first_open l) (opened l))).items
   unfolding step_up
   count_is =
       let w : List Item = (released_from quorum leader (suc (last_open l - first_open l)) (drop (first_open l) (map (reprepared ballot) (opened l)))).items in
-      let e : length w ≡ length (released_from 0 none (suc (last_open l - first_open l)) (drop (first_open l) (opened l))).items =
+      let e : length w ≡ length (released_from 0 None (suc (last_open l - first_open l)) (drop (first_open l) (opened l))).items =
       ap (λ (x : List Instance). length (released_from quorum leader (suc (last_open l - first_open l)) x).items) (drop_map (reprepared ballot) (first_open l) (opened l))
-      ∙ same_count quorum 0 leader none ballot (suc (last_open l - first_open l)) (drop (first_open l) (opened l)) in
+      ∙ same_count quorum 0 leader None ballot (suc (last_open l - first_open l)) (drop (first_open l) (opened l)) in
       ends (Lead true) (Prepare (start + first_open l) ballot) (prelogs start (opened l)) w ∙ ap (λ (j : ℕ). 2 + length (prelogs start (opened l)) + j) e
 
   -- a step-up of the slots with the null one
@@ -115,7 +115,7 @@ one_prelog start (i ∷ l) e = go (is_open i.status) (any_open l) e (one_prelog 
     go true b e h = absurd (true≢false e)
     go false b e h = h e
 
-no_reads : (m : ℕ) → length (released_from 0 none m (null_instance ∷ [])).items ≡ 0
+no_reads : (m : ℕ) → length (released_from 0 None m (null_instance ∷ [])).items ≡ 0
 unfolding released_from
 no_reads zero = refl
 no_reads (suc zero) = refl
@@ -130,7 +130,7 @@ module _ (start quorum : ℕ) (leader : Option ℕ) (ballot : ℕ) (l : List Ins
       sym (count_is start quorum leader ballot l ∙ rw (o, d, one_prelog start l e, no_reads (suc (last_open l - first_open l))))
 
   pub count_some : any_open l ≡ true → (from to opens held : ℕ) → from ≡ first_open l → to ≡ last_open l → opens ≡ length (prelogs start l)
-      → held ≡ length (released_from 0 none (to + 1 - from) (drop from l)).items → 2 + opens + held ≡ length (step_up start quorum leader ballot l).items
+      → held ≡ length (released_from 0 None (to + 1 - from) (drop from l)).items → 2 + opens + held ≡ length (step_up start quorum leader ballot l).items
   count_some e from to opens held f t o h =
       let z : to + 1 - from ≡ suc (last_open l - first_open l) = omega (arith, first_last l) in
       rw (o, h, z, f) (sym (count_is start quorum leader ballot l ∙ rw (opened_some l e)))

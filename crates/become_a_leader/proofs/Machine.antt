@@ -3,13 +3,13 @@ use Rattle.std.specs.Prelude.{if◌then◌else◌}
 use mathlib.Core.Path.{◌≡◌, refl, sym, ap, ◌∙◌}
 use mathlib.Core.Bool.{Bool, true, false, ◌||◌, not, true≢false}
 use mathlib.Core.List.{List, [], ◌∷◌, ◌++◌, map}
-use mathlib.Core.Option.{Option, none, some}
+use Rattle.std.specs.Prelude.{Option, None, Some}
 use Prim.Native.Nat.{ℕ, zero, suc, ◌+◌, ◌-◌, ◌≤◌}
 use native.Mathlib.Nat.{not-suc-le-zero}
 use native.Mathlib.Omega.{arith}
 use borrow.Author.Tests.{le-ltb, eq-eqb, ne_eqb}
 use lib.Dec.{ltb, eqb}
-use lib.ListN.{length, take, drop, replicate, get_elem?, length-append, length-map, take-append-drop, length-drop}
+use lib.ListN.{length, take, drop, replicate, slice_get, length-append, length-map, take-append-drop, length-drop}
 use lib.Seq.{append_snoc, set-append_seam, length-take-le}
 use Rattle.words.specs.Choice.{if_none◌then◌else◌}
 use Rattle.items.specs.Item.{Lead, Prepare, Commit}
@@ -25,7 +25,7 @@ use Rattle.become_a_leader.proofs.Lists.{count_is}
 
 -- ---- the reads of slots in a row
 
-elem_seam : (before : List Instance) (i : Instance) (l : List Instance) → get_elem? (before ++ i ∷ l) (length before) ≡ some i
+elem_seam : (before : List Instance) (i : Instance) (l : List Instance) → slice_get (before ++ i ∷ l) (length before) ≡ Some i
 elem_seam [] i l = refl
 elem_seam (x ∷ before) i l = elem_seam before i l
 
@@ -34,7 +34,7 @@ module _ (r : Replica) where
   walk_of m l = released_from r.me.quorum r.conf.leader m l
 
   module _ (before : List Instance) (i : Instance) (l : List Instance) where
-    here_is : inst_at (with_insts (before ++ i ∷ l) r) (r.bar.start + length before) ≡ some i
+    here_is : inst_at (with_insts (before ++ i ∷ l) r) (r.bar.start + length before) ≡ Some i
     unfolding inst_at
     here_is =
         let z : r.bar.start + length before - r.bar.start ≡ length before = omega arith in
@@ -151,7 +151,7 @@ Settled (i ∷ l) = Settles i × Settled l
 anew_settles : (ballot : ℕ) (i : Instance) → Settles (reprepared ballot i)
 anew_settles ballot i = go (is_open i.status) refl
   where
-    go : (b : Bool) → is_open i.status ≡ b → Settles (if b then record { bal = ballot; status = Preparing; reqs = i.reqs; leader_bk = some 0; replica_bk = i.replica_bk } else i)
+    go : (b : Bool) → is_open i.status ≡ b → Settles (if b then record { bal = ballot; status = Preparing; reqs = i.reqs; leader_bk = Some 0; replica_bk = i.replica_bk } else i)
     go true e h = refl
     go false e h = absurd (true≢false (sym h ∙ e))
 
@@ -163,8 +163,8 @@ emptied_settles : (i : Instance) → Settles i → Settles (emptied i)
 emptied_settles i h = go i.replica_bk
   where
     go : (o : Option Book) → Settles (if_none o then i else λ b. with_replica_bk (with_holding [] b) i)
-    go none = h
-    go (some b) = h
+    go None = h
+    go (Some b) = h
 
 module _ (quorum : ℕ) (leader : Option ℕ) where
   released_settled : (m : ℕ) (l : List Instance) → Settled l → Settled (released_from quorum leader m l).insts

@@ -1,7 +1,7 @@
 -- Bridge: `become_a_leader` over what it reads of the replica: start, quorum, leader, ballot and the instances; tied
 -- to `become_a_leader` by proofs/Machine.
 use Rattle.std.specs.Prelude.{◌≡◌, true, List, [], ◌∷◌, ◌++◌, map, ℕ, zero, suc, ◌+◌, ◌-◌, ◌*◌, length, take, drop, if◌then◌else◌}
-use Rattle.std.proofs.Math.Option.{Option, some}
+use Rattle.std.specs.Prelude.{Option, Some}
 use Rattle.words.specs.Writes.{writes}
 use Rattle.items.specs.Item.{Item, Lead, Prelog, Prepare, encode}
 use Rattle.bodega.specs.Replica.{Instance, Preparing, is_open, null_instance}
@@ -56,7 +56,7 @@ pub record Opens (start n : ℕ) (s : List ℕ) (r : ℕ) (t : List ℕ) : Type 
 
 -- an open slot: at the ballot, Preparing, with empty acks
 abbrev pub prepare_short : ℕ → Short → Short
-prepare_short ballot x = record { bal = ballot; status = Preparing; leader_bk = some 0; replica_bk = x.replica_bk }
+prepare_short ballot x = record { bal = ballot; status = Preparing; leader_bk = Some 0; replica_bk = x.replica_bk }
 
 abbrev pub prepare_anew_short : ℕ → Short → Short
 prepare_anew_short ballot x = if is_open x.status then prepare_short ballot x else x

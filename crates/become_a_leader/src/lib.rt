@@ -3,7 +3,7 @@
 #![tactic(auto)]
 
 ghost use Rattle.std.specs.Prelude.{◌≡◌, ℕ, ◌+◌, ◌-◌, ◌*◌, ◌≤◌, ◌<◌, length, drop};
-ghost use Rattle.std.proofs.Math.Option.{Option, none};
+ghost use Rattle.std.specs.Prelude.{Option, None};
 ghost use Rattle.ids.specs.Leader.{leader_of};
 ghost use Rattle.ids.specs.Limits.{top};
 ghost use Rattle.layout.specs.Layout.{slot_places, held_places, slot_words};
@@ -13,8 +13,8 @@ ghost use Rattle.insts.specs.Slots.{short_at, batch_at, reads_at, inst_in, insts
 ghost use Rattle.advance_commit_bar.specs.Walk.{one_if_open};
 ghost use Rattle.become_a_leader.specs.StepUp.{slots_after, prepared_anew, released_from, step_up, StepsUp, Opens, prepare_short, Prelogs, Passes};
 
-use ids::{Ballot, Leader, Slot};
-use inst_cell::{Cell, LeaderBk, Status};
+use ids::{Ballot, Slot};
+use inst_cell::{Cell, Status};
 use items::Item;
 
 // How many slots are held after it: one more where none is open.
@@ -78,7 +78,7 @@ fn count_open(s: &[u64], start: Slot, n: usize) -> usize
 // How many reads the slots hold from the one of number `from` up to that of number `to`.
 fn count_held(s: &[u64], start: Slot, n: usize, from: usize, to: usize) -> usize
     requires { (start.0 ≤ top) × (from ≤ to) × (to ≤ n) × (n ≤ slot_places) × (slot_words ≤ length s.now) }
-    ensures { (result ≡ length (released_from 0 none (to - from) (drop from (insts_of start.0 n s.now))).items) × (result ≤ slot_places * held_places) }
+    ensures { (result ≡ length (released_from 0 None (to - from) (drop from (insts_of start.0 n s.now))).items) × (result ≤ slot_places * held_places) }
 {
     let mut k = from;
     let mut count = 0;
@@ -125,7 +125,7 @@ fn prepare(s: &mut [u64], c: usize, ballot: Ballot)
 {
     let old = insts::load(s, c);
     let status = Status::Preparing;
-    let leader_bk = LeaderBk::Some(0);
+    let leader_bk = Some(0);
     let replica_bk = old.replica_bk;
     let cell = Cell {
         bal: ballot,
@@ -190,7 +190,7 @@ fn release_all(
     from: usize,
     to: usize,
     quorum: u8,
-    leader: Leader,
+    leader: Option<Replica>,
 ) -> usize
     requires { (start.0 ≤ top) × (from ≤ to) × (to ≤ n) × (n ≤ slot_places) × (slot_words ≤ length s.old) × (place + length (released_from quorum (leader_of leader) (to - from) (drop from (insts_of start.0 n s.old))).items ≤ places area.old) }
     ensures { Passes (released_from quorum (leader_of leader) (to - from) (drop from (insts_of start.0 n s.old))) place start.0 n from s.old area.old result s.new area.new }
@@ -212,7 +212,7 @@ pub fn become_a_leader(
     start: Slot,
     n: usize,
     quorum: u8,
-    leader: Leader,
+    leader: Option<Replica>,
     ballot: Ballot,
 ) -> usize
     requires { (start.0 ≤ top) × (slots_after n (insts_of start.0 n s.old) ≤ slot_places) × (n ≤ slot_places) × (slot_words ≤ length s.old) × (length (step_up start.0 quorum (leader_of leader) ballot.0 (insts_of start.0 n s.old)).items ≤ places area.old) }

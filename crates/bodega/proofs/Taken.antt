@@ -2,7 +2,7 @@
 use Prim.Native.Nat.{ℕ, ◌<◌}
 use mathlib.Core.Bool.{true}
 use mathlib.Core.List.{List, [], ◌∷◌, ◌++◌}
-use mathlib.Core.Option.{Option, none, some}
+use Rattle.std.specs.Prelude.{Option, None, Some}
 use mathlib.Core.Path.{◌≡◌, refl}
 use native.Mathlib.Omega.{arith}
 use Rattle.roster_conf.specs.Ground.{Ground, Ascends}
@@ -11,9 +11,9 @@ use Rattle.bodega.specs.Replica.{Replica, Call, Heartbeat, Guard, Prepared, Reco
 use Rattle.bodega.specs.Grounds.{grounds}
 use Rattle.bodega.specs.Step.{effect, all_grounds, refusal_of, LowestFirst, step, step_by, is_taken}
 
-is_none : (o : Option ℕ) (d : Done) → is_taken (step_by o d) ≡ true → o ≡ none
-is_none none d h = refl
-is_none (some n) d h = let z : ◌≡◌ {A = ℕ} 0 1 = cc in absurd (zero_one z)
+is_none : (o : Option ℕ) (d : Done) → is_taken (step_by o d) ≡ true → o ≡ None
+is_none None d h = refl
+is_none (Some n) d h = let z : ◌≡◌ {A = ℕ} 0 1 = cc in absurd (zero_one z)
 
 pub taken_none : (r : Replica) (c : Call) (places : ℕ) → is_taken (step r c places) ≡ true → NoneApply (grounds r c)
 unfolding step refusal_of
@@ -56,6 +56,6 @@ both_positive : (gs hs : List Ground) → Positive gs → Positive hs → Positi
 both_positive [] hs p q = q
 both_positive (g ∷ gs) hs p q = (p.0, both_positive gs hs p.1 q)
 
-pub refused_not_0 : (r : Replica) (c : Call) (places n : ℕ) → refusal_of r c places ≡ some n → 0 < n
+pub refused_not_0 : (r : Replica) (c : Call) (places n : ℕ) → refusal_of r c places ≡ Some n → 0 < n
 unfolding refusal_of
 refused_not_0 r c places n e = not_0 (all_grounds r c places) n (both_positive (grounds r c) _ (positive r c) (omega arith, tt)) e

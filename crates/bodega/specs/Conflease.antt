@@ -1,6 +1,6 @@
 -- Trusted: conflease.rs, adoptions, guards, the reading bar, step-up (document 01, port order 5).
 use Rattle.std.specs.Prelude.{ℕ, suc, ◌+◌, ◌-◌, Bool, true, false, ◌&&◌, ◌||◌, not, List, [], ◌∷◌, ◌++◌, map, ltb, eqb, length, get_or, set, replicate, if◌then◌else◌}
-use Rattle.std.proofs.Math.Option.{some}
+use Rattle.std.specs.Prelude.{Some}
 use Rattle.rank.specs.Sort.{sort}
 use Rattle.ids.specs.Limits.{beyond}
 use Rattle.roster_conf.specs.Conf.{Conf}
@@ -53,7 +53,7 @@ last_open (i ∷ is) = if is_open i.status && not (any_open is) then 0 else suc 
 abbrev pub reprepared : ℕ → Instance → Instance
 reprepared bal i =
     if is_open i.status
-    then record { bal = bal; status = Preparing; reqs = i.reqs; leader_bk = some 0; replica_bk = i.replica_bk } else i
+    then record { bal = bal; status = Preparing; reqs = i.reqs; leader_bk = Some 0; replica_bk = i.replica_bk } else i
 
 unfoldable pub prelogs : ℕ → List Instance → List Item
 prelogs slot [] = []

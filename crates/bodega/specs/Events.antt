@@ -1,6 +1,6 @@
 -- Trusted: document 01, "Events taken": *prepared*, *record*, *bars*.
 use Rattle.std.specs.Prelude.{ℕ, zero, suc, ◌-◌, List, [], ◌∷◌, drop, if◌then◌else◌}
-use Rattle.std.proofs.Math.Option.{none, some}
+use Rattle.std.specs.Prelude.{None, Some}
 use Rattle.words.specs.Choice.{if_none◌then◌else◌}
 use Rattle.bodega.specs.Replica.{Request, new_book, Accepting, Executed, Instance, Replica, is_leader, inst_at, set_inst, pad, with_status, with_bal, with_bar, with_insts, with_highest_slot}
 use Rattle.bodega.specs.Localread.{refresh_highest_slot}
@@ -15,8 +15,8 @@ accepting r ballot reqs i =
       bal = ballot;
       status = Accepting;
       reqs = reqs;
-      leader_bk = if is_leader r then some 0 else none;
-      replica_bk = if is_leader r then i.replica_bk else if_none i.replica_bk then some new_book else λ b. some b;
+      leader_bk = if is_leader r then Some 0 else None;
+      replica_bk = if is_leader r then i.replica_bk else if_none i.replica_bk then Some new_book else λ b. Some b;
     }
 
 unfoldable pub recorded : Replica → ℕ → ℕ → List Request → Replica

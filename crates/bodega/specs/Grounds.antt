@@ -1,7 +1,7 @@
 -- Trusted: document 01, "Why a call is turned away": for each call the grounds that it can meet, by number. Those of
 -- lines (1), of lent buffers (2) and of roster edits (6, 7, 17) are not among them.
 use Rattle.std.specs.Prelude.{ℕ, ◌+◌, ◌-◌, Bool, true, false, ◌&&◌, ◌||◌, not, List, [], ◌∷◌, ltb, leb, eqb, length, take, if◌then◌else◌}
-use Rattle.std.proofs.Math.Option.{Option}
+use Rattle.std.specs.Prelude.{Option}
 use Rattle.roster_ranges.specs.Range.{Range}
 use Rattle.roster_conf.specs.Ground.{Ground, ◌when◌or◌}
 use Rattle.roster_conf.specs.Edit.{long_key}

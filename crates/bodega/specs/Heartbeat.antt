@@ -1,6 +1,6 @@
 -- Trusted: heartbeat.rs, ballots, heartbeats, commit notices (document 01, port order 6).
 use Rattle.std.specs.Prelude.{ℕ, zero, suc, ◌+◌, ◌-◌, ◌%◌, max, Bool, false, ◌&&◌, ◌||◌, not, List, [], ◌∷◌, ◌++◌, ltb, leb, eqb, get_or, take, drop, set, if◌then◌else◌}
-use Rattle.std.proofs.Math.Option.{Option}
+use Rattle.std.specs.Prelude.{Option}
 use Rattle.words.specs.Choice.{if_none◌then◌else◌}
 use Rattle.bitmap.specs.Bitmap.{every}
 use Rattle.roster_conf.specs.Conf.{Conf, into_filtered, same}

@@ -1,7 +1,7 @@
 -- Trusted: localread.rs, the commit condition, the highest slots, and reads at a responder (document 01, port order 4
 -- and 8).
 use Rattle.std.specs.Prelude.{ℕ, zero, suc, ◌+◌, max, Bool, true, false, ◌&&◌, ◌||◌, not, List, [], ◌∷◌, ◌++◌, map, ltb, leb, eqb, if◌then◌else◌}
-use Rattle.std.proofs.Math.Option.{Option, none, some}
+use Rattle.std.specs.Prelude.{Option, None, Some}
 use Rattle.words.specs.Text.{Bytes}
 use Rattle.words.specs.Choice.{if_none◌then◌else◌}
 use Rattle.keys.specs.Same.{same_bytes}
@@ -46,8 +46,8 @@ refresh_highest_slot slot [] hs = hs
 refresh_highest_slot slot (q ∷ qs) hs = refresh_highest_slot slot qs (if is_put q.command then raise slot q.key hs else hs)
 
 unfoldable pub highest_of : Bytes → List Highest → Option ℕ
-highest_of key [] = none
-highest_of key (h ∷ hs) = if same_bytes h.key key then some h.slot else highest_of key hs
+highest_of key [] = None
+highest_of key (h ∷ hs) = if same_bytes h.key key then Some h.slot else highest_of key hs
 
 -- ---- `inspect_highest_slot`, `inspect_latest_write`
 
@@ -59,12 +59,12 @@ is_bound quorum i =
 
 -- the value of the last Put of a key in a batch
 abbrev pub put_of : Bytes → Request → Command → Option ℕ
-put_of key q Get = none
-put_of key q (Put v) = if same_bytes q.key key then some v else none
+put_of key q Get = None
+put_of key q (Put v) = if same_bytes q.key key then Some v else None
 
 unfoldable pub last_put : Bytes → List Request → Option ℕ
-last_put key [] = none
-last_put key (q ∷ qs) = if_none last_put key qs then put_of key q q.command else λ v. some v
+last_put key [] = None
+last_put key (q ∷ qs) = if_none last_put key qs then put_of key q q.command else λ v. Some v
 
 -- The condition that settles a read, in the order in which the Rust comes to them.
 pub data Settled : Type 0 where
@@ -86,7 +86,7 @@ pub data Settled : Type 0 where
 
 -- the highest slot of a key, where it is not below start
 abbrev pub last_written : Replica → Bytes → Option ℕ
-last_written r key = if_none highest_of key r.highest_slot then none else λ slot. if ltb slot r.bar.start then none else some slot
+last_written r key = if_none highest_of key r.highest_slot then None else λ slot. if ltb slot r.bar.start then None else Some slot
 
 unfoldable pub inspect_highest_slot : Replica → Bytes → ℕ → Settled
 inspect_highest_slot r key slot =

@@ -1,7 +1,7 @@
 -- Trusted: document 01, "Marked P": one list.
 use Rattle.std.specs.Prelude.{ℕ, true, false, ◌≡◌, List, [], ◌∷◌}
 use Prim.Native.String.{String}
-use Rattle.std.proofs.Math.Option.{Option, none, some}
+use Rattle.std.specs.Prelude.{Option, None, Some}
 use Rattle.words.specs.Text.{bytes}
 use Rattle.keys.specs.Read.{read_key}
 use Rattle.roster_ranges.specs.Range.{Range}
@@ -38,13 +38,13 @@ two = set_full 4 empty
 
 unfoldable pub marked : List (Type 0)
 marked =
-    (reads "" ≡ none) ∷
-    (reads "kK007" ≡ some 7) ∷
-    (reads "k+7" ≡ some 7) ∷
-    (reads "+k7" ≡ none) ∷
-    (reads "k-0" ≡ none) ∷
-    (reads "340282366920938463463374607431768211455" ≡ some 340282366920938463463374607431768211455) ∷
-    (reads "340282366920938463463374607431768211456" ≡ none) ∷
+    (reads "" ≡ None) ∷
+    (reads "kK007" ≡ Some 7) ∷
+    (reads "k+7" ≡ Some 7) ∷
+    (reads "+k7" ≡ None) ∷
+    (reads "k-0" ≡ None) ∷
+    (reads "340282366920938463463374607431768211455" ≡ Some 340282366920938463463374607431768211455) ∷
+    (reads "340282366920938463463374607431768211456" ≡ None) ∷
     (p8.ranges ≡ span 10 29 6 ∷ []) ∷
     (p9.ranges ≡ span 10 14 6 ∷ span 15 16 1 ∷ span 17 29 6 ∷ []) ∷
     (p10.ranges ≡ span 10 29 0 ∷ []) ∷

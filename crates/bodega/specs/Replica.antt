@@ -2,8 +2,8 @@
 -- long struct the fields stand in groups: `bal_max_seen` is `.bal.max_seen`, `commit_bar` is `.bar.commit`,
 -- `start_slot` is `.bar.start`, `peer_accept_max` is `.peer_accept.max`.
 use Rattle.std.specs.Prelude.{ℕ, ◌+◌, ◌-◌, Bool, List, [], ◌++◌, ltb, eqb, length, replicate, set, if◌then◌else◌}
-use Rattle.std.proofs.Math.Option.{Option, none, some}
-use Rattle.std.proofs.Math.ListN.{get_elem?}
+use Rattle.std.specs.Prelude.{Option, None, Some}
+use Rattle.std.specs.Prelude.{slice_get}
 use Rattle.words.specs.Text.{Bytes}
 use Rattle.ids.specs.Limits.{beyond}
 use Rattle.items.specs.Item.{Item}
@@ -64,16 +64,16 @@ pub record Instance : Type 0 where
   pub replica_bk : Option Book
 
 abbrev pub null_instance : Instance
-null_instance = record { bal = 0; status = Null; reqs = []; leader_bk = none; replica_bk = none }
+null_instance = record { bal = 0; status = Null; reqs = []; leader_bk = None; replica_bk = None }
 
 abbrev pub with_status : Status → Instance → Instance
 with_status s i = record { bal = i.bal; status = s; reqs = i.reqs; leader_bk = i.leader_bk; replica_bk = i.replica_bk }
 
 abbrev pub with_leader_bk : ℕ → Instance → Instance
-with_leader_bk m i = record { bal = i.bal; status = i.status; reqs = i.reqs; leader_bk = some m; replica_bk = i.replica_bk }
+with_leader_bk m i = record { bal = i.bal; status = i.status; reqs = i.reqs; leader_bk = Some m; replica_bk = i.replica_bk }
 
 abbrev pub with_replica_bk : Book → Instance → Instance
-with_replica_bk b i = record { bal = i.bal; status = i.status; reqs = i.reqs; leader_bk = i.leader_bk; replica_bk = some b }
+with_replica_bk b i = record { bal = i.bal; status = i.status; reqs = i.reqs; leader_bk = i.leader_bk; replica_bk = Some b }
 
 abbrev pub with_holding : List ReadReq → Book → Book
 with_holding l b = record { bal = b.bal; notices = b.notices; holding = l }
@@ -178,7 +178,7 @@ abbrev pub end : Replica → ℕ
 end r = r.bar.start + length r.insts
 
 unfoldable pub inst_at : Replica → ℕ → Option Instance
-inst_at r slot = if ltb slot r.bar.start then none else get_elem? r.insts (slot - r.bar.start)
+inst_at r slot = if ltb slot r.bar.start then None else slice_get r.insts (slot - r.bar.start)
 
 unfoldable pub set_inst : ℕ → Instance → Replica → Replica
 set_inst slot i r = with_insts (set r.insts (slot - r.bar.start) i) r

@@ -1,6 +1,6 @@
 -- Trusted: a call at a replica, and a list of calls (document 01, "The list of calls").
 use Rattle.std.specs.Prelude.{ℕ, ◌≤◌, Bool, true, false, List, [], ◌∷◌, ◌++◌, ◌≡◌, ltb, length}
-use Rattle.std.proofs.Math.Option.{Option, none, some}
+use Rattle.std.specs.Prelude.{Option, None, Some}
 use Rattle.items.specs.Item.{Item}
 use Rattle.bodega.specs.Replica.{Replica, Call, Heartbeat, Guard, Prepared, Record, Reply, Notice, CommitNotice, Bars, Read, Release, Done, done}
 use Rattle.bodega.specs.Localread.{release_held_read_reqs}
@@ -34,7 +34,7 @@ refusal_of r c places = refusal (all_grounds r c places)
 
 -- "the lowest refusal number that applies"
 abbrev pub LowestFirst : Type 0
-LowestFirst = (r : Replica) (c : Call) (places n : ℕ) → refusal_of r c places ≡ some n
+LowestFirst = (r : Replica) (c : Call) (places n : ℕ) → refusal_of r c places ≡ Some n
     → Applies n (all_grounds r c places) × ((k : ℕ) → Applies k (all_grounds r c places) → n ≤ k)
 
 pub data Step : Type 0 where
@@ -42,8 +42,8 @@ pub data Step : Type 0 where
   Taken : Replica → List Item → Step
 
 abbrev pub step_by : Option ℕ → Done → Step
-step_by none d = Taken d.replica d.items
-step_by (some n) d = Refused n
+step_by None d = Taken d.replica d.items
+step_by (Some n) d = Refused n
 
 unfoldable pub step : Replica → Call → ℕ → Step
 step r c places = step_by (refusal_of r c places) (effect r c)

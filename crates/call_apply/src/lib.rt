@@ -7,7 +7,7 @@ ghost use Rattle.node.specs.View.{view, given_of};
 ghost use Rattle.call_apply.specs.Call.{call_of, ready_for};
 
 use ids::{Ballot, Replica, Slot};
-use node::{Answered, Node};
+use node::{Taken, Node};
 use roster_conf::RespondersConf;
 
 #[derive(Clone, Copy)]
@@ -33,8 +33,8 @@ pub fn apply(
     call: Call,
     rows: &[u64],
     text: &[u8],
-) -> Answered
-    ensures { Answers (ready_for call rows.now) view (call_of call rows.now text.now) node mem.old area.old (given_of result) mem.new area.new }
+) -> Result<Taken, Refusal>
+    ensures { Answers (ready_for call rows.now) view (call_of call rows.now text.now) node mem.old area.old (given_of node result) mem.new area.new }
 {
     match call {
         Call::Heartbeat(peer, ballot, attached, conf, commit, exec, snap) =>

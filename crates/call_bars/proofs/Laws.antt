@@ -3,12 +3,12 @@ use Rattle.std.specs.Prelude.{if◌then◌else◌}
 use mathlib.Core.Path.{◌≡◌, refl, sym, ap, ◌∙◌}
 use mathlib.Core.Bool.{Bool, true, false, not, ◌&&◌, ◌||◌}
 use mathlib.Core.List.{List, [], ◌∷◌}
-use mathlib.Core.Option.{some}
+use Rattle.std.specs.Prelude.{Some}
 use Prim.Native.Nat.{ℕ, zero, suc, ◌+◌, ◌-◌, ◌%◌, ◌≤◌, ◌<◌}
 use native.Mathlib.Numerals.{add-one}
 use native.Mathlib.Omega.{arith}
 use lib.Dec.{ltb, leb}
-use lib.ListN.{length, set, take, drop, get_elem?}
+use lib.ListN.{length, set, take, drop, slice_get}
 use borrow.Author.Tests.{lt-ltb, le-ltb, le-leb, lt-leb, ltb-false, leb-true, not-false}
 use Rattle.words.specs.Part.{part, splice, length_part}
 use Rattle.ids.specs.declared.Slot.{Slot}
@@ -158,7 +158,7 @@ module _ (start₀ commit₀ exec₀ : ℕ) (l : List Instance) (start accept co
 
 -- ---- the slots executed, one by one
 
-one_more : (i : ℕ) (l : List Instance) (v : Instance) → get_elem? (executed i l) i ≡ some v → set (executed i l) i (with_status Executed v) ≡ executed (suc i) l
+one_more : (i : ℕ) (l : List Instance) (v : Instance) → slice_get (executed i l) i ≡ Some v → set (executed i l) i (with_status Executed v) ≡ executed (suc i) l
 unfolding executed
 one_more zero [] v e = let z : ◌≡◌ {A = ℕ} 0 1 = cc in absurd (omega arith)
 one_more zero (a ∷ l) v e = let q : a ≡ v = cc in ap (λ (x : Instance). with_status Executed x ∷ l) (sym q)
@@ -176,7 +176,7 @@ execute_step {s = s} {t = t} start i h x p =
     record {
       insts = λ k a b.
           let was : insts_of start k t ≡ executed i (insts_of start k s) = x.insts k (omega arith) b in
-          let at : get_elem? (executed i (insts_of start k s)) i ≡ some (inst_in t ((start + i) % slot_places)) = ap (λ (l : List Instance). get_elem? l i) (sym was) ∙ inst_at_lem start k i t (omega arith) in
+          let at : slice_get (executed i (insts_of start k s)) i ≡ Some (inst_in t ((start + i) % slot_places)) = ap (λ (l : List Instance). slice_get l i) (sym was) ∙ inst_at_lem start k i t (omega arith) in
           moved start k i p (omega arith) b ∙ ap (λ (l : List Instance). set l i (with_status Executed (inst_in t ((start + i) % slot_places)))) was
           ∙ one_more i (insts_of start k s) (inst_in t ((start + i) % slot_places)) at ∙ ap (λ (j : ℕ). executed j (insts_of start k s)) (sym (add-one i));
       size = p.size ∙ x.size;

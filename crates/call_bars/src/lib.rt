@@ -12,24 +12,24 @@ ghost use Rattle.insts.specs.Slots.{insts_of};
 ghost use Rattle.node.specs.View.{view, ready, given_of};
 ghost use Rattle.call_bars.specs.Moves.{any_far, lowered, in_order, broken, bars_refusal, Executes};
 
-use ids::Slot;
+use ids::{Refusal, Slot};
 use inst_cell::Status;
-use node::{Answered, Node, is_ready};
+use node::{Taken, Node, is_ready};
 
 // 8.
 fn any_far(start: Slot, accept: Slot, commit: Slot, exec: Slot) -> bool
     ensures { result ≡ any_far start.0 accept.0 commit.0 exec.0 }
 {
-    if Slot::TOP < start.0 {
+    if Slot::TOP < start {
         return true;
     }
-    if Slot::TOP < accept.0 {
+    if Slot::TOP < accept {
         return true;
     }
-    if Slot::TOP < commit.0 {
+    if Slot::TOP < commit {
         return true;
     }
-    Slot::TOP < exec.0
+    Slot::TOP < exec
 }
 
 fn falls(start0: Slot, commit0: Slot, exec0: Slot, start: Slot, commit: Slot, exec: Slot) -> bool
@@ -110,17 +110,17 @@ fn bars_refusal(
     accept: Slot,
     commit: Slot,
     exec: Slot,
-) -> u64
+) -> Result<(), Refusal>
     requires { (start0.0 ≤ top) × (n ≤ slot_places) × (slot_words ≤ length s.now) }
-    ensures { result ≡ bars_refusal start0.0 commit0.0 exec0.0 (insts_of start0.0 n s.now) start.0 accept.0 commit.0 exec.0 }
+    ensures { refused_by result ≡ bars_refusal start0.0 commit0.0 exec0.0 (insts_of start0.0 n s.now) start.0 accept.0 commit.0 exec.0 }
 {
     if any_far(start, accept, commit, exec) {
-        return 8;
+        return Err(Refusal::SlotTooLarge);
     }
     if breaks(s, start0, commit0, exec0, n, start, commit, exec) {
-        return 11;
+        return Err(Refusal::BarsBroken);
     }
-    0
+    Ok(())
 }
 
 // The first n slots from start on become Executed.
@@ -144,14 +144,14 @@ pub fn bars(
     accept: Slot,
     commit: Slot,
     exec: Slot,
-) -> Answered
-    ensures { Answers ready view (Bars start.0 accept.0 commit.0 exec.0) node mem.old area.now (given_of result) mem.new area.now }
+) -> Result<Taken, Refusal>
+    ensures { Answers ready view (Bars start.0 accept.0 commit.0 exec.0) node mem.old area.now (given_of node result) mem.new area.now }
 {
     if !is_ready(node, mem) {
-        return Answered::refused(node, 2);
+        return Err(Refusal::NotReady);
     }
     let from = node.start_slot;
-    let refusal = bars_refusal(
+    bars_refusal(
         &mem[layout::SLOTS_AT..layout::WRITTEN_AT],
         from,
         node.commit_bar,
@@ -161,10 +161,7 @@ pub fn bars(
         accept,
         commit,
         exec,
-    );
-    if refusal != 0 {
-        return Answered::refused(node, refusal);
-    }
+    )?;
     execute(
         &mut mem[layout::SLOTS_AT..layout::WRITTEN_AT],
         from,
@@ -176,5 +173,5 @@ pub fn bars(
     next.commit_bar = commit;
     next.exec_bar = exec;
     next.slots = node.slots - (start.0 - from.0) as usize;
-    Answered::taken(next, 0)
+    Ok(Taken { node: next, count: 0 })
 }

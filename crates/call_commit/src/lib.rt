@@ -7,20 +7,20 @@ ghost use Rattle.bodega.specs.Answers.{Answers};
 ghost use Rattle.node.specs.View.{view, ready, given_of};
 ghost use Rattle.call_commit.specs.Commit.{commit_refusal};
 
-use ids::{Ballot, Replica, Slot};
-use node::{Answered, Node};
+use ids::{Ballot, Refusal, Replica, Slot};
+use node::{Taken, Node};
 
 // The number of the refusal, 0 where there is none.
-fn commit_refusal(population: u8, peer: Replica, bar: Slot) -> u64
-    ensures { result ≡ commit_refusal population peer.0 bar.0 }
+fn commit_refusal(population: u8, peer: Replica, bar: Slot) -> Result<(), Refusal>
+    ensures { refused_by result ≡ commit_refusal population peer.0 bar.0 }
 {
     if population <= peer.0 {
-        return 3;
+        return Err(Refusal::NoSuchReplica);
     }
-    if Slot::TOP < bar.0 {
-        return 8;
+    if Slot::TOP < bar {
+        return Err(Refusal::SlotTooLarge);
     }
-    0
+    Ok(())
 }
 
 pub fn commit(
@@ -30,18 +30,15 @@ pub fn commit(
     peer: Replica,
     ballot: Ballot,
     bar: Slot,
-) -> Answered
-    ensures { Answers ready view (CommitNotice peer.0 ballot.0 bar.0) node mem.old area.old (given_of result) mem.new area.new }
+) -> Result<Taken, Refusal>
+    ensures { Answers ready view (CommitNotice peer.0 ballot.0 bar.0) node mem.old area.old (given_of node result) mem.new area.new }
 {
     if !node::is_ready(node, mem) {
-        return Answered::refused(node, 2);
+        return Err(Refusal::NotReady);
     }
-    let refusal = commit_refusal(node.population, peer, bar);
-    if refusal != 0 {
-        return Answered::refused(node, refusal);
-    }
+    commit_refusal(node.population, peer, bar)?;
     if ballot.0 != node.bal_max_seen.0 {
-        return Answered::taken(node, 0);
+        return Ok(Taken { node, count: 0 });
     }
     let count = advance_commit_bar::count_commits(
         &mem[layout::SLOTS_AT..layout::WRITTEN_AT],
@@ -52,7 +49,7 @@ pub fn commit(
         bar,
     );
     if area.len() / 6 < count {
-        return Answered::refused(node, 20);
+        return Err(Refusal::AreaTooSmall);
     }
     advance_commit_bar::advance(
         &mut mem[layout::SLOTS_AT..layout::WRITTEN_AT],
@@ -64,5 +61,5 @@ pub fn commit(
         ballot,
         bar,
     );
-    Answered::taken(node, count)
+    Ok(Taken { node, count: count })
 }

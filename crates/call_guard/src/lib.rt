@@ -7,23 +7,23 @@ ghost use Rattle.bodega.specs.Answers.{Answers};
 ghost use Rattle.node.specs.View.{view, ready, given_of};
 ghost use Rattle.call_guard.specs.Guard.{guard_refusal};
 
-use ids::{Ballot, Replica, Slot};
-use node::{Answered, Node};
+use ids::{Ballot, Refusal, Replica, Slot};
+use node::{Taken, Node};
 
 // The number of a guard's refusal, 0 where there is none.
-fn guard_refusal(population: u8, id: Replica, peer: Replica, bar: Slot) -> u64
-    ensures { result ≡ guard_refusal population id.0 peer.0 bar.0 }
+fn guard_refusal(population: u8, id: Replica, peer: Replica, bar: Slot) -> Result<(), Refusal>
+    ensures { refused_by result ≡ guard_refusal population id.0 peer.0 bar.0 }
 {
     if population <= peer.0 {
-        return 3;
+        return Err(Refusal::NoSuchReplica);
     }
-    if Slot::TOP < bar.0 {
-        return 8;
+    if Slot::TOP < bar {
+        return Err(Refusal::SlotTooLarge);
     }
     if peer.0 == id.0 {
-        return 10;
+        return Err(Refusal::OwnGuard);
     }
-    0
+    Ok(())
 }
 
 pub fn guard(
@@ -33,16 +33,13 @@ pub fn guard(
     peer: Replica,
     number: Ballot,
     bar: Slot,
-) -> Answered
-    ensures { Answers ready view (Guard peer.0 number.0 bar.0) node mem.old area.now (given_of result) mem.new area.now }
+) -> Result<Taken, Refusal>
+    ensures { Answers ready view (Guard peer.0 number.0 bar.0) node mem.old area.now (given_of node result) mem.new area.now }
 {
     if !node::is_ready(node, mem) {
-        return Answered::refused(node, 2);
+        return Err(Refusal::NotReady);
     }
-    let refusal = guard_refusal(node.population, node.id, peer, bar);
-    if refusal != 0 {
-        return Answered::refused(node, refusal);
-    }
+    guard_refusal(node.population, node.id, peer, bar)?;
     let ballot = node.bal_max_seen;
     let old = node.peer_accept_max;
     let max = peer_accept_bar::guard_accept_bar(
@@ -57,5 +54,5 @@ pub fn guard(
     );
     let mut next = node;
     next.peer_accept_max = max;
-    Answered::taken(next, 0)
+    Ok(Taken { node: next, count: 0 })
 }

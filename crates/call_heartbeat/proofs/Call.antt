@@ -3,7 +3,7 @@ use Rattle.std.specs.Prelude.{if◌then◌else◌}
 use mathlib.Core.Path.{◌≡◌, refl, sym, ap, ◌∙◌}
 use mathlib.Core.Bool.{Bool, true, false, not, ◌&&◌, ◌||◌}
 use mathlib.Core.List.{List}
-use mathlib.Core.Option.{some}
+use Rattle.std.specs.Prelude.{Some}
 use Prim.Native.Nat.{ℕ, ◌+◌, ◌*◌, ◌≤◌, ◌<◌}
 use native.Mathlib.Omega.{arith}
 use lib.Dec.{leb}
@@ -164,13 +164,13 @@ or_left false b e = refl
 
 -- a step-up that 15 does not turn away has room
 slots_left : (r : machine.Replica) (peer ballot : ℕ) (c : Conf) (k : ℕ) → length r.insts ≡ k → k ≤ 32 → r.bal.max_seen ≤ ballot → installs r peer ballot c ≡ true
-    → leads c r.me.id ≡ true → appends r peer ballot (some c) && no_room r ≡ false → slots_after k r.insts ≤ 32
+    → leads c r.me.id ≡ true → appends r peer ballot (Some c) && no_room r ≡ false → slots_after k r.insts ≤ 32
 slots_left r peer ballot c k e w h i l s = go (any_open r.insts) refl
   where
     go : (o : Bool) → any_open r.insts ≡ o → slots_after k r.insts ≤ 32
     go true q = rw q w
     go false q =
-        let a : appends r peer ballot (some c) ≡ true = simp (le-leb r.bal.max_seen ballot h, i, l, q) in
+        let a : appends r peer ballot (Some c) ≡ true = simp (le-leb r.bal.max_seen ballot h, i, l, q) in
         let n : no_room r ≡ false = ap (λ (x : Bool). x && no_room r) (sym a) ∙ s in
         let f = leb-false 32 (length r.insts) (or_left (leb 32 (length r.insts)) (far (machine.end r)) n) in
         rw q (omega (arith, f, e))

@@ -3,7 +3,7 @@ use Rattle.std.specs.Prelude.{if◌then◌else◌}
 use mathlib.Core.Path.{◌≡◌, refl, sym, ap, ◌∙◌}
 use mathlib.Core.Bool.{Bool, true, false, not, ◌&&◌, ◌||◌}
 use mathlib.Core.List.{List, []}
-use mathlib.Core.Option.{Option, some}
+use Rattle.std.specs.Prelude.{Option, Some}
 use Prim.Native.Nat.{ℕ, ◌+◌, ◌*◌, ◌≤◌, ◌<◌}
 use native.Mathlib.Omega.{arith}
 use lib.Dec.{ltb, leb}
@@ -87,7 +87,7 @@ module _ (t : Bool) (c : Conf) where
   pub no_rows : not t ≡ true → false ≡ unformed (carried t c)
   no_rows f = sym (simp (not-true t f))
 
-  pub rows_are : not t ≡ false → (u : Bool) → u ≡ unformed (some c) → u ≡ unformed (carried t c)
+  pub rows_are : not t ≡ false → (u : Bool) → u ≡ unformed (Some c) → u ≡ unformed (carried t c)
   rows_are f u e = e ∙ sym (simp (not-false t f))
 
 module _ (population peer : ℕ) (t : Bool) (c : RespondersConf) where
@@ -101,14 +101,14 @@ module _ (population peer : ℕ) (t : Bool) (c : RespondersConf) where
     pub no_roster : not t ≡ true → Foreign false
     no_roster f rows = sym (simp (lt-leb population peer h, not-true t f))
 
-    pub roster_leader : not t ≡ false → (u : Bool) → ((rows : List ℕ) → u ≡ foreign_leader population (some (roster_of c rows))) → Foreign u
+    pub roster_leader : not t ≡ false → (u : Bool) → ((rows : List ℕ) → u ≡ foreign_leader population (Some (roster_of c rows))) → Foreign u
     roster_leader f u e rows = e rows ∙ sym (simp (lt-leb population peer h, not-false t f))
 
 module _ (population : ℕ) (t : Bool) (c : Conf) where
   pub no_masks : not t ≡ true → false ≡ foreign_mask population (carried t c)
   no_masks f = sym (simp (not-true t f))
 
-  pub masks_are : not t ≡ false → (u : Bool) → u ≡ foreign_mask population (some c) → u ≡ foreign_mask population (carried t c)
+  pub masks_are : not t ≡ false → (u : Bool) → u ≡ foreign_mask population (Some c) → u ≡ foreign_mask population (carried t c)
   masks_are f u e = e ∙ sym (simp (not-false t f))
 
 -- ---- 15

@@ -1,7 +1,7 @@
 -- Trusted: the roster that a heartbeat carries, and whether its words are whole. What the code tests is a bridge, tied
 -- to `grounds` by proofs/Refusals.
 use Rattle.std.specs.Prelude.{◌≡◌, Bool, true, ◌&&◌, ◌||◌, not, List, [], ℕ, ◌≤◌, ltb, leb, if◌then◌else◌}
-use Rattle.std.proofs.Math.Option.{Option, none, some}
+use Rattle.std.specs.Prelude.{Option, None, Some}
 use Rattle.roster_conf.specs.Conf.{Conf, leads}
 use Rattle.roster_conf.specs.Edits.{view as roster_of}
 use Rattle.roster_conf.specs.Ground.{Ground, ◌when◌or◌}
@@ -21,7 +21,7 @@ fitting attached count rows = not attached || whole count rows
 
 -- a roster that is not attached is not looked at
 abbrev pub carried : Bool → Conf → Option Conf
-carried attached c = if attached then some c else none
+carried attached c = if attached then Some c else None
 
 -- "12. A heartbeat has a higher ballot and no roster"
 abbrev pub lacks_roster : ℕ → ℕ → Bool → Bool

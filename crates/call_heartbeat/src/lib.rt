@@ -13,8 +13,8 @@ ghost use Rattle.node.specs.View.{view, ready, given_of, lowest};
 ghost use Rattle.heard_new_conf.specs.Does.{Does, whole};
 ghost use Rattle.call_heartbeat.specs.Heartbeat.{fitting, carried, lacks_roster, early, appending, conf_by, heard_by, Installable};
 
-use ids::{Ballot, Replica, Slot};
-use node::{Answered, Node};
+use ids::{Ballot, Refusal, Replica, Slot};
+use node::{Taken, Node};
 use roster_conf::RespondersConf;
 
 // ---- the bars
@@ -31,12 +31,12 @@ fn heard_bars(
     commit: Slot,
     exec: Slot,
     snap: Slot,
-) -> Answered
+) -> Result<Taken, Refusal>
     requires { (ready node mem.old ≡ true) × (peer.0 < node.population) × (place + length (heard_bars peer.0 ballot.0 commit.0 exec.0 snap.0 (view node mem.old)).items ≤ places area.old) }
-    ensures { Does (heard_bars peer.0 ballot.0 commit.0 exec.0 snap.0 (view node mem.old)) place mem.old area.old (given_of result) mem.new area.new }
+    ensures { Does (heard_bars peer.0 ballot.0 commit.0 exec.0 snap.0 (view node mem.old)) place mem.old area.old (given_of node result) mem.new area.new }
 {
     if exec.0 < node.exec_bar.0 {
-        return Answered::taken(node, 0);
+        return Ok(Taken { node, count: 0 });
     }
     let end = advance_commit_bar::advance(
         &mut mem[layout::SLOTS_AT..layout::WRITTEN_AT],
@@ -61,7 +61,7 @@ fn heard_bars(
     );
     let mut next = node;
     next.snap_bar = heard;
-    Answered::taken(next, end - place)
+    Ok(Taken { node: next, count: end - place })
 }
 
 // How many items that has.
@@ -178,13 +178,13 @@ fn is_misfit(population: u8, attached: bool, conf: RespondersConf, rows: &[u64])
 fn is_far(commit: Slot, exec: Slot, snap: Slot) -> bool
     ensures { result ≡ far commit.0 || far exec.0 || far snap.0 }
 {
-    if Slot::TOP < commit.0 {
+    if Slot::TOP < commit {
         return true;
     }
-    if Slot::TOP < exec.0 {
+    if Slot::TOP < exec {
         return true;
     }
-    Slot::TOP < snap.0
+    Slot::TOP < snap
 }
 
 // 12.
@@ -245,26 +245,26 @@ fn early_refusal(
     commit: Slot,
     exec: Slot,
     snap: Slot,
-) -> u64
+) -> Result<(), Refusal>
     requires { fitting attached conf.count rows.now ≡ true }
-    ensures { result ≡ lowest (early population seen.0 peer.0 ballot.0 attached (roster_of conf rows.now) commit.0 exec.0 snap.0) }
+    ensures { refused_by result ≡ lowest (early population seen.0 peer.0 ballot.0 attached (roster_of conf rows.now) commit.0 exec.0 snap.0) }
 {
     if is_unformed(attached, conf, rows) {
-        return 2;
+        return Err(Refusal::NotReady);
     }
     if is_foreign(population, peer, attached, conf) {
-        return 3;
+        return Err(Refusal::NoSuchReplica);
     }
     if is_misfit(population, attached, conf, rows) {
-        return 4;
+        return Err(Refusal::MaskTooWide);
     }
     if is_far(commit, exec, snap) {
-        return 8;
+        return Err(Refusal::SlotTooLarge);
     }
     if lacks_roster(seen, ballot, attached) {
-        return 12;
+        return Err(Refusal::RosterMissing);
     }
-    0
+    Ok(())
 }
 
 // ---- `heard_heartbeat`
@@ -302,12 +302,12 @@ fn heard_conf(
     installing: bool,
     conf: RespondersConf,
     rows: &[u64],
-) -> Answered
+) -> Result<Taken, Refusal>
     requires { (ready node mem.old ≡ true) × Installable installing node mem.old conf rows.now × (length (conf_by installing (roster_of conf rows.now) ballot.0 (view node mem.old)).items ≤ places area.old) }
-    ensures { Does (conf_by installing (roster_of conf rows.now) ballot.0 (view node mem.old)) 0 mem.old area.old (given_of result) mem.new area.new }
+    ensures { Does (conf_by installing (roster_of conf rows.now) ballot.0 (view node mem.old)) 0 mem.old area.old (given_of node result) mem.new area.new }
 {
     if !installing {
-        return Answered::taken(node, 0);
+        return Ok(Taken { node, count: 0 });
     }
     heard_new_conf::heard_new_conf(node, mem, area, ballot, conf, rows)
 }
@@ -325,9 +325,9 @@ fn heard(
     commit: Slot,
     exec: Slot,
     snap: Slot,
-) -> Answered
+) -> Result<Taken, Refusal>
     requires { (ready node mem.old ≡ true) × (peer.0 < node.population) × Installable installing node mem.old conf rows.now × (length (heard_by installing (roster_of conf rows.now) peer.0 ballot.0 commit.0 exec.0 snap.0 (view node mem.old)).items ≤ places area.old) }
-    ensures { Does (heard_by installing (roster_of conf rows.now) peer.0 ballot.0 commit.0 exec.0 snap.0 (view node mem.old)) 0 mem.old area.old (given_of result) mem.new area.new }
+    ensures { Does (heard_by installing (roster_of conf rows.now) peer.0 ballot.0 commit.0 exec.0 snap.0 (view node mem.old)) 0 mem.old area.old (given_of node result) mem.new area.new }
 {
     let first = heard_conf(node, mem, area, ballot, installing, conf, rows);
     let adopted = first.node;
@@ -343,7 +343,7 @@ fn heard(
         snap,
     );
     let next = second.node;
-    Answered::taken(next, first.count + second.count)
+    Ok(Taken { node: next, count: first.count + second.count })
 }
 
 pub fn heartbeat(
@@ -358,17 +358,17 @@ pub fn heartbeat(
     commit: Slot,
     exec: Slot,
     snap: Slot,
-) -> Answered
-    ensures { Answers (λ n m. ready n m && fitting attached conf.count rows.now) view (Heartbeat peer.0 ballot.0 (carried attached (roster_of conf rows.now)) commit.0 exec.0 snap.0) node mem.old area.old (given_of result) mem.new area.new }
+) -> Result<Taken, Refusal>
+    ensures { Answers (λ n m. ready n m && fitting attached conf.count rows.now) view (Heartbeat peer.0 ballot.0 (carried attached (roster_of conf rows.now)) commit.0 exec.0 snap.0) node mem.old area.old (given_of node result) mem.new area.new }
 {
     if !node::is_ready(node, mem) {
-        return Answered::refused(node, 2);
+        return Err(Refusal::NotReady);
     }
     if !is_fitting(attached, conf, rows) {
-        return Answered::refused(node, 2);
+        return Err(Refusal::NotReady);
     }
     let seen = node.bal_max_seen;
-    let refusal = early_refusal(
+    early_refusal(
         node.population,
         seen,
         peer,
@@ -379,20 +379,17 @@ pub fn heartbeat(
         commit,
         exec,
         snap,
-    );
-    if refusal != 0 {
-        return Answered::refused(node, refusal);
-    }
+    )?;
     let installing = is_installing(node, mem, peer, ballot, attached, conf, rows);
     if lacks_slot(node, mem, ballot, installing, conf) {
-        return Answered::refused(node, 15);
+        return Err(Refusal::WindowFull);
     }
     if ballot.0 < node.bal_max_seen.0 {
-        return Answered::taken(node, 0);
+        return Ok(Taken { node, count: 0 });
     }
     let count = count_items(node, mem, ballot, installing, conf, commit, exec);
     if area.len() / 6 < count {
-        return Answered::refused(node, 20);
+        return Err(Refusal::AreaTooSmall);
     }
     heard(
         node, mem, area, peer, ballot, installing, conf, rows, commit, exec, snap,

@@ -3,7 +3,7 @@ use Rattle.std.specs.Prelude.{if◌then◌else◌}
 use mathlib.Core.Path.{◌≡◌, refl, sym, ap, ◌∙◌}
 use mathlib.Core.Bool.{Bool, true, false, not, ◌&&◌, true≢false}
 use mathlib.Core.List.{List, [], ◌∷◌}
-use mathlib.Core.Option.{Option}
+use Rattle.std.specs.Prelude.{Option}
 use Prim.Native.Nat.{ℕ, ◌+◌, ◌-◌, ◌*◌, ◌/◌, ◌≤◌, ◌<◌}
 use native.Mathlib.Decide.{dec_lt}
 use native.Mathlib.Omega.{arith}
@@ -24,8 +24,6 @@ use Rattle.roster_conf.specs.Edit.{IntoFiltered, edit, edit_result, taken, groun
 use Rattle.roster_conf.specs.Edits.{view as roster_of, due as edit-due, Leaves, Edits}
 use Rattle.roster_conf.specs.Ground.{◌when◌or◌}
 use Rattle.roster_conf.specs.declared.RespondersConf.{RespondersConf}
-use Rattle.roster_conf.specs.declared.Edited.{Edited}
-use Rattle.roster_conf.specs.declared.Edited.TheVariants.{Taken, Refused}
 use Rattle.bodega.specs.Replica as machine
 use Rattle.bodega.specs.Heartbeat.{check_ballot}
 use Rattle.bodega.specs.Messages.{noticed, handle_msg_accept_notice}
@@ -40,6 +38,8 @@ use Rattle.node.specs.View.{view, ready, lowest, leads_it}
 use Rattle.node.proofs.Calls.{Ready, is_ready, made_ready, refused_by, few_places, taken_with, taken_by, none_applies}
 use Rattle.node.proofs.Frames.{rows_back, rows_size_lem, rows_beyond, slots_back, slots_size, slots_beyond}
 use Rattle.call_notice.specs.Notice.{notice_refusal, step_down, StepsDown}
+use Rattle.std.specs.Prelude.{Result, Ok, Err}
+use Rattle.ids.specs.declared.Refusal.{Refusal}
 
 -- ---- the tests
 
@@ -78,13 +78,13 @@ module _ (c : RespondersConf) (s : List ℕ) (p id : ℕ) (w : (id < p) × (p �
   unfolding edit-due edit_result edit edit-grounds
   due_is = simp (le-leb roster_words (length s) w.3, le-leb c.count 64 w.2, le-leb 1 p (omega (arith, w.0)), le-leb p 64 w.1, lt-leb p id w.0)
 
-  module _ (r : Edited) (after : List ℕ) (x : Edits (IntoFiltered id) p c s r after) where
-    pub filter_taken : (d : RespondersConf) → length after ≡ length s → r ≡ Taken d → (roster_of d after ≡ into_filtered id (roster_of c s)) × (d.count ≤ 64) × (length after ≡ length s)
+  module _ (r : Result RespondersConf Refusal) (after : List ℕ) (x : Edits (IntoFiltered id) p c s r after) where
+    pub filter_taken : (d : RespondersConf) → length after ≡ length s → r ≡ Ok d → (roster_of d after ≡ into_filtered id (roster_of c s)) × (d.count ≤ 64) × (length after ≡ length s)
     filter_taken d l e =
         let y : Leaves (into_filtered id (roster_of c s)) s d after = rw (due_is, e) at x in
         (y.roster, y.few, l)
 
-    pub filter_never : {A : Type 0} (k : ℕ) → r ≡ Refused k → A
+    pub filter_never : {A : Type 0} (k : ℕ) → r ≡ Err k → A
     filter_never k e = absurd (rw (due_is, e) at x)
 
 -- ---- a leader that steps down

@@ -12,10 +12,10 @@ ghost use Rattle.bodega.specs.Answers.{Answers};
 ghost use Rattle.node.specs.View.{view, ready, given_of, leads_it};
 ghost use Rattle.call_notice.specs.Notice.{notice_refusal, step_down, StepsDown};
 
-use ids::{Ballot, Replica, Slot};
+use ids::{Ballot, Refusal, Replica, Slot};
 use items::Item;
-use node::{Answered, Node};
-use roster_conf::{Edited, RespondersConf};
+use node::{Taken, Node};
+use roster_conf::RespondersConf;
 
 // Whether a notice is of the ballot of a replica that does not lead.
 fn is_current(node: Node, ballot: Ballot) -> bool
@@ -28,23 +28,23 @@ fn is_current(node: Node, ballot: Ballot) -> bool
 }
 
 // The number of a notice's refusal but 20, 0 where there is none.
-fn notice_refusal(population: u8, current: bool, start: Slot, peer: Replica, slot: Slot) -> u64
+fn notice_refusal(population: u8, current: bool, start: Slot, peer: Replica, slot: Slot) -> Result<(), Refusal>
     requires { start.0 ≤ top }
-    ensures { result ≡ notice_refusal population current start.0 peer.0 slot.0 }
+    ensures { refused_by result ≡ notice_refusal population current start.0 peer.0 slot.0 }
 {
     if population <= peer.0 {
-        return 3;
+        return Err(Refusal::NoSuchReplica);
     }
-    if Slot::TOP < slot.0 {
-        return 8;
+    if Slot::TOP < slot {
+        return Err(Refusal::SlotTooLarge);
     }
     if !current {
-        return 0;
+        return Ok(());
     }
     if start.0 + Node::WINDOW as u64 <= slot.0 {
-        return 15;
+        return Err(Refusal::WindowFull);
     }
-    0
+    Ok(())
 }
 
 // The roster without a replica.
@@ -54,8 +54,8 @@ fn filtered(conf: RespondersConf, rows: &mut [u64], population: u8, id: Replica)
 {
     let edited = conf.into_filtered(rows, population, id);
     match edited {
-        Edited::Taken(d) => d,
-        Edited::Refused(_n) => conf,
+        Ok(d) => d,
+        Err(_n) => conf,
     }
 }
 
@@ -85,11 +85,11 @@ pub fn notice(
     peer: Replica,
     slot: Slot,
     ballot: Ballot,
-) -> Answered
-    ensures { Answers ready view (Notice peer.0 slot.0 ballot.0) node mem.old area.old (given_of result) mem.new area.new }
+) -> Result<Taken, Refusal>
+    ensures { Answers ready view (Notice peer.0 slot.0 ballot.0) node mem.old area.old (given_of node result) mem.new area.new }
 {
     if !node::is_ready(node, mem) {
-        return Answered::refused(node, 2);
+        return Err(Refusal::NotReady);
     }
     let conf = node.bodega_conf;
     let leader = conf.leader;
@@ -97,17 +97,14 @@ pub fn notice(
     let seen = node.bal_max_seen;
     let start = node.start_slot;
     let current = is_current(node, ballot);
-    let refusal = notice_refusal(node.population, current, start, peer, slot);
-    if refusal != 0 {
-        return Answered::refused(node, refusal);
-    }
+    notice_refusal(node.population, current, start, peer, slot)?;
     if slot.0 < start.0 {
-        return Answered::taken(node, 0);
+        return Ok(Taken { node, count: 0 });
     }
     if seen.0 < ballot.0 {
         let led = node::is_leader(node);
         if !put_lead(area, led) {
-            return Answered::refused(node, 20);
+            return Err(Refusal::AreaTooSmall);
         }
         let without = filtered(
             conf,
@@ -118,10 +115,10 @@ pub fn notice(
         let mut next = node;
         next.bodega_conf = without;
         next.bal_max_seen = ballot;
-        return Answered::taken(next, lead_count(led));
+        return Ok(Taken { node: next, count: lead_count(led) });
     }
     if !current {
-        return Answered::taken(node, 0);
+        return Ok(Taken { node, count: 0 });
     }
     let k = (slot.0 - start.0) as usize;
     let held = node.slots;
@@ -136,7 +133,7 @@ pub fn notice(
         ballot,
     );
     if area.len() / 6 < due {
-        return Answered::refused(node, 20);
+        return Err(Refusal::AreaTooSmall);
     }
     let count = accept_notice_at::notice_at(
         &mut mem[layout::SLOTS_AT..layout::WRITTEN_AT],
@@ -151,5 +148,5 @@ pub fn notice(
     );
     let mut next = node;
     next.slots = accept_notice_at::held_after(held, k);
-    Answered::taken(next, count)
+    Ok(Taken { node: next, count: count })
 }

@@ -1,6 +1,6 @@
 -- Bridge: *prepared*, what the code tests; tied to `grounds` by proofs/Laws.
 use Rattle.std.specs.Prelude.{Bool, ◌&&◌, not, ℕ, eqb}
-use Rattle.std.proofs.Math.Option.{Option}
+use Rattle.std.specs.Prelude.{Option}
 use Rattle.node.specs.View.{leads_it}
 
 -- ground 13 does not apply

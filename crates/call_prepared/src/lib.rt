@@ -8,8 +8,8 @@ ghost use Rattle.bodega.specs.Answers.{Answers};
 ghost use Rattle.node.specs.View.{view, ready, given_of};
 ghost use Rattle.call_prepared.specs.Prepared.{may_prepare};
 
-use ids::Ballot;
-use node::{Answered, Node};
+use ids::{Ballot, Refusal};
+use node::{Taken, Node};
 
 fn may_prepare(node: Node, ballot: Ballot) -> bool
     ensures { result ≡ may_prepare (leader_of node.bodega_conf.leader) node.id.0 node.bal_prep_sent.0 ballot.0 }
@@ -24,16 +24,16 @@ fn may_prepare(node: Node, ballot: Ballot) -> bool
     ballot.0 == sent.0
 }
 
-pub fn prepared(node: Node, mem: &[u64], area: &[u64], ballot: Ballot) -> Answered
-    ensures { Answers ready view (Prepared ballot.0) node mem.now area.now (given_of result) mem.now area.now }
+pub fn prepared(node: Node, mem: &[u64], area: &[u64], ballot: Ballot) -> Result<Taken, Refusal>
+    ensures { Answers ready view (Prepared ballot.0) node mem.now area.now (given_of node result) mem.now area.now }
 {
     if !node::is_ready(node, mem) {
-        return Answered::refused(node, 2);
+        return Err(Refusal::NotReady);
     }
     if !may_prepare(node, ballot) {
-        return Answered::refused(node, 13);
+        return Err(Refusal::BallotNotCurrent);
     }
     let mut next = node;
     next.bal_prepared = ballot;
-    Answered::taken(next, 0)
+    Ok(Taken { node: next, count: 0 })
 }

@@ -4,7 +4,7 @@ use Rattle.std.specs.Prelude.{if◌then◌else◌}
 use mathlib.Core.Path.{◌≡◌, refl, sym, ap, ◌∙◌}
 use mathlib.Core.Bool.{Bool, true, false, not}
 use mathlib.Core.List.{List, [], ◌∷◌, ◌++◌}
-use mathlib.Core.Option.{Option, none, some}
+use Rattle.std.specs.Prelude.{Option, None, Some}
 use Prim.Native.Nat.{ℕ, ◌+◌, ◌%◌, ◌≤◌, ◌<◌}
 use native.Mathlib.Decide.{dec_lt}
 use native.Mathlib.Omega.{arith}
@@ -18,8 +18,6 @@ use Rattle.words.specs.Writes.{writes}
 use Rattle.ids.specs.declared.Slot.{Slot}
 use Rattle.key_words.specs.Key.{bytes_of, key_in, at_most_48}
 use Rattle.key_words.specs.declared.Key.{Key}
-use Rattle.key_words.specs.declared.Packed.{Packed}
-use Rattle.key_words.specs.declared.Packed.TheVariants as packed
 use Rattle.items.specs.Item.{Item, item_of, encode, encode_snoc, places}
 use Rattle.items.specs.Area.{Put, put_item}
 use Rattle.items.specs.declared.Item as code
@@ -54,21 +52,21 @@ slots_long n m r = rw (length_part m slots_at slot_words (omega (arith, r.long))
 
 -- ---- a key of at most 48 bytes
 
-short_key : (k key : List ℕ) → some k ≡ at_most_48 key → (k ≡ key) × (ltb 48 (length key) ≡ false)
+short_key : (k key : List ℕ) → Some k ≡ at_most_48 key → (k ≡ key) × (ltb 48 (length key) ≡ false)
 short_key k key e = elim (dec_lt 48 (length key)) [
-  | yes h ↦ let f : some k ≡ none = e ∙ rw (lt-leb (length key) 48 h) in let z : ◌≡◌ {A = ℕ} 0 1 = cc in absurd (omega arith)
+  | yes h ↦ let f : Some k ≡ None = e ∙ rw (lt-leb (length key) 48 h) in let z : ◌≡◌ {A = ℕ} 0 1 = cc in absurd (omega arith)
   | no h ↦
       let l : length key ≤ 48 = omega arith in
-      let f : some k ≡ some key = e ∙ rw (le-leb (length key) 48 l) in
+      let f : Some k ≡ Some key = e ∙ rw (le-leb (length key) 48 l) in
       (cc, le-ltb 48 (length key) l)
 ]
 
-long_key_lem : (key : List ℕ) → none ≡ at_most_48 key → ltb 48 (length key) ≡ true
+long_key_lem : (key : List ℕ) → None ≡ at_most_48 key → ltb 48 (length key) ≡ true
 long_key_lem key e = elim (dec_lt 48 (length key)) [
   | yes h ↦ lt-ltb 48 (length key) h
   | no h ↦
       let l : length key ≤ 48 = omega arith in
-      let f : none ≡ some key = e ∙ rw (le-leb (length key) 48 l) in
+      let f : None ≡ Some key = e ∙ rw (le-leb (length key) 48 l) in
       let z : ◌≡◌ {A = ℕ} 0 1 = cc in absurd (omega arith)
 ]
 
@@ -98,28 +96,28 @@ module _ (r : machine.Replica) (slot : ℕ) (q : machine.ReadReq) where
       machine.set_inst slot (machine.with_replica_bk (machine.with_holding (b.holding ++ (q ∷ [])) b) i) r
 
   put_last : (bal : ℕ) (status : machine.Status) (acks : Option ℕ) (o : Option Notices) (reqs : List machine.Request) (reads : List machine.ReadReq) (b : machine.Book)
-      → book_of o reads ≡ some b
+      → book_of o reads ≡ Some b
       → machine.set_inst slot (inst_of (record { bal = bal; status = status; leader_bk = acks; replica_bk = o }) reqs (reads ++ (q ∷ []))) r
-      ≡ held_in (some (inst_of (record { bal = bal; status = status; leader_bk = acks; replica_bk = o }) reqs reads))
-  put_last bal status acks none reqs reads b e = let z : ◌≡◌ {A = ℕ} 0 1 = cc in absurd (omega arith)
-  put_last bal status acks (some x) reqs reads b e = refl
+      ≡ held_in (Some (inst_of (record { bal = bal; status = status; leader_bk = acks; replica_bk = o }) reqs reads))
+  put_last bal status acks None reqs reads b e = let z : ◌≡◌ {A = ℕ} 0 1 = cc in absurd (omega arith)
+  put_last bal status acks (Some x) reqs reads b e = refl
 
-  hold_is : (x : Short) (reqs : List machine.Request) (reads : List machine.ReadReq) (b : machine.Book) → machine.inst_at r slot ≡ some (inst_of x reqs reads)
-      → book_of x.replica_bk reads ≡ some b → machine.set_inst slot (inst_of x reqs (reads ++ (q ∷ []))) r ≡ local.hold_read slot q r
+  hold_is : (x : Short) (reqs : List machine.Request) (reads : List machine.ReadReq) (b : machine.Book) → machine.inst_at r slot ≡ Some (inst_of x reqs reads)
+      → book_of x.replica_bk reads ≡ Some b → machine.set_inst slot (inst_of x reqs (reads ++ (q ∷ []))) r ≡ local.hold_read slot q r
   unfolding local.hold_read
   hold_is x reqs reads b e f = put_last x.bal x.status x.leader_bk x.replica_bk reqs reads b f ∙ ap held_in (sym e)
 
-holding_is : (o : Option Notices) (reads : List machine.ReadReq) (b : machine.Book) → book_of o reads ≡ some b → b.holding ≡ reads
-holding_is none reads b e = let z : ◌≡◌ {A = ℕ} 0 1 = cc in absurd (omega arith)
-holding_is (some x) reads b e = let z : record { bal = x.bal; notices = x.notices; holding = reads } ≡ b = cc in ap (λ (y : machine.Book). y.holding) (sym z)
+holding_is : (o : Option Notices) (reads : List machine.ReadReq) (b : machine.Book) → book_of o reads ≡ Some b → b.holding ≡ reads
+holding_is None reads b e = let z : ◌≡◌ {A = ℕ} 0 1 = cc in absurd (omega arith)
+holding_is (Some x) reads b e = let z : record { bal = x.bal; notices = x.notices; holding = reads } ≡ b = cc in ap (λ (y : machine.Book). y.holding) (sym z)
 
-some_inst : {i j : machine.Instance} → some i ≡ some j → i ≡ j
+some_inst : {i j : machine.Instance} → Some i ≡ Some j → i ≡ j
 some_inst e = cc
 
 -- a slot with a book is one of those held
 module _ (n : Node) (m : List ℕ) (slot : ℕ) (w : Waiting (view n m) slot) where
-  not_none : machine.inst_at (view n m) slot ≡ none → ⊥
-  not_none e = let f : some w.inst ≡ none = sym w.found ∙ e in let z : ◌≡◌ {A = ℕ} 0 1 = cc in omega arith
+  not_none : machine.inst_at (view n m) slot ≡ None → ⊥
+  not_none e = let f : Some w.inst ≡ None = sym w.found ∙ e in let z : ◌≡◌ {A = ℕ} 0 1 = cc in omega arith
 
   low : n.start_slot.0 ≤ slot
   low = elim (dec_lt slot n.start_slot.0) [ yes h ↦ absurd (not_none (not_below n m slot h)) | no h ↦ omega arith ]
@@ -133,11 +131,11 @@ module _ (n : Node) (m : List ℕ) (slot : ℕ) (w : Waiting (view n m) slot) wh
   abbrev c : ℕ
   c = slot % slot_places
 
-  stands : machine.inst_at (view n m) slot ≡ some (inst_of (short_at s c) (batch_at s c) (reads_at s c))
+  stands : machine.inst_at (view n m) slot ≡ Some (inst_of (short_at s c) (batch_at s c) (reads_at s c))
   unfolding inst_in
   stands = held_at_lem n m slot low high
 
-  booked : book_of (short_at s c).replica_bk (reads_at s c) ≡ some w.book
+  booked : book_of (short_at s c).replica_bk (reads_at s c) ≡ Some w.book
   booked = ap (λ (i : machine.Instance). i.replica_bk) (some_inst (sym stands ∙ w.found)) ∙ w.has
 
   full_is : full (view n m) slot ≡ leb 16 (length (reads_at s c))
@@ -173,15 +171,15 @@ module _ (n : Node) (m area : List ℕ) (client request leases : ℕ) (key : Lis
   abbrev call : machine.Call
   call = machine.Read leases q
 
-  module _ (p : Packed) (g : key_in p ≡ at_most_48 key) where
-    number_5 : p ≡ packed.Long → 5 ≡ lowest (grounds (view n m) call)
+  module _ (p : Option Key) (g : key_in p ≡ at_most_48 key) where
+    number_5 : p ≡ None → 5 ≡ lowest (grounds (view n m) call)
     unfolding grounds
     number_5 h = rw (long_key_lem key (ap key_in (sym h) ∙ g))
 
-    pub long_5 : p ≡ packed.Long → Answers ready view call n m area (record { number = 5; count = 0; node = n }) m area
+    pub long_5 : p ≡ None → Answers ready view call n m area (record { number = 5; count = 0; node = n }) m area
     long_5 h = refused_by call n m area t e f 5 (number_5 h) (λ z. absurd (omega arith))
 
-    module _ (k : Key) (h : p ≡ packed.Key k) where
+    module _ (k : Key) (h : p ≡ Some k) where
       short : (bytes_of k ≡ key) × (ltb 48 (length key) ≡ false)
       short = short_key (bytes_of k) key (ap key_in (sym h) ∙ g)
 

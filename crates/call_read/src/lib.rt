@@ -7,8 +7,7 @@ ghost use Rattle.node.specs.View.{view, ready, given_of};
 
 use inspect_latest_write::ReadAnswer;
 use inst_holding::ReadReq;
-use key_words::Packed;
-use node::{Answered, Node, is_ready};
+use node::{Taken, Node, is_ready};
 
 pub fn read(
     node: Node,
@@ -18,25 +17,25 @@ pub fn read(
     request: u64,
     leases: u64,
     key: &[u8],
-) -> Answered
-    ensures { Answers ready view (Read leases (record { client = client; request = request; key = key.now })) node mem.old area.old (given_of result) mem.new area.new }
+) -> Result<Taken, Refusal>
+    ensures { Answers ready view (Read leases (record { client = client; request = request; key = key.now })) node mem.old area.old (given_of node result) mem.new area.new }
 {
     if !is_ready(node, mem) {
-        return Answered::refused(node, 2);
+        return Err(Refusal::NotReady);
     }
-    let Packed::Key(packed) = key_words::pack(key) else {
-        return Answered::refused(node, 5);
+    let Some(packed) = key_words::pack(key) else {
+        return Err(Refusal::KeyTooLong);
     };
     let answer = inspect_latest_write::read_answer(node, mem, leases, key, packed);
     if inspect_latest_write::overfills(node, mem, answer) {
-        return Answered::refused(node, 19);
+        return Err(Refusal::TooManyReads);
     }
     let item = inspect_latest_write::item_of(node, client, request, answer);
     if !items::put_item(area, 0, item) {
-        return Answered::refused(node, 20);
+        return Err(Refusal::AreaTooSmall);
     }
     let ReadAnswer::HeldBy(_slot, c) = answer else {
-        return Answered::taken(node, 1);
+        return Ok(Taken { node, count: 1 });
     };
     let held = ReadReq {
         client,
@@ -44,5 +43,5 @@ pub fn read(
         key: packed,
     };
     insts::push_read(&mut mem[layout::SLOTS_AT..layout::WRITTEN_AT], c, held);
-    Answered::taken(node, 1)
+    Ok(Taken { node, count: 1 })
 }

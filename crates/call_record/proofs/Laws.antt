@@ -3,11 +3,11 @@ use Rattle.std.specs.Prelude.{if◌then◌else◌}
 use mathlib.Core.Path.{◌≡◌, refl, sym, ap, ◌∙◌}
 use mathlib.Core.Bool.{Bool, true, false, not, ◌||◌}
 use mathlib.Core.List.{List, [], ◌++◌, append-nil}
-use mathlib.Core.Option.{Option, none, some}
+use Rattle.std.specs.Prelude.{Option, None, Some}
 use Prim.Native.Nat.{ℕ, ◌+◌, ◌-◌, ◌%◌, ◌≤◌, ◌<◌}
 use native.Mathlib.Omega.{arith}
 use lib.Dec.{ltb, leb, eqb}
-use lib.ListN.{length, set, take, drop, replicate, get_elem?}
+use lib.ListN.{length, set, take, drop, replicate, slice_get}
 use borrow.Author.Tests.{lt-ltb, le-ltb, le-leb, lt-leb, eq-eqb, ne_eqb, ltb-false, leb-false, not-true, not-false}
 use Rattle.words.specs.Choice.{if_none◌then◌else◌}
 use Rattle.words.specs.Part.{part, splice, Untouched, length_part, part_before}
@@ -18,8 +18,6 @@ use Rattle.roster_conf.specs.Edits.{view as roster_of}
 use Rattle.inst_cell.specs.Cell.{Notices, Short, book_of as noticesOf}
 use Rattle.inst_cell.specs.declared.NoticeBook.{NoticeBook}
 use Rattle.accept_notices.specs.Book.{fresh_book}
-use Rattle.inst_cell.specs.declared.ReplicaBk.{ReplicaBk}
-use Rattle.inst_cell.specs.declared.ReplicaBk.TheVariants.{None, Some}
 use Rattle.highest_slot.specs.Written.{written_of}
 use Rattle.bodega.specs.Replica.{Replica, Request, ReadReq, Highest, Instance, Record, Accepting, new_book, null_instance, is_open, is_leader, inst_at, set_inst, pad, with_insts, with_highest_slot}
 use Rattle.bodega.specs.Localread.{refresh_highest_slot}
@@ -32,11 +30,13 @@ use Rattle.highest_slot_refresh.specs.Refresh.{Refreshes}
 use Rattle.insts.specs.Slots.{short_at, batch_at, reads_at, seen_reads, book_of, inst_of, inst_in, insts_of, Puts}
 use Rattle.insts.proofs.Laws.{batch_after, short_after, moved, inst_at_lem, inst_none, length_insts}
 use Rattle.node.specs.declared.Node.{Node}
-use Rattle.node.specs.declared.Answered.{Answered}
 use Rattle.node.specs.View.{view, ready, given_of, lowest, leads_it}
 use Rattle.node.proofs.Calls.{Ready, is_ready, made_ready, gives_2, refused_by, taken_by}
 use Rattle.node.proofs.Frames.{slots_back, slots_size, slots_beyond, written_back, written_size, written_beyond}
 use Rattle.call_record.specs.Records.{batch_refusal, slot_refusal, late_refusal, ended, fresh_acks, kept_book, accepting_short, Pads, accepting_by, Records, Recorded}
+use Rattle.std.specs.Prelude.{Result}
+use Rattle.ids.specs.declared.Refusal.{Refusal}
+use Rattle.node.specs.declared.Taken.{Taken}
 
 -- ---- 5, 8, 9, and the others after them
 
@@ -156,7 +156,7 @@ module _ (start n slot : ℕ) (s : List ℕ) where
   below_start h = sym (simp (lt-ltb slot start h))
 
   module _ (h : start ≤ slot) where
-    from_start : end_of (get_elem? (insts_of start n s) (slot - start)) ≡ ended start (insts_of start n s) slot
+    from_start : end_of (slice_get (insts_of start n s) (slot - start)) ≡ ended start (insts_of start n s) slot
     from_start = sym (simp (le-ltb slot start h))
 
     pub past_end : start + n ≤ slot → false ≡ ended start (insts_of start n s) slot
@@ -186,11 +186,11 @@ padded_to start n k s h g e = record { insts = e.0; size = e.1; within = omega a
 
 -- ---- the slot's place
 
-module _ (leader : Bool) (o : ReplicaBk) (f : leader ≡ false) where
-  pub new_book_lem : (b : NoticeBook) → o ≡ None → b ≡ fresh_book → some (record { bal = b.bal.0; notices = b.notices }) ≡ kept_book leader (noticesOf o)
+module _ (leader : Bool) (o : Option NoticeBook) (f : leader ≡ false) where
+  pub new_book_lem : (b : NoticeBook) → o ≡ None → b ≡ fresh_book → Some (record { bal = b.bal.0; notices = b.notices }) ≡ kept_book leader (noticesOf o)
   new_book_lem b e g = rw g (sym (rw (f, e)))
 
-  pub old_book : (b : NoticeBook) → o ≡ Some b → some (record { bal = b.bal.0; notices = b.notices }) ≡ kept_book leader (noticesOf o)
+  pub old_book : (b : NoticeBook) → o ≡ Some b → Some (record { bal = b.bal.0; notices = b.notices }) ≡ kept_book leader (noticesOf o)
   old_book b e = sym (rw (f, e))
 
 abbrev short_with : ℕ → Option ℕ → Option Notices → Short
@@ -216,11 +216,11 @@ placed {s = s} {c = c} ballot leader old a b p q e f g r =
 -- ---- the slots
 
 book_is : (leader : Bool) (o : Option Notices) (l : List ReadReq)
-    → book_of (kept_book leader o) (seen_reads o l) ≡ (if leader then book_of o l else if_none book_of o l then some new_book else λ b. some b)
-book_is true none l = refl
-book_is true (some b) l = refl
-book_is false none l = refl
-book_is false (some b) l = refl
+    → book_of (kept_book leader o) (seen_reads o l) ≡ (if leader then book_of o l else if_none book_of o l then Some new_book else λ b. Some b)
+book_is true None l = refl
+book_is true (Some b) l = refl
+book_is false None l = refl
+book_is false (Some b) l = refl
 
 accepting_is : (leader : Bool) (ballot : ℕ) (qs : List Request) (s : List ℕ) (c : ℕ)
     → inst_of (accepting_short leader ballot (short_at s c).replica_bk) qs (seen_reads (short_at s c).replica_bk (reads_at s c)) ≡ accepting_by leader ballot qs (inst_in s c)
@@ -235,11 +235,11 @@ accepted {s = s} {t = t} {u = u} {qs = qs} start n slot ballot r leader h p q =
     let z : slot - start + 1 - n ≡ slot + 1 - (start + n) = omega arith in
     let g : insts_of start r t ≡ insts_of start n s ++ replicate (slot + 1 - (start + n)) null_instance
     = p.insts ∙ ap (λ (j : ℕ). insts_of start n s ++ replicate j null_instance) z in
-    let at : get_elem? (insts_of start r t) (slot - start) ≡ some (inst_in t (slot % slot_places))
-    = inst_at_lem start r (slot - start) t p.within ∙ ap (λ (j : ℕ). some (inst_in t (j % slot_places))) (sym e) in
+    let at : slice_get (insts_of start r t) (slot - start) ≡ Some (inst_in t (slot % slot_places))
+    = inst_at_lem start r (slot - start) t p.within ∙ ap (λ (j : ℕ). Some (inst_in t (j % slot_places))) (sym e) in
     record {
       old = inst_in t (slot % slot_places);
-      was = ap (λ (l : List Instance). get_elem? l (slot - start)) (sym g) ∙ at;
+      was = ap (λ (l : List Instance). slice_get l (slot - start)) (sym g) ∙ at;
       insts = put start (slot - start) (sym e) p.within p.few q ∙ ap (λ (l : List Instance). set l (slot - start) (accepting_by leader ballot qs (inst_in t (slot % slot_places)))) g;
       size = q.size ∙ p.size;
       more = p.more;
@@ -257,7 +257,7 @@ accepted {s = s} {t = t} {u = u} {qs = qs} start n slot ballot r leader h p q =
 -- ---- the node after it
 
 recorded_is : (r : Replica) (slot ballot : ℕ) (qs : List Request) (l : List Instance) (i : Instance) → r.bar.start ≤ slot
-    → r.insts ++ replicate (slot + 1 - (r.bar.start + length r.insts)) null_instance ≡ l → get_elem? l (slot - r.bar.start) ≡ some i
+    → r.insts ++ replicate (slot + 1 - (r.bar.start + length r.insts)) null_instance ≡ l → slice_get l (slot - r.bar.start) ≡ Some i
     → recorded r slot ballot qs ≡ with_insts (set l (slot - r.bar.start) (accepting r ballot qs i)) (with_highest_slot (refresh_highest_slot slot qs r.highest_slot) r)
 unfolding recorded inst_at set_inst pad
 recorded_is r slot ballot qs l i h e g = rw (le-ltb slot r.bar.start h, e, g)
@@ -433,7 +433,7 @@ module _ (n : Node) (m area : List ℕ) (slot ballot : ℕ) (rows text : List �
   whole = refl
 
   module _ (k : ℕ) (e : k ≡ (if ready n m then batch_refusal qs slot else 2)) where
-    pub early_refused : (a : Answered) → (k ≡ 0 → ⊥) → a ≡ record { number = k; count = 0; node = n } → Answers ready view (Record slot ballot qs) n m area (given_of a) m area
+    pub early_refused : (a : Result Taken Refusal) → (k ≡ 0 → ⊥) → a ≡ record { number = k; count = 0; node = n } → Answers ready view (Record slot ballot qs) n m area (given_of a) m area
     early_refused a h g = rw g (go (ready n m) refl e)
       where
         go : (t : Bool) → ready n m ≡ t → k ≡ (if t then batch_refusal qs slot else 2) → Answers ready view (Record slot ballot qs) n m area (record { number = k; count = 0; node = n }) m area
@@ -467,7 +467,7 @@ module _ (n : Node) (m area : List ℕ) (slot ballot : ℕ) (rows text : List �
             ∙ sym (whole ∙ ap (λ (p : Bool). first p (far slot) (ltb batch (length qs)) (late_refusal n m slot ballot qs)) none_yet.0
             ∙ ap (λ (p : Bool). first false p (ltb batch (length qs)) (late_refusal n m slot ballot qs)) none_yet.1 ∙ ap (λ (p : Bool). first false false p (late_refusal n m slot ballot qs)) none_yet.2)
 
-        pub late_refused : (a : Answered) → (j ≡ 0 → ⊥) → a ≡ record { number = j; count = 0; node = n } → Answers ready view (Record slot ballot qs) n m area (given_of a) m area
+        pub late_refused : (a : Result Taken Refusal) → (j ≡ 0 → ⊥) → a ≡ record { number = j; count = 0; node = n } → Answers ready view (Record slot ballot qs) n m area (given_of a) m area
         late_refused a h g = rw g (refused_by (Record slot ballot qs) n m area true (sym is_made) refl j number_is h)
 
         pub is_recorded : j ≡ 0 → (n' : Node) (m' : List ℕ) → Recorded slot ballot reqs n m n' m' → Answers ready view (Record slot ballot qs) n m area (record { number = 0; count = 0; node = n' }) m' area

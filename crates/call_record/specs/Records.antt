@@ -1,8 +1,8 @@
 -- Bridge: what the code of *record* tests, from numbers and the slots held, and what it makes of a place and of the
 -- slots; tied to `grounds` and `recorded` by proofs/Laws.
 use Rattle.std.specs.Prelude.{◌≡◌, Bool, true, false, ◌||◌, not, List, [], ◌++◌, ℕ, ◌+◌, ◌-◌, ◌≤◌, ◌<◌, ltb, leb, eqb, length, set, replicate, if◌then◌else◌}
-use Rattle.std.proofs.Math.Option.{Option, none, some}
-use Rattle.std.proofs.Math.ListN.{get_elem?}
+use Rattle.std.specs.Prelude.{Option, None, Some}
+use Rattle.std.specs.Prelude.{slice_get}
 use Rattle.words.specs.Choice.{if_none◌then◌else◌}
 use Rattle.words.specs.Part.{part, Untouched}
 use Rattle.ids.specs.Limits.{window, batch, keys}
@@ -30,7 +30,7 @@ batch_refusal reqs slot = lowest (of_batch reqs slot [])
 
 -- 14: `inst_at` on the slots held alone
 abbrev pub held_at : ℕ → List Instance → ℕ → Option Instance
-held_at start insts slot = if ltb slot start then none else get_elem? insts (slot - start)
+held_at start insts slot = if ltb slot start then None else slice_get insts (slot - start)
 
 abbrev pub ended : ℕ → List Instance → ℕ → Bool
 ended start insts slot = ltb slot start || (if_none held_at start insts slot then false else λ i. not (is_open i.status))
@@ -58,10 +58,10 @@ late_refusal n mem slot ballot reqs =
 -- ---- a place: `accepting` on its three parts
 
 abbrev pub fresh_acks : Bool → Option ℕ
-fresh_acks leader = if leader then some 0 else none
+fresh_acks leader = if leader then Some 0 else None
 
 abbrev pub kept_book : Bool → Option Notices → Option Notices
-kept_book leader o = if leader then o else if_none o then some (record { bal = 0; notices = 0 }) else λ b. some b
+kept_book leader o = if leader then o else if_none o then Some (record { bal = 0; notices = 0 }) else λ b. Some b
 
 abbrev pub accepting_short : Bool → ℕ → Option Notices → Short
 accepting_short leader ballot o = record { bal = ballot; status = Accepting; leader_bk = fresh_acks leader; replica_bk = kept_book leader o }
@@ -84,13 +84,13 @@ accepting_by leader ballot reqs i =
       status = Accepting;
       reqs = reqs;
       leader_bk = fresh_acks leader;
-      replica_bk = if leader then i.replica_bk else if_none i.replica_bk then some new_book else λ b. some b;
+      replica_bk = if leader then i.replica_bk else if_none i.replica_bk then Some new_book else λ b. Some b;
     }
 
 -- r slots in t: those n of s with null ones up to and with the slot, which is Accepting
 pub record Records (start n slot ballot : ℕ) (leader : Bool) (reqs : List Request) (s t : List ℕ) (r : ℕ) : Type 0 where
   pub old : Instance
-  pub was : get_elem? (insts_of start n s ++ replicate (slot + 1 - (start + n)) null_instance) (slot - start) ≡ some old
+  pub was : slice_get (insts_of start n s ++ replicate (slot + 1 - (start + n)) null_instance) (slot - start) ≡ Some old
   pub insts : insts_of start r t ≡ set (insts_of start n s ++ replicate (slot + 1 - (start + n)) null_instance) (slot - start) (accepting_by leader ballot reqs old)
   pub size : length t ≡ length s
   pub more : n ≤ r

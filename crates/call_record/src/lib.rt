@@ -14,24 +14,24 @@ ghost use Rattle.insts.specs.Slots.{short_at, reads_at, seen_reads, insts_of, Pu
 ghost use Rattle.node.specs.View.{view, ready, given_of};
 ghost use Rattle.call_record.specs.Records.{fresh_acks, batch_refusal, slot_refusal, late_refusal, ended, kept_book, accepting_short, Pads, Records, Recorded};
 
-use ids::{Ballot, Slot};
-use inst_cell::{Cell, LeaderBk, ReplicaBk, Status};
-use node::{Answered, Node, is_leader, is_ready};
+use ids::{Ballot, Refusal, Slot};
+use inst_cell::{Cell, Status};
+use node::{Taken, Node, is_leader, is_ready};
 
 // 5, 8, 9: the number of the refusal that the batch and the slot's number meet, 0 where there is none.
-fn batch_refusal(rows: &[u64], text: &[u8], slot: Slot) -> u64
-    ensures { result ≡ batch_refusal (given rows.now text.now) slot.0 }
+fn batch_refusal(rows: &[u64], text: &[u8], slot: Slot) -> Result<(), Refusal>
+    ensures { refused_by result ≡ batch_refusal (given rows.now text.now) slot.0 }
 {
     if req_batch::any_long(rows, text) {
-        return 5;
+        return Err(Refusal::KeyTooLong);
     }
-    if Slot::TOP < slot.0 {
-        return 8;
+    if Slot::TOP < slot {
+        return Err(Refusal::SlotTooLarge);
     }
     if inst_reqs::BATCH < req_batch::count(rows) {
-        return 9;
+        return Err(Refusal::BatchTooLarge);
     }
-    0
+    Ok(())
 }
 
 // What *record* must be at.
@@ -68,26 +68,26 @@ fn slot_refusal(
     ballot: Ballot,
     current: Ballot,
     full: bool,
-) -> u64
+) -> Result<(), Refusal>
     requires { (start.0 ≤ top) × (n ≤ slot_places) × (slot_words ≤ length s.now) }
-    ensures { result ≡ slot_refusal start.0 (insts_of start.0 n s.now) slot.0 ballot.0 current.0 full }
+    ensures { refused_by result ≡ slot_refusal start.0 (insts_of start.0 n s.now) slot.0 ballot.0 current.0 full }
 {
     if ballot.0 != current.0 {
-        return 13;
+        return Err(Refusal::BallotNotCurrent);
     }
     if current.0 == 0 {
-        return 13;
+        return Err(Refusal::BallotNotCurrent);
     }
     if is_ended(s, start, n, slot) {
-        return 14;
+        return Err(Refusal::SlotEnded);
     }
     if start.0 + Node::WINDOW as u64 <= slot.0 {
-        return 15;
+        return Err(Refusal::WindowFull);
     }
     if full {
-        return 18;
+        return Err(Refusal::TooManyKeys);
     }
-    0
+    Ok(())
 }
 
 // Null slots up to and with the k-th from start on, where it is not held; how many slots there are then.
@@ -104,25 +104,25 @@ fn padded(s: &mut [u64], start: Slot, n: usize, k: usize) -> usize
 }
 
 // Fresh empty acks for a leader.
-fn fresh_acks(leader: bool) -> LeaderBk
+fn fresh_acks(leader: bool) -> Option<u64>
     ensures { acks_of result ≡ fresh_acks leader }
 {
     if leader {
-        return LeaderBk::Some(0);
+        return Some(0);
     }
-    LeaderBk::None
+    None
 }
 
 // For any other replica a notice book if there is none.
-fn kept_book(leader: bool, book: ReplicaBk) -> ReplicaBk
+fn kept_book(leader: bool, book: Option<NoticeBook>) -> Option<NoticeBook>
     ensures { book_of result ≡ kept_book leader (book_of book) }
 {
     if leader {
         return book;
     }
     match book {
-        ReplicaBk::None => ReplicaBk::Some(accept_notices::fresh()),
-        ReplicaBk::Some(b) => ReplicaBk::Some(b),
+        None => Some(accept_notices::fresh()),
+        Some(b) => Some(b),
     }
 }
 
@@ -168,19 +168,19 @@ fn accept(
 }
 
 // 2, or what the batch and the slot's number meet; 0 where there is none.
-fn early_refusal(node: Node, mem: &[u64], slot: Slot, rows: &[u64], text: &[u8]) -> u64
-    ensures { result ≡ (if ready node mem.now then batch_refusal (given rows.now text.now) slot.0 else 2) }
+fn early_refusal(node: Node, mem: &[u64], slot: Slot, rows: &[u64], text: &[u8]) -> Result<(), Refusal>
+    ensures { refused_by result ≡ (if ready node mem.now then batch_refusal (given rows.now text.now) slot.0 else 2) }
 {
     if !is_ready(node, mem) {
-        return 2;
+        return Err(Refusal::NotReady);
     }
     batch_refusal(rows, text, slot)
 }
 
 // What the slot, the ballot and the keys of a batch in words meet at a node.
-fn late_refusal(node: Node, mem: &[u64], slot: Slot, ballot: Ballot, words: &[u64]) -> u64
+fn late_refusal(node: Node, mem: &[u64], slot: Slot, ballot: Ballot, words: &[u64]) -> Result<(), Refusal>
     requires { (ready node mem.now ≡ true) × (length words.now ≡ batch_words) }
-    ensures { result ≡ late_refusal node mem.now slot.0 ballot.0 (requests_of words.now) }
+    ensures { refused_by result ≡ late_refusal node mem.now slot.0 ballot.0 (requests_of words.now) }
 {
     let leader = is_leader(node);
     let bal = current(leader, node.bal_prepared, node.bal_max_seen);
@@ -229,19 +229,13 @@ pub fn record(
     ballot: Ballot,
     rows: &[u64],
     text: &[u8],
-) -> Answered
-    ensures { Answers ready view (Record slot.0 ballot.0 (given rows.now text.now)) node mem.old area.now (given_of result) mem.new area.now }
+) -> Result<Taken, Refusal>
+    ensures { Answers ready view (Record slot.0 ballot.0 (given rows.now text.now)) node mem.old area.now (given_of node result) mem.new area.now }
 {
-    let early = early_refusal(node, mem, slot, rows, text);
-    if early != 0 {
-        return Answered::refused(node, early);
-    }
+    early_refusal(node, mem, slot, rows, text)?;
     let mut words = [0u64; layout::BATCH_WORDS];
     req_batch::load(rows, text, &mut words);
-    let late = late_refusal(node, mem, slot, ballot, &words);
-    if late != 0 {
-        return Answered::refused(node, late);
-    }
+    late_refusal(node, mem, slot, ballot, &words)?;
     let next = recorded(node, mem, slot, ballot, &words);
-    Answered::taken(next, 0)
+    Ok(Taken { node: next, count: 0 })
 }

@@ -7,40 +7,37 @@ ghost use Rattle.bodega.specs.Answers.{Answers};
 ghost use Rattle.node.specs.View.{view, ready, given_of};
 ghost use Rattle.call_release.specs.Release.{release_refusal};
 
-use ids::Slot;
-use node::{Answered, Node};
+use ids::{Refusal, Slot};
+use node::{Taken, Node};
 
 // The number of a release's refusal but 20, 0 where there is none.
-fn release_refusal(start: Slot, slots: usize, slot: Slot) -> u64
-    ensures { result ≡ release_refusal start.0 slots slot.0 }
+fn release_refusal(start: Slot, slots: usize, slot: Slot) -> Result<(), Refusal>
+    ensures { refused_by result ≡ release_refusal start.0 slots slot.0 }
 {
-    if Slot::TOP < slot.0 {
-        return 8;
+    if Slot::TOP < slot {
+        return Err(Refusal::SlotTooLarge);
     }
     if slot.0 < start.0 {
-        return 16;
+        return Err(Refusal::SlotNotHeld);
     }
     if slots as u64 <= slot.0 - start.0 {
-        return 16;
+        return Err(Refusal::SlotNotHeld);
     }
-    0
+    Ok(())
 }
 
-pub fn release(node: Node, mem: &mut [u64], area: &mut [u64], slot: Slot) -> Answered
-    ensures { Answers ready view (Release slot.0) node mem.old area.old (given_of result) mem.new area.new }
+pub fn release(node: Node, mem: &mut [u64], area: &mut [u64], slot: Slot) -> Result<Taken, Refusal>
+    ensures { Answers ready view (Release slot.0) node mem.old area.old (given_of node result) mem.new area.new }
 {
     if !node::is_ready(node, mem) {
-        return Answered::refused(node, 2);
+        return Err(Refusal::NotReady);
     }
     let start = node.start_slot;
-    let refusal = release_refusal(start, node.slots, slot);
-    if refusal != 0 {
-        return Answered::refused(node, refusal);
-    }
+    release_refusal(start, node.slots, slot)?;
     let c = (slot.0 % layout::PLACES) as usize;
     let held = release_held_reads::holding(&mem[layout::SLOTS_AT..layout::WRITTEN_AT], c);
     if area.len() / 6 < held {
-        return Answered::refused(node, 20);
+        return Err(Refusal::AreaTooSmall);
     }
     let conf = node.bodega_conf;
     let leader = conf.leader;
@@ -52,5 +49,5 @@ pub fn release(node: Node, mem: &mut [u64], area: &mut [u64], slot: Slot) -> Ans
         area,
         0,
     );
-    Answered::taken(node, count)
+    Ok(Taken { node, count: count })
 }

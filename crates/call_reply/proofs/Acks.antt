@@ -2,7 +2,7 @@
 use mathlib.Core.Path.{◌≡◌, refl, sym, ap, subst, ◌∙◌}
 use mathlib.Core.Bool.{Bool, true, false, not}
 use mathlib.Core.List.{List}
-use mathlib.Core.Option.{none, some}
+use Rattle.std.specs.Prelude.{None, Some}
 use Prim.Native.Nat.{ℕ, ◌+◌, ◌*◌, ◌≤◌, ◌<◌}
 use native.Mathlib.Omega.{arith}
 use lib.ListN.{take, drop}
@@ -18,8 +18,6 @@ use Rattle.bodega.specs.Replica.{Request, ReadReq, Committed, is_accepting}
 use Rattle.bodega.specs.Localread.{commit_condition}
 use Rattle.inst_reqs.specs.Batch.{requests_of}
 use Rattle.inst_cell.specs.declared.Cell.{Cell}
-use Rattle.inst_cell.specs.declared.LeaderBk.{LeaderBk}
-use Rattle.inst_cell.specs.declared.LeaderBk.TheVariants as leader
 use Rattle.inst_cell.specs.Cell.{Short, status_of, acks_of, cell_of, with_status}
 use Rattle.insts.specs.Slots.{batch_start, short_at, batch_at, reads_at, Puts}
 use Rattle.insts.proofs.Laws.{short_after}
@@ -27,6 +25,7 @@ use Rattle.call_reply.specs.declared.Ack.{Ack}
 use Rattle.call_reply.specs.declared.Ack.TheVariants.{Ignored, Marks, Commits}
 use Rattle.call_reply.specs.Acks.{with_acks, acks_with, ack_of, commits_by, commit_items, Acts}
 use Rattle.call_reply.proofs.Resends.{none_written, put_one}
+use Rattle.std.specs.Prelude.{Option}
 
 -- ---- whether the slot waits for it, test by test
 
@@ -34,37 +33,37 @@ module _ (x : Short) (peer ballot : ℕ) (k : Cell) (e : cell_of k ≡ x) (t : B
   back : acks_with (cell_of k) peer ballot ≡ acks_with x peer ballot
   back = ap (λ (y : Short). acks_with y peer ballot) e
 
-  pub not_accepting : not t ≡ true → none ≡ acks_with x peer ballot
+  pub not_accepting : not t ≡ true → None ≡ acks_with x peer ballot
   unfolding acks_with
   not_accepting g = sym (rw (sym f ∙ not-true t g)) ∙ back
 
   module _ (g : not t ≡ false) where
-    pub old_ballot : ballot < k.bal.0 → none ≡ acks_with x peer ballot
+    pub old_ballot : ballot < k.bal.0 → None ≡ acks_with x peer ballot
     unfolding acks_with
     old_ballot h = sym (rw (sym f ∙ not-false t g, lt-ltb ballot k.bal.0 h)) ∙ back
 
     module _ (h : k.bal.0 ≤ ballot) where
-      pub no_acks : k.leader_bk ≡ leader.None → none ≡ acks_with x peer ballot
+      pub no_acks : k.leader_bk ≡ None → None ≡ acks_with x peer ballot
       unfolding acks_with
       no_acks w = sym (rw (sym f ∙ not-false t g, le-ltb ballot k.bal.0 h, w)) ∙ back
 
-      module _ (acks : ℕ) (w : k.leader_bk ≡ leader.Some acks) (b : Bool) (a : b ≡ get acks peer) where
-        pub acked : b ≡ true → none ≡ acks_with x peer ballot
+      module _ (acks : ℕ) (w : k.leader_bk ≡ Some acks) (b : Bool) (a : b ≡ get acks peer) where
+        pub acked : b ≡ true → None ≡ acks_with x peer ballot
         unfolding acks_with
         acked q = sym (rw (sym f ∙ not-false t g, le-ltb ballot k.bal.0 h, w, sym a ∙ q)) ∙ back
 
-        pub marked : b ≡ false → (m : ℕ) → m ≡ set_to acks peer true → some m ≡ acks_with x peer ballot
+        pub marked : b ≡ false → (m : ℕ) → m ≡ set_to acks peer true → Some m ≡ acks_with x peer ballot
         unfolding acks_with set_to
-        marked q m z = ap some z ∙ sym (rw (sym f ∙ not-false t g, le-ltb ballot k.bal.0 h, w, sym a ∙ q)) ∙ back
+        marked q m z = ap Some z ∙ sym (rw (sym f ∙ not-false t g, le-ltb ballot k.bal.0 h, w, sym a ∙ q)) ∙ back
 
 -- ---- what it does
 
-module _ (s : List ℕ) (c peer ballot quorum : ℕ) (conf : Conf) (r : LeaderBk) (e : acks_of r ≡ acks_with (short_at s c) peer ballot) where
-  pub ignored : r ≡ leader.None → Ignored ≡ ack_of (short_at s c) (batch_at s c) peer ballot quorum conf
+module _ (s : List ℕ) (c peer ballot quorum : ℕ) (conf : Conf) (r : Option ℕ) (e : acks_of r ≡ acks_with (short_at s c) peer ballot) where
+  pub ignored : r ≡ None → Ignored ≡ ack_of (short_at s c) (batch_at s c) peer ballot quorum conf
   unfolding ack_of
   ignored f = sym (rw (sym e ∙ ap acks_of f))
 
-  module _ (acks : ℕ) (f : r ≡ leader.Some acks) (from k : ℕ) (h : from ≡ batch_start c) (w : k ≡ batch_words) (t : Bool)
+  module _ (acks : ℕ) (f : r ≡ Some acks) (from k : ℕ) (h : from ≡ batch_start c) (w : k ≡ batch_words) (t : Bool)
       (g : t ≡ commit_condition acks (requests_of (take k (drop from s))) quorum conf) where
     condition : t ≡ commit_condition acks (batch_at s c) quorum conf
     unfolding batch_at part

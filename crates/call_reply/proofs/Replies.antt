@@ -3,7 +3,7 @@ use Rattle.std.specs.Prelude.{if◌then◌else◌}
 use mathlib.Core.Path.{◌≡◌, refl, sym, ap, subst, ◌∙◌}
 use mathlib.Core.Bool.{Bool, true, false, not, ◌&&◌, ◌||◌}
 use mathlib.Core.List.{List, [], ◌∷◌, ◌++◌, append-nil}
-use mathlib.Core.Option.{Option, none, some}
+use Rattle.std.specs.Prelude.{Option, None, Some}
 use Prim.Native.Nat.{ℕ, zero, suc, ◌+◌, ◌-◌, ◌*◌, ◌/◌, ◌%◌, ◌≤◌, ◌<◌}
 use native.Mathlib.Decide.{dec_lt}
 use native.Mathlib.Omega.{arith}
@@ -35,8 +35,6 @@ use Rattle.node.proofs.Slots.{not_past, held_at_lem, set_at}
 use Rattle.call_reply.specs.declared.Missed.TheVariants.{Skip, Stop, Send}
 use Rattle.call_reply.specs.declared.Ack.{Ack}
 use Rattle.call_reply.specs.declared.Ack.TheVariants.{Ignored, Marks, Commits}
-use Rattle.call_reply.specs.declared.Taken.{Taken}
-use Rattle.call_reply.specs.declared.Taken.TheVariants.{Items, Full}
 use Rattle.call_reply.specs.Resends.{missed_of, and_more, resends_of}
 use Rattle.call_reply.specs.Acks.{acks_with, ack_of, commits_by, commit_items, Acts}
 use Rattle.call_reply.specs.Replies.{unheld, reply_refusal, awaited, span, items_of, Replies}
@@ -120,7 +118,7 @@ module _ (s area : List ℕ) (id prepared commit peer slot : ℕ) (a : Ack) (n b
   length_items : length (items_of s id peer commit prepared slot a) ≡ b + k
   length_items = ap length items_are ∙ length-append resends (commit_items a slot) ∙ omega (arith, length_commits a slot)
 
-  pub too_full : (c : ℕ) → length area / 6 < b + k → Replies (items_of s id peer commit prepared slot a) a c s area Full s area
+  pub too_full : (c : ℕ) → length area / 6 < b + k → Replies (items_of s id peer commit prepared slot a) a c s area None s area
   too_full c h = (rw length_items h, refl, refl)
 
   module _ (h : b + k ≤ length area / 6) where
@@ -132,7 +130,7 @@ module _ (s area : List ℕ) (id prepared commit peer slot : ℕ) (a : Ack) (n b
       commit_room = let z : length area₁ ≡ length area = ap length w ∙ length_writes area 0 (encode resends) in rw z (omega arith)
 
       pub all_put : (c : ℕ) (area₂ s' : List ℕ) → area₂ ≡ writes area₁ (place * 6) (encode (commit_items a slot)) → Acts a s c s'
-          → Replies (items_of s id peer commit prepared slot a) a c s area (Items (b + k)) s' area₂
+          → Replies (items_of s id peer commit prepared slot a) a c s area (Some (b + k)) s' area₂
       all_put c area₂ s' q x =
           let z : place * 6 ≡ 0 + length (encode resends) = omega (arith, length_encode resends) in (
             sym length_items,
@@ -151,15 +149,15 @@ module _ (slot peer : ℕ) (more : List Item) (gets : ℕ → Bool) (same : Bool
       → (if t then more else if_none o then more else λ acks. if gets acks then [] else if same then Resend slot peer ∷ more else more)
       ≡ and_more (if t then Skip else if_none o then Skip else λ acks. if gets acks then Stop else if same then Send else Skip) slot peer more
   by_kind true o = refl
-  by_kind false none = refl
-  by_kind false (some acks) = go (gets acks) same
+  by_kind false None = refl
+  by_kind false (Some acks) = go (gets acks) same
     where
       go : (b c : Bool) → (if b then [] else if c then Resend slot peer ∷ more else more) ≡ and_more (if b then Stop else if c then Send else Skip) slot peer more
       go true c = refl
       go false true = refl
       go false false = refl
 
-resends_are : (r : machine.Replica) (s : List ℕ) (peer k : ℕ) → ((j : ℕ) → j < k → machine.inst_at r (r.bar.commit + j) ≡ some (inst_in s ((r.bar.commit + j) % slot_places)))
+resends_are : (r : machine.Replica) (s : List ℕ) (peer k : ℕ) → ((j : ℕ) → j < k → machine.inst_at r (r.bar.commit + j) ≡ Some (inst_in s ((r.bar.commit + j) % slot_places)))
     → resend_missed_accepts r peer k ≡ resends_of s r.bar.commit peer r.bal.prepared k
 unfolding resend_missed_accepts resends_of missed_of inst_in
 resends_are r s peer zero h = refl
@@ -188,21 +186,21 @@ module _ (slot peer : ℕ) (l : List Item) (i : machine.Instance) (r : machine.R
       → (if t then machine.done r l else if_none o then machine.done r l else λ acks. if gets acks then machine.done r l else
       if suffices (mark acks peer) then machine.done (after (Commits (mark acks peer)) slot i r) (l ++ (Commit slot ∷ [])) else machine.done (after (Marks (mark acks peer)) slot i r) l)
       ≡ result slot l i r
-      (if_none (if t then none else if_none o then none else λ acks. if gets acks then none else some (mark acks peer)) then Ignored else λ acks.
+      (if_none (if t then None else if_none o then None else λ acks. if gets acks then None else Some (mark acks peer)) then Ignored else λ acks.
       if suffices acks then Commits acks else Marks acks)
   by_ack true o = idle
-  by_ack false none = idle
-  by_ack false (some acks) = go (gets acks) (suffices (mark acks peer)) refl
+  by_ack false None = idle
+  by_ack false (Some acks) = go (gets acks) (suffices (mark acks peer)) refl
     where
       go : (b c : Bool) → suffices (mark acks peer) ≡ c
           → (if b then machine.done r l else if c then machine.done (after (Commits (mark acks peer)) slot i r) (l ++ (Commit slot ∷ [])) else machine.done (after (Marks (mark acks peer)) slot i r) l)
-          ≡ result slot l i r (if_none (if b then none else some (mark acks peer)) then Ignored else λ acks. if suffices acks then Commits acks else Marks acks)
+          ≡ result slot l i r (if_none (if b then None else Some (mark acks peer)) then Ignored else λ acks. if suffices acks then Commits acks else Marks acks)
       go true c e = idle
       go false true e = rw e
       go false false e = rw e (ap (machine.done (after (Marks (mark acks peer)) slot i r)) (sym (append-nil l)))
 
 take_ack_lem : (r : machine.Replica) (peer slot ballot : ℕ) (l : List Item) (x : Short) (reqs : List machine.Request) (reads : List machine.ReadReq)
-    → machine.inst_at r slot ≡ some (inst_of x reqs reads)
+    → machine.inst_at r slot ≡ Some (inst_of x reqs reads)
     → take_ack r peer slot ballot l ≡ result slot l (inst_of x reqs reads) r (ack_of x reqs peer ballot r.me.quorum r.conf)
 unfolding take_ack ack_of acks_with
 take_ack_lem r peer slot ballot l x reqs reads h =
@@ -346,21 +344,21 @@ module _ (n : Node) (m area : List ℕ) (peer slot ballot : ℕ) (t : Bool) (e :
               ∙ ap (result slot (resent n m peer slot ballot) here (view n m)) (sym y)
               ∙ ap (λ (l : List Item). result slot l here (view n m) a) (resent_by (eqb peer n.id.0))
 
-          module _ (q : Taken) (s' area' : List ℕ)
+          module _ (q : Option ℕ) (s' area' : List ℕ)
               (p : Replies (items_of words n.id.0 peer n.commit_bar.0 n.bal_prepared.0 slot a) a (slot % slot_places) words area q s' area') where
-            pub reply_full : q ≡ Full → Answers ready view call n m area (record { number = 20; count = 0; node = n }) (splice m slots_at slot_words s') area'
+            pub reply_full : q ≡ None → Answers ready view call n m area (record { number = 20; count = 0; node = n }) (splice m slots_at slot_words s') area'
             unfolding part
             reply_full h =
-                let x : Replies items a (slot % slot_places) words area Full s' area' = subst (λ (y : Taken). Replies items a (slot % slot_places) words area y s' area') h p in
+                let x : Replies items a (slot % slot_places) words area None s' area' = subst (λ (y : Option ℕ). Replies items a (slot % slot_places) words area y s' area') h p in
                 let few : places area < length (effect (view n m) call).items = rw effect_is x.0 in
                 let same : m ≡ splice m slots_at slot_words s' = sym (splice_same m slots_at slot_words) ∙ ap (splice m slots_at slot_words) (sym x.1) in
                 subst (λ (y : List ℕ). Answers ready view call n m area (record { number = 20; count = 0; node = n }) y area') same
                 (subst (λ (y : List ℕ). Answers ready view call n m area (record { number = 20; count = 0; node = n }) m y) (sym x.2) (few_places call n m area t e f k g' z few))
 
-            pub reply_taken : (j : ℕ) → q ≡ Items j → Answers ready view call n m area (record { number = 0; count = j; node = n }) (splice m slots_at slot_words s') area'
+            pub reply_taken : (j : ℕ) → q ≡ Some j → Answers ready view call n m area (record { number = 0; count = j; node = n }) (splice m slots_at slot_words s') area'
             unfolding part
             reply_taken j h =
-                let x : Replies items a (slot % slot_places) words area (Items j) s' area' = subst (λ (y : Taken). Replies items a (slot % slot_places) words area y s' area') h p in
+                let x : Replies items a (slot % slot_places) words area (Some j) s' area' = subst (λ (y : Option ℕ). Replies items a (slot % slot_places) words area y s' area') h p in
                 let long : length s' ≡ slot_words = acts_size a words s' (slot % slot_places) x.3 ∙ words_long in
                 subst (λ (c : ℕ). Answers ready view call n m area (record { number = 0; count = c; node = n }) (splice m slots_at slot_words s') area') (sym x.0)
                 (taken_with call n m area t e f k g' z (after a slot here (view n m)) items n (splice m slots_at slot_words s') area' effect_is x.1

@@ -14,12 +14,12 @@ use Rattle.items.specs.Area.{Put, put_item}
 use Rattle.items.proofs.Laws.{put_area}
 use Rattle.bodega.specs.Replica.{is_accepting}
 use Rattle.inst_cell.specs.declared.Cell.{Cell}
-use Rattle.inst_cell.specs.declared.LeaderBk.TheVariants as leader
 use Rattle.inst_cell.specs.Cell.{Short, status_of, cell_of}
 use Rattle.insts.specs.Slots.{short_at}
 use Rattle.call_reply.specs.declared.Missed.{Missed}
 use Rattle.call_reply.specs.declared.Missed.TheVariants.{Skip, Stop, Send}
 use Rattle.call_reply.specs.Resends.{missed_of, sent_by, sends, left_by, and_more, resends_of}
+use Rattle.std.specs.Prelude.{Some, None}
 
 -- ---- one slot, test by test
 
@@ -32,11 +32,11 @@ module _ (x : Short) (peer prepared : ℕ) (k : Cell) (e : cell_of k ≡ x) (t :
   skip_status g = sym (rw (sym f ∙ not-true t g)) ∙ back
 
   module _ (g : not t ≡ false) where
-    pub skip_none : k.leader_bk ≡ leader.None → Skip ≡ missed_of x peer prepared
+    pub skip_none : k.leader_bk ≡ None → Skip ≡ missed_of x peer prepared
     unfolding missed_of
     skip_none h = sym (rw (sym f ∙ not-false t g, h)) ∙ back
 
-    module _ (acks : ℕ) (h : k.leader_bk ≡ leader.Some acks) (b : Bool) (a : b ≡ get acks peer) where
+    module _ (acks : ℕ) (h : k.leader_bk ≡ Some acks) (b : Bool) (a : b ≡ get acks peer) where
       pub stop_acked : b ≡ true → Stop ≡ missed_of x peer prepared
       unfolding missed_of
       stop_acked w = sym (rw (sym f ∙ not-false t g, h, sym a ∙ w)) ∙ back

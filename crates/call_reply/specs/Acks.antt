@@ -1,6 +1,6 @@
 -- Bridge: the ack of a peer at its slot, over the slots' words; tied to `handle_msg_accept_reply` by proofs/Replies.
 use Rattle.std.specs.Prelude.{◌≡◌, ◌||◌, not, List, [], ◌∷◌, ℕ, ltb, if◌then◌else◌}
-use Rattle.std.proofs.Math.Option.{Option, none, some}
+use Rattle.std.specs.Prelude.{Option, None, Some}
 use Rattle.words.specs.Choice.{if_none◌then◌else◌}
 use Rattle.bitmap.specs.Bitmap.{get, mark}
 use Rattle.items.specs.Item.{Item, Commit}
@@ -13,14 +13,14 @@ use Rattle.call_reply.specs.declared.Ack.{Ack}
 use Rattle.call_reply.specs.declared.Ack.TheVariants.{Ignored, Marks, Commits}
 
 abbrev pub with_acks : ℕ → Short → Short
-with_acks m x = record { bal = x.bal; status = x.status; leader_bk = some m; replica_bk = x.replica_bk }
+with_acks m x = record { bal = x.bal; status = x.status; leader_bk = Some m; replica_bk = x.replica_bk }
 
 -- the acks of a slot with the peer's, where the slot waits for it
 unfoldable pub acks_with : Short → ℕ → ℕ → Option ℕ
 acks_with x peer ballot =
-    if not (is_accepting x.status) || ltb ballot x.bal then none else
-    if_none x.leader_bk then none else λ acks.
-    if get acks peer then none else some (mark acks peer)
+    if not (is_accepting x.status) || ltb ballot x.bal then None else
+    if_none x.leader_bk then None else λ acks.
+    if get acks peer then None else Some (mark acks peer)
 
 -- what they do to it
 unfoldable pub ack_of : Short → List Request → ℕ → ℕ → ℕ → Conf → Ack

@@ -1,17 +1,16 @@
 -- Bridge: *reply*, what the code tests, and what a reply that is waited on does to the slots' words and the answer
 -- area; tied to `grounds` and `handle_msg_accept_reply` by proofs/Replies.
 use Rattle.std.specs.Prelude.{◌≡◌, Bool, ◌&&◌, not, List, [], ◌++◌, ℕ, ◌+◌, ◌-◌, ◌≤◌, ◌<◌, ltb, leb, eqb, length, if◌then◌else◌}
-use Rattle.std.proofs.Math.Option.{Option}
+use Rattle.std.specs.Prelude.{Option}
 use Rattle.words.specs.Writes.{writes}
 use Rattle.roster_conf.specs.Ground.{◌when◌or◌}
 use Rattle.items.specs.Item.{Item, encode, places}
 use Rattle.bodega.specs.Grounds.{far}
 use Rattle.node.specs.View.{lowest, leads_it}
 use Rattle.call_reply.specs.declared.Ack.{Ack}
-use Rattle.call_reply.specs.declared.Taken.{Taken}
-use Rattle.call_reply.specs.declared.Taken.TheVariants.{Items, Full}
 use Rattle.call_reply.specs.Resends.{resends_of}
 use Rattle.call_reply.specs.Acks.{commit_items, Acts}
+use Rattle.std.specs.Prelude.{Some, None}
 
 -- 16: a slot from start on that is not held, under the ballot that is waited on
 abbrev pub unheld : ℕ → ℕ → ℕ → ℕ → ℕ → Bool
@@ -33,6 +32,6 @@ abbrev pub items_of : List ℕ → ℕ → ℕ → ℕ → ℕ → ℕ → Ack �
 items_of s id peer commit prepared slot a = resends_of s commit peer prepared (span id peer commit slot) ++ commit_items a slot
 
 -- the items l and the ack a at place c, or all as it was where the area has too few places
-abbrev pub Replies : List Item → Ack → ℕ → List ℕ → List ℕ → Taken → List ℕ → List ℕ → Type 0
-Replies l a c s area (Items n) s' area' = (n ≡ length l) × (length l ≤ places area) × (area' ≡ writes area 0 (encode l)) × Acts a s c s'
-Replies l a c s area Full s' area' = (places area < length l) × (s' ≡ s) × (area' ≡ area)
+abbrev pub Replies : List Item → Ack → ℕ → List ℕ → List ℕ → Option ℕ → List ℕ → List ℕ → Type 0
+Replies l a c s area (Some n) s' area' = (n ≡ length l) × (length l ≤ places area) × (area' ≡ writes area 0 (encode l)) × Acts a s c s'
+Replies l a c s area None s' area' = (places area < length l) × (s' ≡ s) × (area' ≡ area)

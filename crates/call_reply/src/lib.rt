@@ -19,10 +19,10 @@ ghost use Rattle.call_reply.specs.Resends.{missed_of, sent_by, left_by, sends, r
 ghost use Rattle.call_reply.specs.Acks.{with_acks, acks_with, ack_of, commits_by, commit_items, Acts};
 ghost use Rattle.call_reply.specs.Replies.{unheld, reply_refusal, awaited, span, items_of, Replies};
 
-use ids::{Ballot, Replica, Slot};
-use inst_cell::{Cell, LeaderBk, Status};
+use ids::{Ballot, Refusal, Replica, Slot};
+use inst_cell::{Cell, Status};
 use items::Item;
-use node::{Answered, Node, is_ready};
+use node::{Taken, Node, is_ready};
 use roster_conf::RespondersConf;
 
 // ---- `resend_missed_accepts`
@@ -57,7 +57,7 @@ fn missed_at(s: &[u64], c: usize, peer: Replica, prepared: Ballot) -> Missed
         return Missed::Skip;
     }
     let bk = cell.leader_bk;
-    let LeaderBk::Some(acks) = bk else {
+    let Some(acks) = bk else {
         return Missed::Skip;
     };
     if bitmap::get(acks, peer) {
@@ -157,26 +157,26 @@ enum Ack {
 }
 
 // None where the slot does not wait for it.
-fn acks_with(s: &[u64], c: usize, peer: Replica, ballot: Ballot) -> LeaderBk
+fn acks_with(s: &[u64], c: usize, peer: Replica, ballot: Ballot) -> Option<u64>
     requires { (c < slot_places) × (slot_words ≤ length s.now) }
     ensures { acks_of result ≡ acks_with (short_at s.now c) peer.0 ballot.0 }
 {
     let cell = insts::load(s, c);
     let status = cell.status;
     if !is_accepting(status) {
-        return LeaderBk::None;
+        return None;
     }
     if ballot.0 < cell.bal.0 {
-        return LeaderBk::None;
+        return None;
     }
     let bk = cell.leader_bk;
-    let LeaderBk::Some(before) = bk else {
-        return LeaderBk::None;
+    let Some(before) = bk else {
+        return None;
     };
     if bitmap::get(before, peer) {
-        return LeaderBk::None;
+        return None;
     }
-    LeaderBk::Some(bitmap::set(before, peer, true))
+    Some(bitmap::set(before, peer, true))
 }
 
 // From the slots' words and the roster's rows.
@@ -192,7 +192,7 @@ fn ack_at(
     requires { (c < slot_places) × (slot_words ≤ length s.now) × (roster_words ≤ length rows.now) × (conf.count ≤ 64) }
     ensures { result ≡ ack_of (short_at s.now c) (batch_at s.now c) peer.0 ballot.0 quorum (roster_of conf rows.now) }
 {
-    let LeaderBk::Some(acks) = acks_with(s, c, peer, ballot) else {
+    let Some(acks) = acks_with(s, c, peer, ballot) else {
         return Ack::Ignored;
     };
     let a = insts::batch_at(c);
@@ -255,7 +255,7 @@ fn set_acks(s: &mut [u64], c: usize, acks: u64)
     let cell = insts::load(s, c);
     let bal = cell.bal;
     let status = cell.status;
-    let leader_bk = LeaderBk::Some(acks);
+    let leader_bk = Some(acks);
     let replica_bk = cell.replica_bk;
     insts::store(
         s,
@@ -314,20 +314,20 @@ fn reply_refusal(
     peer: Replica,
     slot: Slot,
     ballot: Ballot,
-) -> u64
+) -> Result<(), Refusal>
     requires { (start.0 ≤ top) × (slots ≤ slot_places) }
-    ensures { result ≡ reply_refusal population start.0 slots prepared.0 peer.0 slot.0 ballot.0 }
+    ensures { refused_by result ≡ reply_refusal population start.0 slots prepared.0 peer.0 slot.0 ballot.0 }
 {
     if population <= peer.0 {
-        return 3;
+        return Err(Refusal::NoSuchReplica);
     }
-    if Slot::TOP < slot.0 {
-        return 8;
+    if Slot::TOP < slot {
+        return Err(Refusal::SlotTooLarge);
     }
     if unheld(start, slots, prepared, slot, ballot) {
-        return 16;
+        return Err(Refusal::SlotNotHeld);
     }
-    0
+    Ok(())
 }
 
 // Whether anything is done: the slot is not below start, the ballot is the one waited on, and the replica leads.
@@ -359,12 +359,6 @@ fn span_of(id: Replica, peer: Replica, commit: Slot, slot: Slot) -> usize
     (slot.0 - commit.0) as usize
 }
 
-#[derive(Clone, Copy)]
-enum Taken {
-    Items(usize),
-    Full,
-}
-
 // A reply that is waited on: its items and its ack, or nothing where the area has too few places.
 fn take_reply(
     s: &mut [u64],
@@ -375,20 +369,20 @@ fn take_reply(
     peer: Replica,
     slot: Slot,
     ack: Ack,
-) -> Taken
+) -> Option<usize>
     requires { (slot_words ≤ length s.old) × (commit.0 ≤ top + slot_places) × (slot.0 ≤ commit.0 + slot_places) }
     ensures { Replies (items_of s.old id.0 peer.0 commit.0 prepared.0 slot.0 ack) ack (slot.0 % slot_places) s.old area.old result s.new area.new }
 {
     let n = span_of(id, peer, commit, slot);
     let count = count_resends(s, commit, n, peer, prepared) + commits(ack);
     if area.len() / 6 < count {
-        return Taken::Full;
+        return None;
     }
     let place = put_resends(s, commit, n, peer, prepared, area);
     put_commit(area, place, ack, slot);
     let c = (slot.0 % layout::PLACES) as usize;
     act(s, c, ack);
-    Taken::Items(count)
+    Some(count)
 }
 
 pub fn reply(
@@ -398,15 +392,15 @@ pub fn reply(
     peer: Replica,
     slot: Slot,
     ballot: Ballot,
-) -> Answered
-    ensures { Answers ready view (Reply peer.0 slot.0 ballot.0) node mem.old area.old (given_of result) mem.new area.new }
+) -> Result<Taken, Refusal>
+    ensures { Answers ready view (Reply peer.0 slot.0 ballot.0) node mem.old area.old (given_of node result) mem.new area.new }
 {
     if !is_ready(node, mem) {
-        return Answered::refused(node, 2);
+        return Err(Refusal::NotReady);
     }
     let start = node.start_slot;
     let prepared = node.bal_prepared;
-    let refusal = reply_refusal(
+    reply_refusal(
         node.population,
         start,
         node.slots,
@@ -414,13 +408,10 @@ pub fn reply(
         peer,
         slot,
         ballot,
-    );
-    if refusal != 0 {
-        return Answered::refused(node, refusal);
-    }
+    )?;
     let conf = node.bodega_conf;
     if !awaits(node, slot, ballot) {
-        return Answered::taken(node, 0);
+        return Ok(Taken { node, count: 0 });
     }
     let c = (slot.0 % layout::PLACES) as usize;
     let ack = ack_in(mem, c, peer, ballot, node.quorum, conf);
@@ -434,8 +425,8 @@ pub fn reply(
         slot,
         ack,
     );
-    let Taken::Items(items) = taken else {
-        return Answered::refused(node, 20);
+    let Some(items) = taken else {
+        return Err(Refusal::AreaTooSmall);
     };
-    Answered::taken(node, items)
+    Ok(Taken { node, count: items })
 }

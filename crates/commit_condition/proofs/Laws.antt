@@ -4,7 +4,7 @@ use mathlib.Core.Path.{◌≡◌, refl, sym, ap, ◌∙◌}
 use mathlib.Core.Logic.{◌⊎◌, ⊎_elim}
 use mathlib.Core.Bool.{Bool, true, false, not, ◌&&◌}
 use mathlib.Core.List.{List}
-use mathlib.Core.Option.{Option, none, some}
+use Rattle.std.specs.Prelude.{Option, None, Some}
 use Prim.Native.Nat.{ℕ, suc, ◌+◌, ◌-◌, ◌*◌, ◌≤◌, ◌<◌}
 use native.Mathlib.Nat.{sub-zero}
 use native.Mathlib.Omega.{arith}
@@ -17,65 +17,63 @@ use Rattle.words.specs.Tab.{tab}
 use Rattle.layout.specs.Layout.{request_row, roster_words}
 use Rattle.key_words.specs.Key.{key_at, bytes_of, at_most_48, bytes_in, size_in}
 use Rattle.key_words.specs.declared.Key.{Key}
-use Rattle.key_words.specs.declared.Unpacked.{Unpacked}
-use Rattle.key_words.specs.declared.Unpacked.TheVariants.{Bytes, Foreign}
 use Rattle.key_words.proofs.Laws.{foreign_unread}
 use Rattle.bitmap.specs.Bitmap.{count, is_superset}
 use Rattle.inst_reqs.specs.Batch.{request_from, request_at, requests_of}
 use Rattle.inst_reqs.proofs.Laws.{requests_are}
 use Rattle.bodega.specs.Localread.{acked, all_acked, commit_condition}
 use Rattle.roster_conf.specs.contracts.Responders.{the_type}
-use Rattle.roster_conf.specs.declared.Responders.{Responders}
-use Rattle.roster_conf.specs.declared.Responders.TheVariants.{Mask, NoRoster}
 use Rattle.roster_conf.specs.declared.RespondersConf.{RespondersConf}
 use Rattle.roster_conf.specs.Conf.{Conf, get_responders_by_key}
 use Rattle.roster_conf.specs.Edits.{view, lookup, roster_of}
 use Rattle.commit_condition.specs.Acked.{write_acked}
+use Rattle.std.specs.Prelude.{Result, Ok}
+use Rattle.ids.specs.declared.Refusal.{Refusal}
 
 -- ---- the roster of a key
 
 -- bytes that were shown are the key's
-shown : (b x : List ℕ) → ◌≡◌ {A = Option (List ℕ)} (some x) (at_most_48 b) → x ≡ b
+shown : (b x : List ℕ) → ◌≡◌ {A = Option (List ℕ)} (Some x) (at_most_48 b) → x ≡ b
 shown b x e = go (leb (length b) 48) e
   where
-    go : (t : Bool) → ◌≡◌ {A = Option (List ℕ)} (some x) (if t then some b else none) → x ≡ b
+    go : (t : Bool) → ◌≡◌ {A = Option (List ℕ)} (Some x) (if t then Some b else None) → x ≡ b
     go true e = cc
     go false e = cc
 
-pub few_bytes : (u : Unpacked) (n : ℕ) → size_in u ≤ 48 → u ≡ Bytes n → n ≤ 48
+pub few_bytes : (u : Option ℕ) (n : ℕ) → size_in u ≤ 48 → u ≡ Some n → n ≤ 48
 few_bytes u n h e = rw e at h
 
 -- t is what was unpacked, u what that answered
-module _ (c : RespondersConf) (rows : List ℕ) (key : Key) (t : List ℕ) (u : Unpacked) (told : bytes_in u t ≡ at_most_48 (bytes_of key)) where
-  pub no_bytes : u ≡ Foreign → NoRoster ≡ roster_of (get_responders_by_key (view c rows) (bytes_of key))
+module _ (c : RespondersConf) (rows : List ℕ) (key : Key) (t : List ℕ) (u : Option ℕ) (told : bytes_in u t ≡ at_most_48 (bytes_of key)) where
+  pub no_bytes : u ≡ None → Ok None ≡ roster_of (get_responders_by_key (view c rows) (bytes_of key))
   unfolding get_responders_by_key
-  no_bytes f = rw (foreign_unread key (sym (ap (λ (x : Unpacked). bytes_in x t) f) ∙ told))
+  no_bytes f = rw (foreign_unread key (sym (ap (λ (x : Option ℕ). bytes_in x t) f) ∙ told))
 
-  pub looked_up : (n : ℕ) → u ≡ Bytes n → roster_words ≤ length rows → c.count ≤ 64 → (r : Responders) → r ≡ lookup c rows (take n t)
+  pub looked_up : (n : ℕ) → u ≡ Some n → roster_words ≤ length rows → c.count ≤ 64 → (r : Result (Option ℕ) Refusal) → r ≡ lookup c rows (take n t)
       → r ≡ roster_of (get_responders_by_key (view c rows) (bytes_of key))
   unfolding lookup
   looked_up n f long few r e =
-      let b : take n t ≡ bytes_of key = shown (bytes_of key) (take n t) (sym (ap (λ (x : Unpacked). bytes_in x t) f) ∙ told) in
+      let b : take n t ≡ bytes_of key = shown (bytes_of key) (take n t) (sym (ap (λ (x : Option ℕ). bytes_in x t) f) ∙ told) in
       e ∙ rw (b, le-leb roster_words (length rows) long, le-leb c.count 64 few)
 
 -- ---- a written key
 
-module _ (c : Conf) (acks : ℕ) (key : List ℕ) (r : Responders) (e : r ≡ roster_of (get_responders_by_key c key)) where
+module _ (c : Conf) (acks : ℕ) (key : List ℕ) (r : Result (Option ℕ) Refusal) (e : r ≡ roster_of (get_responders_by_key c key)) where
   pub no_roster : (tag_of the_type r ≡ 1) ⊎ (tag_of the_type r ≡ 2) → true ≡ write_acked c acks key
   no_roster h = go (get_responders_by_key c key) e
     where
       go : (o : Option ℕ) → r ≡ roster_of o → true ≡ (if_none o then true else λ m. is_superset acks m)
-      go none e = refl
-      go (some m) e =
+      go None e = refl
+      go (Some m) e =
           let q : tag_of the_type r ≡ 0 = ap (tag_of the_type) e in
           absurd (⊎_elim (λ w. omega arith) (λ w. omega arith) h)
 
-  pub roster : (m : ℕ) (a : Bool) → r ≡ Mask m → a ≡ is_superset acks m → a ≡ write_acked c acks key
+  pub roster : (m : ℕ) (a : Bool) → r ≡ Ok (Some m → a ≡ is_superset acks m → a ≡ write_acked c acks key
   roster m a g s = go (get_responders_by_key c key) (sym g ∙ e)
     where
-      go : (o : Option ℕ) → Mask m ≡ roster_of o → a ≡ (if_none o then true else λ m. is_superset acks m)
-      go none w = cc
-      go (some k) w = let q : m ≡ k = cc in rw (← q) s
+      go : (o : Option ℕ) → Ok (Some m ≡ roster_of o → a ≡ (if_none o then true else λ m. is_superset acks m)
+      go None w = cc
+      go (Some k) w = let q : m ≡ k = cc in rw (← q) s
 
 -- ---- a request
 

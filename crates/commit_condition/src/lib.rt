@@ -10,7 +10,7 @@ ghost use Rattle.roster_conf.specs.Conf.{get_responders_by_key};
 ghost use Rattle.roster_conf.specs.Edits.{view, roster_of};
 ghost use Rattle.commit_condition.specs.Acked.{write_acked};
 
-use key_words::{Key, Unpacked};
+use key_words::Key;
 use roster_conf::{Responders, RespondersConf};
 
 // The roster of a key in seven words. Words that are no bytes' do not read, and have none.
@@ -19,7 +19,7 @@ fn responders_by_key(key: Key, conf: RespondersConf, rows: &[u64]) -> Responders
     ensures { result ≡ roster_of (get_responders_by_key (view conf rows.now) (bytes_of key)) }
 {
     let mut text = [0u8; 48];
-    let Unpacked::Bytes(n) = key_words::unpack(key, &mut text) else {
+    let Some(n) = key_words::unpack(key, &mut text) else {
         return Responders::NoRoster;
     };
     conf.get_responders_by_key(rows, &text[0..n])
@@ -64,7 +64,7 @@ pub fn commit_condition(
     requires { (batch_words ≤ length batch.now) × (roster_words ≤ length rows.now) × (conf.count ≤ 64) }
     ensures { result ≡ commit_condition acks (requests_of batch.now) quorum (view conf rows.now) }
 {
-    if bitmap::count(acks) < words::wide(quorum) {
+    if bitmap::count(acks) < u64::from(quorum) {
         return false;
     }
     let n = inst_reqs::count(batch);

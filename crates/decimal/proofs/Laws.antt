@@ -14,8 +14,7 @@ use Rattle.inty.proofs.Laws.{below_top, low_only}
 use Rattle.words.specs.Writes.{writes, writes_snoc}
 use Rattle.decimal.specs.Digits.{decimal_in, decimal}
 use Rattle.decimal.specs.Placed.{Placed, placed}
-use Rattle.decimal.specs.declared.Written.{Written}
-use Rattle.decimal.specs.declared.Written.TheVariants.{End, Short}
+use Rattle.std.specs.Prelude.{Option, Some, None}
 
 -- any fuel above n gives the same
 same_in : (f g n : ℕ) → n < f → n < g → decimal_in f n ≡ decimal_in g n
@@ -143,22 +142,22 @@ module _ (n q : ℕ) (t : Bool) (e : q ≡ n / 10) (f : t ≡ eqb q 0) where
 
 -- r is the text's length, as it was counted beforehand
 module _ (out : List ℕ) (at : ℕ) (text : List ℕ) where
-  pub placed_past : length out < at → record { answer = Short; bytes = out } ≡ placed out at text
+  pub placed_past : length out < at → record { answer = None; bytes = out } ≡ placed out at text
   placed_past f = simp (lt-leb (at + length text) (length out) (omega arith))
 
-  pub placed_short : (r : ℕ) → at ≤ length out → length out - at < r → r ≡ length text → record { answer = Short; bytes = out } ≡ placed out at text
+  pub placed_short : (r : ℕ) → at ≤ length out → length out - at < r → r ≡ length text → record { answer = None; bytes = out } ≡ placed out at text
   placed_short r f g e = simp (lt-leb (at + length text) (length out) (omega arith))
 
   pub placed_end : (r e : ℕ) (l : List ℕ) → at ≤ length out → r ≤ length out - at → r ≡ length text → e ≡ at + length text → l ≡ writes out at text
-      → record { answer = End e; bytes = l } ≡ placed out at text
+      → record { answer = Some e; bytes = l } ≡ placed out at text
   placed_end r e l f g h k m = simp (le-leb (at + length text) (length out) (omega arith), k, m)
 
 pub low_half : (n : ℕ) (p : Placed) (out : List ℕ) (at : ℕ) → p ≡ placed out at (decimal (0 * 18446744073709551616 + n)) → p ≡ placed out at (decimal n)
 low_half n p out at e = e ∙ ap (λ (k : ℕ). placed out at (decimal k)) (low_only n)
 
 -- for a caller that has room: the answer is where the text ends
-pub has_room : (out : List ℕ) (at : ℕ) (text : List ℕ) (w : Written) (l : List ℕ) → at + length text ≤ length out → record { answer = w; bytes = l } ≡ placed out at text
-    → (w ≡ End (at + length text)) × (l ≡ writes out at text)
+pub has_room : (out : List ℕ) (at : ℕ) (text : List ℕ) (w : Option ℕ) (l : List ℕ) → at + length text ≤ length out → record { answer = w; bytes = l } ≡ placed out at text
+    → (w ≡ Some (at + length text)) × (l ≡ writes out at text)
 has_room out at text w l h e =
-    let f : ◌≡◌ {A = Placed} (record { answer = w; bytes = l }) (record { answer = End (at + length text); bytes = writes out at text }) = e ∙ simp (le-leb (at + length text) (length out) h) in
+    let f : ◌≡◌ {A = Placed} (record { answer = w; bytes = l }) (record { answer = Some (at + length text); bytes = writes out at text }) = e ∙ simp (le-leb (at + length text) (length out) h) in
     (ap (λ (p : Placed). p.answer) f, ap (λ (p : Placed). p.bytes) f)

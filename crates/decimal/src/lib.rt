@@ -9,13 +9,6 @@ ghost use Rattle.decimal.specs.Placed.{placed};
 
 use inty::Inty;
 
-// Where the bytes end, or that there is no room for them.
-#[derive(Clone, Copy)]
-pub enum Written {
-    End(usize),
-    Short,
-}
-
 fn digit(d: u64) -> u8
     requires { d < 10 }
     ensures { result ≡ 48 + d }
@@ -26,9 +19,9 @@ fn digit(d: u64) -> u8
 fn digit_count(x: Inty) -> usize
     ensures { result ≡ length (decimal (value_of x)) }
 {
-    let t = inty::div_ten(x);
+    let t = x.div_ten();
     let q = t.quotient;
-    if inty::is_zero(q) {
+    if q == Inty::ZERO {
         return 1;
     }
     digit_count(q) + 1
@@ -39,10 +32,10 @@ fn put(out: &mut [u8], at: usize, x: Inty) -> usize
     requires { at + length (decimal (value_of x)) ≤ length out.old }
     ensures { (result ≡ at + length (decimal (value_of x))) × (out.new ≡ writes out.old at (decimal (value_of x))) }
 {
-    let t = inty::div_ten(x);
+    let t = x.div_ten();
     let d = digit(t.remainder);
     let q = t.quotient;
-    if inty::is_zero(q) {
+    if q == Inty::ZERO {
         out[at] = d;
         return at + 1;
     }
@@ -51,19 +44,19 @@ fn put(out: &mut [u8], at: usize, x: Inty) -> usize
     end + 1
 }
 
-pub fn write(out: &mut [u8], at: usize, x: Inty) -> Written
+pub fn write(out: &mut [u8], at: usize, x: Inty) -> Option<usize>
     ensures { record { answer = result; bytes = out.new } ≡ placed out.old at (decimal (value_of x)) }
 {
     if at > out.len() {
-        return Written::Short;
+        return None;
     }
     if digit_count(x) > out.len() - at {
-        return Written::Short;
+        return None;
     }
-    Written::End(put(out, at, x))
+    Some(put(out, at, x))
 }
 
-pub fn write_u64(out: &mut [u8], at: usize, n: u64) -> Written
+pub fn write_u64(out: &mut [u8], at: usize, n: u64) -> Option<usize>
     ensures { record { answer = result; bytes = out.new } ≡ placed out.old at (decimal n) }
 {
     write(out, at, Inty { hi: 0, lo: n })

@@ -1,35 +1,35 @@
 -- Trusted: the node and a roster as plain structs, for a caller that has no enums.
 use Rattle.std.specs.Prelude.{◌≡◌, ℕ, eqb, if◌then◌else◌}
-use Rattle.ids.specs.declared.Leader.{Leader}
-use Rattle.ids.specs.declared.Leader.TheVariants.{None, Some}
 use Rattle.roster_conf.specs.declared.RespondersConf.{RespondersConf}
 use Rattle.node.specs.declared.Node.{Node}
-use Rattle.node.specs.declared.Answered.{Answered}
-use Rattle.node.specs.declared.Fresh.{Fresh}
-use Rattle.node.specs.declared.Fresh.TheVariants.{Made, Refused}
 use Rattle.bodega.specs.Answers.{Given}
 use Rattle.export_plain.specs.declared.Plain.{Plain}
 use Rattle.export_plain.specs.declared.PlainAnswered.{PlainAnswered}
 use Rattle.export_plain.specs.declared.Roster.{Roster}
+use Rattle.std.specs.Prelude.{Option, Some, None}
+use Rattle.ids.specs.declared.Replica.{Replica}
+use Rattle.std.specs.Prelude.{Result, Ok, Err}
+use Rattle.ids.specs.declared.Refusal.{Refusal}
+use Rattle.node.specs.declared.Taken.{Taken}
 
-abbrev pub leader_at : ℕ → ℕ → Leader
+abbrev pub leader_at : ℕ → ℕ → Option Replica
 leader_at has l = if eqb has 0 then None else Some (record { 0 = l })
 
-abbrev pub has_leader : Leader → ℕ
+abbrev pub has_leader : Option Replica → ℕ
 has_leader None = 0
 has_leader (Some r) = 1
 
-abbrev pub leader_in : Leader → ℕ
+abbrev pub leader_in : Option Replica → ℕ
 leader_in None = 0
 leader_in (Some r) = r.0
 
-abbrev pub conf_with : Leader → Roster → RespondersConf
+abbrev pub conf_with : Option Replica → Roster → RespondersConf
 conf_with l r = record { leader = l; count = r.ranges; default = r.default }
 
 abbrev pub conf_of : Roster → RespondersConf
 conf_of r = conf_with (leader_at r.has_leader r.leader) r
 
-abbrev pub node_with : Leader → Plain → Node
+abbrev pub node_with : Option Replica → Plain → Node
 node_with l p =
     record {
       id = record { 0 = p.id };
@@ -101,23 +101,23 @@ no_node =
 
 -- ---- what the functions give
 
-abbrev pub shown_of : Plain → Answered → Plain
+abbrev pub shown_of : Plain → Result Taken Refusal → Plain
 shown_of p a = if eqb a.number 0 then plain_of a.node else p
 
-abbrev pub answered_of : Plain → Answered → PlainAnswered
+abbrev pub answered_of : Plain → Result Taken Refusal → PlainAnswered
 answered_of p a = record { number = a.number; count = a.count; node = shown_of p a }
 
-unfoldable pub begun_of : Fresh → PlainAnswered
-begun_of (Made n) = record { number = 0; count = 0; node = plain_of n }
-begun_of (Refused k) = record { number = k; count = 0; node = no_node }
+unfoldable pub begun_of : Result Node Refusal → PlainAnswered
+begun_of (Ok n) = record { number = 0; count = 0; node = plain_of n }
+begun_of (Err k) = record { number = k; count = 0; node = no_node }
 
 -- ---- read back
 
 abbrev pub given : PlainAnswered → Given Node
 given r = record { number = r.number; count = r.count; node = node_of r.node }
 
-abbrev pub fresh_of : PlainAnswered → Fresh
-fresh_of r = if eqb r.number 0 then Made (node_of r.node) else Refused r.number
+abbrev pub fresh_of : PlainAnswered → Result Node Refusal
+fresh_of r = if eqb r.number 0 then Ok (node_of r.node) else Err r.number
 
 -- No field is free: a call that is taken gives what `plain_of` makes of its node, one that is refused what it was
 -- handed.

@@ -4,8 +4,8 @@
 ghost use Rattle.std.specs.Prelude.{◌≡◌};
 ghost use Rattle.export_plain.specs.Plain.{leader_at, has_leader, leader_in, node_of, plain_of, shown_of, answered_of, begun_of, no_node, conf_of};
 
-use ids::{Ballot, Leader, Replica, Slot};
-use node::{Answered, Fresh, Node};
+use ids::{Ballot, Replica, Slot};
+use node::{Taken, Node};
 use roster_conf::RespondersConf;
 
 // A node; has_leader is 0 where there is no leader.
@@ -50,31 +50,31 @@ pub struct PlainAnswered {
     pub node: Plain,
 }
 
-fn leader_at(has: u64, l: u8) -> Leader
+fn leader_at(has: u64, l: u8) -> Option<Replica>
     ensures { result ≡ leader_at has l }
 {
     if has == 0 {
-        return Leader::None;
+        return None;
     }
     let r = Replica(l);
-    Leader::Some(r)
+    Some(r)
 }
 
-fn has_leader(leader: Leader) -> u64
+fn has_leader(leader: Option<Replica>) -> u64
     ensures { result ≡ has_leader leader }
 {
     match leader {
-        Leader::None => 0,
-        Leader::Some(_l) => 1,
+        None => 0,
+        Some(_l) => 1,
     }
 }
 
-fn leader_in(leader: Leader) -> u8
+fn leader_in(leader: Option<Replica>) -> u8
     ensures { result ≡ leader_in leader }
 {
     match leader {
-        Leader::None => 0,
-        Leader::Some(l) => l.0,
+        None => 0,
+        Some(l) => l.0,
     }
 }
 
@@ -153,7 +153,7 @@ fn plain_of(n: Node) -> Plain
 }
 
 // The node that a call gives back: where it is refused, the one that was handed in.
-fn shown(handed: Plain, a: Answered) -> Plain
+fn shown(handed: Plain, a: Result<Taken, Refusal>) -> Plain
     ensures { result ≡ shown_of handed a }
 {
     if a.number == 0 {
@@ -163,7 +163,7 @@ fn shown(handed: Plain, a: Answered) -> Plain
 }
 
 // What a call answered that was handed a plain node.
-pub fn answered(handed: Plain, a: Answered) -> PlainAnswered
+pub fn answered(handed: Plain, a: Result<Taken, Refusal>) -> PlainAnswered
     ensures { result ≡ answered_of handed a }
 {
     let node = shown(handed, a);
@@ -211,11 +211,11 @@ fn bare(number: u64, node: Plain) -> PlainAnswered
 }
 
 // A fresh node, or the refusal and no node.
-pub fn begun(fresh: Fresh) -> PlainAnswered
+pub fn begun(fresh: Result<Node, Refusal>) -> PlainAnswered
     ensures { result ≡ begun_of fresh }
 {
     match fresh {
-        Fresh::Made(node) => bare(0, plain_of(node)),
-        Fresh::Refused(number) => bare(number, no_node()),
+        Ok(node) => bare(0, plain_of(node)),
+        Err(number) => bare(number, no_node()),
     }
 }

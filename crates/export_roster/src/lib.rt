@@ -8,8 +8,7 @@ ghost use Rattle.roster_conf.specs.Edit.{SetResponders, SetFull, IntoFiltered};
 ghost use Rattle.roster_conf.specs.Edits.{lookup};
 ghost use Rattle.export_roster.specs.Numbers.{key_of, plain, count_of, Counts, mask_of};
 
-use ids::{Leader, Replica};
-use keys::KeyRead;
+use ids::Replica;
 use roster_conf::{Edited, Responders, RespondersConf};
 
 // read is 1, or 0 where the key does not read.
@@ -41,28 +40,28 @@ fn conf(count: usize, default: u64) -> RespondersConf
     ensures { result ≡ plain count default }
 {
     RespondersConf {
-        leader: Leader::None,
+        leader: None,
         count,
         default,
     }
 }
 
-fn counted(edited: Edited, count: usize) -> Count
+fn counted(edited: Result<RespondersConf, Refusal>, count: usize) -> Count
     ensures { result ≡ count_of edited count }
 {
     match edited {
-        Edited::Taken(next) => Count {
+        Ok(next) => Count {
             number: 0,
             count: next.count,
         },
-        Edited::Refused(number) => Count { number, count },
+        Err(number) => Count { number, count },
     }
 }
 
 pub fn key_to_inty(key: &[u8]) -> Key
     ensures { result ≡ key_of (read_key key.now) }
 {
-    let KeyRead::Number(n) = keys::key_to_inty(key) else {
+    let Some(n) = keys::key_to_inty(key) else {
         return Key {
             read: 0,
             hi: 0,

@@ -18,7 +18,7 @@ ghost use Rattle.heard_new_conf.specs.Does.{Does, whole};
 ghost use Rattle.heard_new_conf.specs.Forgets.{Forgets};
 
 use ids::{Ballot, Replica, Slot};
-use node::{Answered, Node};
+use node::{Taken, Node};
 use roster_conf::RespondersConf;
 
 // The own guard, at the ballot and the accept bar; gives the reading bar worked out anew.
@@ -69,9 +69,9 @@ fn forget(execs: &mut [u64])
 }
 
 // The slots and the items of a step-up, at the ballot that is seen, which is not prepared yet.
-fn become_a_leader(node: Node, mem: &mut [u64], area: &mut [u64]) -> Answered
+fn become_a_leader(node: Node, mem: &mut [u64], area: &mut [u64]) -> Taken
     requires { (ready node mem.old ≡ true) × (slots_after node.slots (view node mem.old).insts ≤ slot_places) × (length (become_a_leader (view node mem.old)).items ≤ places area.old) }
-    ensures { Does (become_a_leader (view node mem.old)) 0 mem.old area.old (given_of result) mem.new area.new }
+    ensures { Does (become_a_leader (view node mem.old)) 0 mem.old area.old (taken_of result) mem.new area.new }
 {
     let conf = node.bodega_conf;
     let leader = conf.leader;
@@ -98,8 +98,7 @@ fn become_a_leader(node: Node, mem: &mut [u64], area: &mut [u64]) -> Answered
     next.bal_prep_sent = ballot;
     next.bal_prepared = unprepared;
     next.slots = slots;
-    Answered {
-        number: 0,
+    Taken {
         count,
         node: next,
     }
@@ -127,16 +126,15 @@ pub fn heard_new_conf(
     ballot: Ballot,
     conf: RespondersConf,
     rows: &[u64],
-) -> Answered
+) -> Taken
     requires { (ready node mem.old ≡ true) × (whole conf.count rows.now ≡ true) × (leads (roster_of conf rows.now) node.id.0 ≡ true → slots_after node.slots (view node mem.old).insts ≤ slot_places) × (length (heard_new_conf (view node mem.old) ballot.0 (roster_of conf rows.now)).items ≤ places area.old) }
-    ensures { Does (heard_new_conf (view node mem.old) ballot.0 (roster_of conf rows.now)) 0 mem.old area.old (given_of result) mem.new area.new }
+    ensures { Does (heard_new_conf (view node mem.old) ballot.0 (roster_of conf rows.now)) 0 mem.old area.old (taken_of result) mem.new area.new }
 {
     let next = adopt(node, mem, ballot, conf, rows);
     let leader = conf.leader;
     let id = node.id;
     if !node::leads(leader, id) {
-        return Answered {
-            number: 0,
+        return Taken {
             count: 0,
             node: next,
         };

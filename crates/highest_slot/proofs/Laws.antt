@@ -4,7 +4,7 @@ use mathlib.Core.Path.{◌≡◌, refl, sym, ap, ◌∙◌}
 use mathlib.Core.Bool.{Bool, true, false, true≢false}
 use mathlib.Core.Logic.{inl, inr, ⊎_elim}
 use mathlib.Core.List.{List, [], ◌∷◌, ◌++◌}
-use mathlib.Core.Option.{none, some}
+use Rattle.std.specs.Prelude.{None, Some}
 use Prim.Native.Nat.{ℕ, suc, ◌+◌, ◌-◌, ◌*◌, ◌≤◌, ◌<◌, max, min}
 use native.Mathlib.Nat.{add-zero, zero-add, sub-zero}
 use native.Mathlib.Omega.{arith}
@@ -22,8 +22,7 @@ use Rattle.key_words.proofs.Laws.{key_at_agrees, key_at_writes}
 use Rattle.bodega.specs.Localread.{raise, highest_of}
 use Rattle.bodega.specs.Replica as machine
 use Rattle.highest_slot.specs.Written.{highest_at, written_of, place_of, Notes}
-use Rattle.highest_slot.specs.declared.Found.{Found}
-use Rattle.highest_slot.specs.declared.Found.TheVariants.{Entry, Nowhere}
+use Rattle.std.specs.Prelude.{Option}
 
 pub near : (s' s : List ℕ) (p : ℕ) → Agrees s' s p (p + written_row) → highest_at s' p ≡ highest_at s p
 unfolding highest_at
@@ -39,7 +38,7 @@ how_many s = length_counted highest_at written_row written_places s
 -- ---- the search
 
 -- what a search from i on finds
-unfoldable pub place_from : List ℕ → ℕ → ℕ → List ℕ → Found
+unfoldable pub place_from : List ℕ → ℕ → ℕ → List ℕ → Option ℕ
 place_from s i n key = place_of i key (tab (λ j. highest_at s (1 + j * written_row)) i (n - i))
 
 module _ (s : List ℕ) (n : ℕ) (key : Key) where
@@ -49,20 +48,20 @@ module _ (s : List ℕ) (n : ℕ) (key : Key) where
 
   -- in the words of the code: k is the key that was read, t what the comparison said
   module _ (i : ℕ) (b : i < n) (k : Key) (t : Bool) (e : k ≡ key_at s (1 + i * written_row + 1)) (q : t ≡ same_bytes (bytes_of k) (bytes_of key)) where
-    cut : place_from s i n (bytes_of key) ≡ (if t then Entry i else place_from s (i + 1) n (bytes_of key))
+    cut : place_from s i n (bytes_of key) ≡ (if t then Some i else place_from s (i + 1) n (bytes_of key))
     unfolding place_from place_of highest_at
     cut =
         let m : n - i ≡ suc (n - (i + 1)) = omega arith in
         let f : same_bytes (bytes_of (key_at s (1 + i * written_row + 1))) (bytes_of key) ≡ t = rw (← e) (sym q) in
         rw (m, f)
 
-    pub place_here : t ≡ true → place_from s i n (bytes_of key) ≡ Entry i
+    pub place_here : t ≡ true → place_from s i n (bytes_of key) ≡ Some i
     place_here h = cut ∙ rw h
 
     pub place_next : t ≡ false → place_from s i n (bytes_of key) ≡ place_from s (i + 1) n (bytes_of key)
     place_next h = cut ∙ rw h
 
-  pub place_end : (i : ℕ) → n ≤ i → place_from s i n (bytes_of key) ≡ Nowhere
+  pub place_end : (i : ℕ) → n ≤ i → place_from s i n (bytes_of key) ≡ None
   unfolding place_from place_of
   place_end i h =
       let m : n - i ≡ 0 = omega arith in
@@ -76,46 +75,46 @@ nobody = record { key = []; slot = 0 }
 -- the entry i is the key's
 record Hit (hs : List machine.Highest) (key : List ℕ) (i : ℕ) : Type 0 where
   below : i < length hs
-  slot_is : highest_of key hs ≡ some (get_or hs i nobody).slot
+  slot_is : highest_of key hs ≡ Some (get_or hs i nobody).slot
   raised : (slot : ℕ) → raise slot key hs ≡ set hs i (record { key = (get_or hs i nobody).key; slot = max slot (get_or hs i nobody).slot })
 
-hit : (hs : List machine.Highest) (b j : ℕ) (key : List ℕ) → place_of b key hs ≡ Entry j → (i : ℕ) × (j ≡ b + i) × Hit hs key i
+hit : (hs : List machine.Highest) (b j : ℕ) (key : List ℕ) → place_of b key hs ≡ Some j → (i : ℕ) × (j ≡ b + i) × Hit hs key i
 unfolding place_of raise highest_of
 hit [] b j key h = let z : ◌≡◌ {A = ℕ} 0 1 = cc in absurd (omega arith)
 hit (e ∷ hs) b j key h = go (same_bytes e.key key) refl h (hit hs (b + 1) j key)
   where
-    go : (t : Bool) → same_bytes e.key key ≡ t → (if t then Entry b else place_of (b + 1) key hs) ≡ Entry j
-        → (place_of (b + 1) key hs ≡ Entry j → (i : ℕ) × (j ≡ b + 1 + i) × Hit hs key i)
+    go : (t : Bool) → same_bytes e.key key ≡ t → (if t then Some b else place_of (b + 1) key hs) ≡ Some j
+        → (place_of (b + 1) key hs ≡ Some j → (i : ℕ) × (j ≡ b + 1 + i) × Hit hs key i)
         → (i : ℕ) × (j ≡ b + i) × Hit (e ∷ hs) key i
     go true q p r = (0, cc (add-zero b), record { below = omega arith; slot_is = rw q; raised = λ s. rw q })
     go false q p r =
         let w = r p in
         (suc w.0, omega (arith, w.1), record { below = omega (arith, w.2.below); slot_is = rw q w.2.slot_is; raised = λ s. rw (q, w.2.raised s) })
 
-miss : (hs : List machine.Highest) (b : ℕ) (key : List ℕ) → place_of b key hs ≡ Nowhere → (slot : ℕ) → raise slot key hs ≡ hs ++ (record { key = key; slot = slot } ∷ [])
+miss : (hs : List machine.Highest) (b : ℕ) (key : List ℕ) → place_of b key hs ≡ None → (slot : ℕ) → raise slot key hs ≡ hs ++ (record { key = key; slot = slot } ∷ [])
 unfolding place_of raise
 miss [] b key h slot = refl
 miss (e ∷ hs) b key h slot = go (same_bytes e.key key) refl h (λ p. miss hs (b + 1) key p slot)
   where
-    go : (t : Bool) → same_bytes e.key key ≡ t → (if t then Entry b else place_of (b + 1) key hs) ≡ Nowhere
-        → (place_of (b + 1) key hs ≡ Nowhere → raise slot key hs ≡ hs ++ (record { key = key; slot = slot } ∷ []))
+    go : (t : Bool) → same_bytes e.key key ≡ t → (if t then Some b else place_of (b + 1) key hs) ≡ None
+        → (place_of (b + 1) key hs ≡ None → raise slot key hs ≡ hs ++ (record { key = key; slot = slot } ∷ []))
         → raise slot key (e ∷ hs) ≡ (e ∷ hs) ++ (record { key = key; slot = slot } ∷ [])
     go true q p r = cc
     go false q p r = rw (q, r p)
 
-pub none_found : (hs : List machine.Highest) (b : ℕ) (key : List ℕ) → place_of b key hs ≡ Nowhere → none ≡ highest_of key hs
+pub none_found : (hs : List machine.Highest) (b : ℕ) (key : List ℕ) → place_of b key hs ≡ None → None ≡ highest_of key hs
 unfolding place_of highest_of
 none_found [] b key h = refl
 none_found (e ∷ hs) b key h = go (same_bytes e.key key) refl h (none_found hs (b + 1) key)
   where
-    go : (t : Bool) → same_bytes e.key key ≡ t → (if t then Entry b else place_of (b + 1) key hs) ≡ Nowhere
-        → (place_of (b + 1) key hs ≡ Nowhere → none ≡ highest_of key hs) → none ≡ (if t then some e.slot else highest_of key hs)
+    go : (t : Bool) → same_bytes e.key key ≡ t → (if t then Some b else place_of (b + 1) key hs) ≡ None
+        → (place_of (b + 1) key hs ≡ None → None ≡ highest_of key hs) → None ≡ (if t then Some e.slot else highest_of key hs)
     go true q p r = cc
     go false q p r = r p
 
 -- ---- a search's answer, in the words of the code
 
-module _ (s : List ℕ) (key : Key) (i : ℕ) (at : Found) (told : at ≡ place_of 0 (bytes_of key) (written_of s)) (found : at ≡ Entry i) where
+module _ (s : List ℕ) (key : Key) (i : ℕ) (at : Option ℕ) (told : at ≡ place_of 0 (bytes_of key) (written_of s)) (found : at ≡ Some i) where
   hit_at : Hit (written_of s) (bytes_of key) i
   hit_at =
       let w = hit (written_of s) 0 i (bytes_of key) (sym told ∙ found) in
@@ -132,7 +131,7 @@ module _ (s : List ℕ) (key : Key) (i : ℕ) (at : Found) (told : at ≡ place_
   unfolding written_of
   entry_is = get_or_tab (λ j. highest_at s (1 + j * written_row)) 0 (count_of written_places s) i nobody entry_below ∙ rw zero-add
 
-  pub slot_found : (v : ℕ) → v ≡ get_or s (1 + i * written_row) 0 → some v ≡ highest_of (bytes_of key) (written_of s)
+  pub slot_found : (v : ℕ) → v ≡ get_or s (1 + i * written_row) 0 → Some v ≡ highest_of (bytes_of key) (written_of s)
   unfolding highest_at
   slot_found v e =
       let g : (get_or (written_of s) i nobody).slot ≡ v = ap (λ (h : machine.Highest). h.slot) entry_is ∙ sym e in
@@ -163,8 +162,8 @@ module _ (s : List ℕ) (key : Key) (i : ℕ) (at : Found) (told : at ≡ place_
           beyond = λ j h. get_or-set_other s (1 + i * written_row) j v 0 (omega arith);
         }
 
-module _ (s : List ℕ) (key : Key) (at : Found) (told : at ≡ place_of 0 (bytes_of key) (written_of s)) (found : at ≡ Nowhere) where
-  pub slot_none : none ≡ highest_of (bytes_of key) (written_of s)
+module _ (s : List ℕ) (key : Key) (at : Option ℕ) (told : at ≡ place_of 0 (bytes_of key) (written_of s)) (found : at ≡ None) where
+  pub slot_none : None ≡ highest_of (bytes_of key) (written_of s)
   slot_none = none_found (written_of s) 0 (bytes_of key) (sym told ∙ found)
 
   abbrev New : ℕ → List machine.Highest
@@ -207,6 +206,6 @@ module _ (s : List ℕ) (key : Key) (at : Found) (told : at ≡ place_of 0 (byte
 pub noted_on : (s t key : List ℕ) (slot : ℕ) (r : Bool) → Notes s key slot r t → length (raise slot key (written_of s)) ≤ written_places → written_of t ≡ raise slot key (written_of s)
 noted_on s t key slot r p h = go r (rw (le-leb (length (raise slot key (written_of s))) written_places h) at p.outcome)
   where
-    go : (r : Bool) → (if r then some (written_of t) else none) ≡ some (raise slot key (written_of s)) → written_of t ≡ raise slot key (written_of s)
+    go : (r : Bool) → (if r then Some (written_of t) else None) ≡ Some (raise slot key (written_of s)) → written_of t ≡ raise slot key (written_of s)
     go true e = cc
     go false e = cc

@@ -1,17 +1,14 @@
 -- Trusted: the written keys that lent words stand for. What a write leaves is a bridge, tied by
 -- highest_slot_refresh/proofs/Laws.
 use Rattle.std.specs.Prelude.{◌≡◌, Bool, false, List, [], ◌∷◌, ℕ, ◌+◌, ◌≤◌, leb, length, get_or, if◌then◌else◌}
-use Rattle.std.proofs.Math.Option.{Option, none, some}
+use Rattle.std.specs.Prelude.{Option, None, Some}
 use Rattle.words.specs.Counted.{counted}
 use Rattle.keys.specs.Same.{same_bytes}
 use Rattle.key_words.specs.Key.{key_at, bytes_of}
 use Rattle.layout.specs.Layout.{written_places, written_row, written_words}
 use Rattle.bodega.specs.Localread.{raise}
 use Rattle.bodega.specs.Replica as machine
-use Rattle.highest_slot.specs.declared.LastWrite.{LastWrite}
-use Rattle.highest_slot.specs.declared.LastWrite.TheVariants.{At, Nothing}
-use Rattle.highest_slot.specs.declared.Found.{Found}
-use Rattle.highest_slot.specs.declared.Found.TheVariants.{Entry, Nowhere}
+use Rattle.ids.specs.declared.Slot.{Slot}
 
 -- the entry at word p
 unfoldable pub highest_at : List ℕ → ℕ → machine.Highest
@@ -21,20 +18,20 @@ highest_at s p = record { key = bytes_of (key_at s (p + 1)); slot = get_or s p 0
 unfoldable pub written_of : List ℕ → List machine.Highest
 written_of s = counted highest_at written_row written_places s
 
-abbrev pub slot_in : LastWrite → Option ℕ
-slot_in (At slot) = some slot.0
-slot_in Nothing = none
+abbrev pub slot_in : Option Slot → Option ℕ
+slot_in (Some slot) = Some slot.0
+slot_in None = None
 
 -- the first entry of a key, counted from i
-unfoldable pub place_of : ℕ → List ℕ → List machine.Highest → Found
-place_of i key [] = Nowhere
-place_of i key (h ∷ hs) = if same_bytes h.key key then Entry i else place_of (i + 1) key hs
+unfoldable pub place_of : ℕ → List ℕ → List machine.Highest → Option ℕ
+place_of i key [] = None
+place_of i key (h ∷ hs) = if same_bytes h.key key then Some i else place_of (i + 1) key hs
 
 abbrev pub capped : List machine.Highest → Option (List machine.Highest)
-capped l = if leb (length l) written_places then some l else none
+capped l = if leb (length l) written_places then Some l else None
 
 -- what a write of a key at a slot leaves on the words s: the answer, and the words t
 pub record Notes (s : List ℕ) (key : List ℕ) (slot : ℕ) (r : Bool) (t : List ℕ) : Type 0 where
-  pub outcome : (if r then some (written_of t) else none) ≡ capped (raise slot key (written_of s))
+  pub outcome : (if r then Some (written_of t) else None) ≡ capped (raise slot key (written_of s))
   pub refused : r ≡ false → t ≡ s
   pub beyond : (j : ℕ) → written_words ≤ j → get_or t j 0 ≡ get_or s j 0

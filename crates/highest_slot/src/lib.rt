@@ -13,19 +13,6 @@ use key_words::{Key, get_key, put_key};
 // Written keys at most.
 pub const KEYS: usize = layout::WRITTEN_PLACES;
 
-#[derive(Clone, Copy)]
-pub enum LastWrite {
-    At(Slot),
-    Nothing,
-}
-
-// Where a key's entry is.
-#[derive(Clone, Copy)]
-enum Found {
-    Entry(usize),
-    Nowhere,
-}
-
 pub fn count(s: &[u64]) -> usize
     requires { written_words ≤ length s.now }
     ensures { (result ≡ length (written_of s.now)) × (result ≤ written_places) }
@@ -34,7 +21,7 @@ pub fn count(s: &[u64]) -> usize
     if n <= KEYS as u64 { n as usize } else { KEYS }
 }
 
-fn find(s: &[u64], key: Key) -> Found
+fn find(s: &[u64], key: Key) -> Option<usize>
     requires { written_words ≤ length s.now }
     ensures { result ≡ place_of 0 (bytes_of key) (written_of s.now) }
 {
@@ -43,26 +30,26 @@ fn find(s: &[u64], key: Key) -> Found
     while i < n {
         let p = 1 + i * layout::WRITTEN_ROW;
         if key_words::same(get_key(s, p + 1), key) {
-            return Found::Entry(i);
+            return Some(i);
         }
         i += 1;
     }
-    Found::Nowhere
+    None
 }
 
 // The highest slot that wrote a key.
-pub fn highest(s: &[u64], key: Key) -> LastWrite
+pub fn highest(s: &[u64], key: Key) -> Option<Slot>
     requires { written_words ≤ length s.now }
     ensures { slot_in result ≡ highest_of (bytes_of key) (written_of s.now) }
 {
     let at = find(s, key);
     match at {
-        Found::Entry(i) => {
+        Some(i) => {
             let p = 1 + i * layout::WRITTEN_ROW;
             let slot = Slot(s[p]);
-            LastWrite::At(slot)
+            Some(slot)
         }
-        Found::Nowhere => LastWrite::Nothing,
+        None => None,
     }
 }
 
@@ -82,14 +69,14 @@ pub fn note(s: &mut [u64], key: Key, slot: Slot) -> bool
 {
     let at = find(s, key);
     match at {
-        Found::Entry(i) => {
+        Some(i) => {
             let p = 1 + i * layout::WRITTEN_ROW;
             let old = s[p];
             let new = larger(slot, Slot(old));
             s[p] = new.0;
             true
         }
-        Found::Nowhere => {
+        None => {
             let n = count(s);
             if n == KEYS {
                 return false;

@@ -4,7 +4,7 @@ use Rattle.std.specs.Prelude.{if◌then◌else◌}
 use mathlib.Core.Path.{◌≡◌, refl, sym, ap, ◌∙◌}
 use mathlib.Core.Bool.{Bool, true, false, ◌||◌, or-false}
 use mathlib.Core.List.{List, [], ◌∷◌, ◌++◌}
-use mathlib.Core.Option.{Option, none, some}
+use Rattle.std.specs.Prelude.{Option, None, Some}
 use Prim.Native.Nat.{ℕ, suc, ◌+◌, ◌-◌, ◌≤◌, ◌<◌}
 use native.Mathlib.Nat.{add-zero, zero-add, sub-zero}
 use native.Mathlib.Omega.{arith}
@@ -24,18 +24,14 @@ use Rattle.layout.specs.Layout.{written_words}
 use Rattle.inst_reqs.specs.Batch.{request_of, request_at, requests_of, value_in}
 use Rattle.inst_reqs.specs.declared.Command.TheVariants.{Get, Put}
 use Rattle.inst_reqs.specs.declared.Request.{Request}
-use Rattle.inst_reqs.specs.declared.Latest.{Latest}
-use Rattle.inst_reqs.specs.declared.Latest.TheVariants as latest
 use Rattle.inst_reqs.proofs.Laws.{requests_are}
 use Rattle.highest_slot.specs.Written.{written_of, slot_in, Notes}
-use Rattle.highest_slot.specs.declared.LastWrite.{LastWrite}
-use Rattle.highest_slot.specs.declared.LastWrite.TheVariants as last
 use Rattle.highest_slot.proofs.Laws.{noted_on}
 use Rattle.highest_slot_refresh.specs.Refresh.{after, new_key, new_keys, Refreshes}
 
 abbrev there : Option ℕ → Bool
-there none = false
-there (some v) = true
+there None = false
+there (Some v) = true
 
 abbrev noted : ℕ → machine.Request → List machine.Highest → List machine.Highest
 noted slot q hs = if is_put q.command then raise slot q.key hs else hs
@@ -46,16 +42,16 @@ known_raise : (key k : List ℕ) (slot : ℕ) (hs : List machine.Highest) → th
 unfolding raise highest_of
 known_raise key k slot [] = go (same_bytes k key)
   where
-    go : (t : Bool) → there (if t then some slot else none) ≡ t
+    go : (t : Bool) → there (if t then Some slot else None) ≡ t
     go true = refl
     go false = refl
 known_raise key k slot (h ∷ hs) = go (same_bytes h.key k) refl (known_raise key k slot hs)
   where
-    one : (t : Bool) (v w : ℕ) (o : Option ℕ) → there (if t then some v else o) ≡ (there (if t then some w else o) || t)
+    one : (t : Bool) (v w : ℕ) (o : Option ℕ) → there (if t then Some v else o) ≡ (there (if t then Some w else o) || t)
     one true v w o = refl
     one false v w o = sym (or-false (there o))
 
-    other : (t : Bool) (v : ℕ) (o p : Option ℕ) (b : Bool) → there o ≡ (there p || b) → there (if t then some v else o) ≡ (there (if t then some v else p) || b)
+    other : (t : Bool) (v : ℕ) (o p : Option ℕ) (b : Bool) → there o ≡ (there p || b) → there (if t then Some v else o) ≡ (there (if t then Some v else p) || b)
     other true v o p b e = refl
     other false v o p b e = e
 
@@ -67,7 +63,7 @@ known_raise key k slot (h ∷ hs) = go (same_bytes h.key k) refl (known_raise ke
 known_noted : (key : List ℕ) (slot : ℕ) (q : machine.Request) (hs : List machine.Highest) → there (highest_of key (noted slot q hs)) ≡ (there (highest_of key hs) || there (put_of key q q.command))
 known_noted key slot q hs = go q.command
   where
-    put : (t : Bool) (v : ℕ) → t ≡ there (if t then some v else none)
+    put : (t : Bool) (v : ℕ) → t ≡ there (if t then Some v else None)
     put true v = refl
     put false v = refl
 
@@ -81,12 +77,12 @@ known_after key slot [] hs = sym (or-false (there (highest_of key hs)))
 known_after key slot (q ∷ qs) hs =
     known_after key slot qs (noted slot q hs) ∙ rw (known_noted key slot q hs) (swap (there (highest_of key hs)) (put_of key q q.command) (last_put key qs))
   where
-    swap : (a : Bool) (b c : Option ℕ) → (a || there b || there c) ≡ (a || there (if_none c then b else λ v. some v))
+    swap : (a : Bool) (b c : Option ℕ) → (a || there b || there c) ≡ (a || there (if_none c then b else λ v. Some v))
     swap true b c = refl
-    swap false none none = refl
-    swap false none (some v) = refl
-    swap false (some w) none = refl
-    swap false (some w) (some v) = refl
+    swap false None None = refl
+    swap false None (Some v) = refl
+    swap false (Some w) None = refl
+    swap false (Some w) (Some v) = refl
 
 -- ---- how many
 
@@ -139,9 +135,9 @@ long_snoc : (slot : ℕ) (qs : List machine.Request) (q : machine.Request) (hs :
 long_snoc slot qs q hs = rw refresh_snoc (go (is_put q.command))
   where
     pick : (a b : Option ℕ) → ◌≡◌ {A = ℕ} (if there a || there b then 0 else 1) (if_none a then (if_none b then 1 else λ v. 0) else λ s. 0)
-    pick none none = refl
-    pick none (some v) = refl
-    pick (some w) b = refl
+    pick None None = refl
+    pick None (Some v) = refl
+    pick (Some w) b = refl
 
     go : (t : Bool) → length (if t then raise slot q.key (refresh_highest_slot slot qs hs) else refresh_highest_slot slot qs hs)
         ≡ length (refresh_highest_slot slot qs hs) + (if t then new_key q.key qs hs else 0)
@@ -152,15 +148,15 @@ long_snoc slot qs q hs = rw refresh_snoc (go (is_put q.command))
 
 -- ---- the keys of one request, in the words of the code: a and b are what the searches said, r the request that was read
 
-module _ (key : List ℕ) (qs : List machine.Request) (hs : List machine.Highest) (a : LastWrite) (told : slot_in a ≡ highest_of key hs) where
-  pub key_written : (slot : Slot) → a ≡ last.At slot → new_key key qs hs ≡ 0
+module _ (key : List ℕ) (qs : List machine.Request) (hs : List machine.Highest) (a : Option Slot) (told : slot_in a ≡ highest_of key hs) where
+  pub key_written : (slot : Slot) → a ≡ Some slot → new_key key qs hs ≡ 0
   key_written slot e = rw (← told, e)
 
-  module _ (e : a ≡ last.Nothing) (b : Latest) (put : value_in b ≡ last_put key qs) where
-    pub key_put : (v : ℕ) → b ≡ latest.Value v → new_key key qs hs ≡ 0
+  module _ (e : a ≡ None) (b : Option ℕ) (put : value_in b ≡ last_put key qs) where
+    pub key_put : (v : ℕ) → b ≡ Some v → new_key key qs hs ≡ 0
     key_put v f = rw (← told, e, ← put, f)
 
-    pub key_new : b ≡ latest.Nothing → new_key key qs hs ≡ 1
+    pub key_new : b ≡ None → new_key key qs hs ≡ 1
     key_new f = rw (← told, e, ← put, f)
 
 module _ (q : machine.Request) (r : Request) (is : request_of r ≡ q) where

@@ -11,9 +11,8 @@ ghost use Rattle.inst_reqs.specs.Batch.{request_at, requests_of};
 ghost use Rattle.highest_slot.specs.Written.{written_of};
 ghost use Rattle.highest_slot_refresh.specs.Refresh.{after, new_key, new_keys, Refreshes};
 
-use highest_slot::LastWrite;
 use ids::Slot;
-use inst_reqs::{Command, Latest};
+use inst_reqs::Command;
 use key_words::Key;
 
 // How many keys a Put of a key as the i-th request adds.
@@ -23,12 +22,12 @@ fn new_key(written: &[u64], batch: &[u64], i: usize, key: Key) -> usize
 {
     let at = highest_slot::highest(written, key);
     match at {
-        LastWrite::At(_) => 0,
-        LastWrite::Nothing => {
+        Some(_) => 0,
+        None => {
             let put = inst_reqs::last_put_among(batch, i, key);
             match put {
-                Latest::Value(_) => 0,
-                Latest::Nothing => 1,
+                Some(_) => 0,
+                None => 1,
             }
         }
     }

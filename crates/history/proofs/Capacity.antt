@@ -2,7 +2,7 @@
 use Prim.Native.Nat.{ℕ, zero, suc, ◌+◌, ◌-◌, ◌≤◌, ◌<◌}
 use mathlib.Core.Bool.{false, ◌&&◌, ◌||◌, not}
 use mathlib.Core.List.{List, [], ◌∷◌}
-use mathlib.Core.Option.{Option, none, some}
+use Rattle.std.specs.Prelude.{Option, None, Some}
 use mathlib.Core.Path.{◌≡◌, refl}
 use native.Mathlib.Omega.{arith}
 use lib.Dec.{ltb, leb, eqb}
@@ -51,10 +51,10 @@ null_small : SlotSmall null_instance
 null_small = record { reads = omega arith; requests = omega arith }
 
 module _ (P : Instance → Type 0) where
-  pub at_each : (r : Replica) (slot : ℕ) (i : Instance) → inst_at r slot ≡ some i → Each P r → P i
+  pub at_each : (r : Replica) (slot : ℕ) (i : Instance) → inst_at r slot ≡ Some i → Each P r → P i
   at_each r slot i e s = each_at (λ m. P) r.bar.start r.insts (slot - r.bar.start) i (held_at_lem r slot i e) s
 
-  set_each : (r : Replica) (slot : ℕ) (i j : Instance) → inst_at r slot ≡ some i → (P i → P j) → Each P r → Each P (set_inst slot j r)
+  set_each : (r : Replica) (slot : ℕ) (i j : Instance) → inst_at r slot ≡ Some i → (P i → P j) → Each P r → Each P (set_inst slot j r)
   unfolding set_inst
   set_each r slot i j e f s = each_set (λ m. P) r.bar.start r.insts (slot - r.bar.start) i j (held_at_lem r slot i e) (λ m. f) s
 
@@ -71,7 +71,7 @@ module _ (P : Instance → Type 0) where
     from_each zero slot r s = s
     from_each (suc n) slot r s = from_each n (slot + 1) (release_held_read_reqs slot r).replica (release_each slot r s)
 
-set_small : (r : Replica) (slot : ℕ) (i j : Instance) → inst_at r slot ≡ some i → (SlotSmall i → SlotSmall j) → Small r → Small (set_inst slot j r)
+set_small : (r : Replica) (slot : ℕ) (i j : Instance) → inst_at r slot ≡ Some i → (SlotSmall i → SlotSmall j) → Small r → Small (set_inst slot j r)
 unfolding set_inst
 set_small r slot i j e f s = (set_each SlotSmall r slot i j e f s.0, s.1)
 
@@ -208,10 +208,10 @@ notice_holding peer ballot o h =
     of_if (λ (c : Book). length c.holding ≤ hold) (ltb b.bal ballot) (go o h) (go o h)
   where
     go : (o : Option Book) → held_reads o ≤ hold → length (if_none o then new_book else λ x. x).holding ≤ hold
-    go none h = omega arith
-    go (some b) h = h
+    go None h = omega arith
+    go (Some b) h = h
 
-pub marked_small : (r : Replica) (peer slot ballot : ℕ) (i : Instance) → inst_at r slot ≡ some i → Small r
+pub marked_small : (r : Replica) (peer slot ballot : ℕ) (i : Instance) → inst_at r slot ≡ Some i → Small r
     → Small (set_inst slot (with_replica_bk (take_notice peer ballot (if_none i.replica_bk then new_book else λ x. x)) i) r)
 marked_small r peer slot ballot i e s =
     set_small r slot i _ e (book_small i _ (notice_holding peer ballot i.replica_bk (at_each SlotSmall r slot i e s.0).reads)) s
@@ -251,9 +251,9 @@ record_small : (r : Replica) (ballot : ℕ) (reqs : List Request) (i : Instance)
 record_small r ballot reqs i h s =
     record { reads = of_if (λ (b : Option Book). held_reads b ≤ hold) (is_leader r) s.reads (go i.replica_bk s.reads); requests = h }
   where
-    go : (b : Option Book) → held_reads b ≤ hold → held_reads (if_none b then some new_book else λ x. some x) ≤ hold
-    go none h = omega arith
-    go (some x) h = h
+    go : (b : Option Book) → held_reads b ≤ hold → held_reads (if_none b then Some new_book else λ x. Some x) ≤ hold
+    go None h = omega arith
+    go (Some x) h = h
 
 recorded_small : (r : Replica) (slot ballot : ℕ) (reqs : List Request) → length reqs ≤ batch → length (refresh_highest_slot slot reqs r.highest_slot) ≤ keys → Small r
     → Small (recorded r slot ballot reqs)
@@ -302,8 +302,8 @@ unfolding step
 step_small r e s = go (refusal_of r e.call e.places) refl
   where
     go : (o : Option ℕ) → refusal_of r e.call e.places ≡ o → Small (after r (step_by o (effect r e.call)))
-    go none q = effect_small r e.call s (taken_none r e.call e.places (rw q))
-    go (some n) q = s
+    go None q = effect_small r e.call s (taken_none r e.call e.places (rw q))
+    go (Some n) q = s
 
 run_small : (r : Replica) (es : List Event) → Small r → Small (run r es)
 unfolding run
@@ -327,8 +327,8 @@ unfolding hear grounds
 hear_good r t (Heartbeat peer ballot conf commit exec snap) n g = of_if RosterGood (adopts t peer ballot conf) (go conf n.0) g
   where
     go : (o : Option Conf) → unformed o ≡ false → RosterGood (adopting ballot o t)
-    go none f = g
-    go (some c) f = good_true c (not-false (is_good c) f)
+    go None f = g
+    go (Some c) f = good_true c (not-false (is_good c) f)
 hear_good r t (Guard peer number bar) n g = of_if RosterGood (alters t peer (pair number bar)) g g
 hear_good r t (Prepared ballot) n g = g
 hear_good r t (Record slot ballot reqs) n g = g

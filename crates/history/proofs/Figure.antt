@@ -2,7 +2,7 @@
 use Rattle.std.specs.Prelude.{if◌then◌else◌}
 use Prim.Native.Nat.{ℕ}
 use mathlib.Core.List.{List, [], ◌∷◌}
-use mathlib.Core.Option.{Option, none, some}
+use Rattle.std.specs.Prelude.{Option, None, Some}
 use mathlib.Core.Path.{◌≡◌, refl, ap, ◌∙◌}
 use Rattle.bodega.specs.Replica.{Replica, fresh}
 use Rattle.bodega.specs.Step.{Event, effect, refusal_of, step, step_by, step_of, after, is_taken, run}
@@ -15,8 +15,8 @@ unfolding step
 step_view r e = go (refusal_of r e.call e.places)
   where
     go : (o : Option ℕ) → view (after r (step_by o (effect r e.call))) ≡ (if is_taken (step_by o (effect r e.call)) then hear (view r) e.call else view r)
-    go none = effect_view r e.call
-    go (some n) = refl
+    go None = effect_view r e.call
+    go (Some n) = refl
 
 pub run_view : (r : Replica) (es : List Event) → view (run r es) ≡ feed_all (view r) (history r es)
 unfolding run history feed_all

@@ -5,7 +5,7 @@ use mathlib.Core.Bool.{Bool, true, false, ◌&&◌}
 use mathlib.Core.List.Memᴰ
 use mathlib.Core.List.{List, [], ◌∷◌, ◌++◌, Memᴰ}
 use mathlib.Core.Logic.{⊎_elim}
-use mathlib.Core.Option.{Option, none, some}
+use Rattle.std.specs.Prelude.{Option, None, Some}
 use Prim.Native.Nat.{ℕ, ◌<◌}
 use native.Mathlib.Omega.{arith}
 use lib.Dec.{eqb}
@@ -33,10 +33,10 @@ module _ {Node : Type 0} (view : Node → List ℕ → Replica) where
     taken : is_taken s ≡ eqb g.number 0
     next : view g.node mem' ≡ after r s
 
-  tells : (ready : Node → List ℕ → Bool) (o : Option ℕ) (d : Done) (node : Node) (mem area : List ℕ) (g : Given Node) (mem' area' : List ℕ) → ((n : ℕ) → o ≡ some n → 0 < n)
+  tells : (ready : Node → List ℕ → Bool) (o : Option ℕ) (d : Done) (node : Node) (mem area : List ℕ) (g : Given Node) (mem' area' : List ℕ) → ((n : ℕ) → o ≡ Some n → 0 < n)
       → Follows ready view (step_by o d) node mem area g mem' area' → Accords (view node mem) (step_by o d) g mem'
-  tells ready none d node mem area g mem' area' p f = record { taken = rw f.number; next = f.next }
-  tells ready (some n) d node mem area g mem' area' p f =
+  tells ready None d node mem area g mem' area' p f = record { taken = rw f.number; next = f.next }
+  tells ready (Some n) d node mem area g mem' area' p f =
       record {
         taken = sym (ne_eqb g.number 0 (λ z. let q = p n refl in omega (arith, z, f.number)));
         next = rw (f.same_node, f.same_mem);

@@ -6,7 +6,7 @@ use mathlib.Core.Bool.{Bool, true, false}
 use mathlib.Core.List.Memᴰ
 use mathlib.Core.List.{List, [], ◌∷◌, ◌++◌}
 use mathlib.Core.Logic.{⊎_elim}
-use mathlib.Core.Option.{Option, none, some}
+use Rattle.std.specs.Prelude.{Option, None, Some}
 use mathlib.Core.Path.{◌≡◌, refl, ap, sym, ◌∙◌}
 use lib.ListN.{length, length-set, length-replicate}
 use borrow.Author.Tests.{leb-false}
@@ -32,8 +32,8 @@ sized_if true s = s
 sized_if false s = record { population = refl; size = refl }
 
 sized_adopting : (t : Table) (ballot : ℕ) (conf : Option Conf) → Sized t (adopting ballot conf t)
-sized_adopting t ballot none = record { population = refl; size = refl }
-sized_adopting t ballot (some c) = record { population = refl; size = length-set t.pairs t.own (pair ballot t.accept) }
+sized_adopting t ballot None = record { population = refl; size = refl }
+sized_adopting t ballot (Some c) = record { population = refl; size = length-set t.pairs t.own (pair ballot t.accept) }
 
 pub sized : (t : Table) (c : Call) → Sized t (hear t c)
 unfolding hear

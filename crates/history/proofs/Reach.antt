@@ -4,7 +4,7 @@ use Prim.Native.Nat.{ℕ, zero, suc, ◌+◌, ◌-◌, ◌%◌, ◌≤◌, ◌<�
 use mathlib.Core.Bool.{Bool, true, false, ◌&&◌, ◌||◌, not}
 use mathlib.Core.List.{List, [], ◌∷◌, ◌++◌}
 use mathlib.Core.Logic.{inl, inr}
-use mathlib.Core.Option.{Option, none, some}
+use Rattle.std.specs.Prelude.{Option, None, Some}
 use mathlib.Core.Path.{◌≡◌, refl, ap, sym, ◌∙◌}
 use native.Mathlib.Omega.{arith}
 use lib.Dec.{ltb, leb, eqb}
@@ -196,8 +196,8 @@ module _ (r : Replica) (peer ballot : ℕ) (s : Sound (core r)) (high : leb r.ba
 
   conf_sound : (conf : Option Conf) → (appends r peer ballot conf && no_room r) ≡ false → Sound (core (heard_conf r peer ballot conf).replica)
   unfolding heard_conf
-  conf_sound none h = s
-  conf_sound (some c) h = go (installs r peer ballot c) refl
+  conf_sound None h = s
+  conf_sound (Some c) h = go (installs r peer ballot c) refl
     where
       go : (b : Bool) → installs r peer ballot c ≡ b → Sound (core (if◌then◌else◌ b (heard_new_conf r ballot c) (done r [])).replica)
       go true e = new_conf_sound c e (λ l o. leb-false window (length r.insts) (or_both (leb window (length r.insts)) _ (rw (high, e, l, o) at h)).0)
@@ -264,13 +264,13 @@ pub filtered_leads : (id : ℕ) (c : Conf) → leads (into_filtered id c) id ≡
 unfolding into_filtered
 filtered_leads id c = go c.leader
   where
-    by : (l : ℕ) (b : Bool) → eqb l id ≡ b → (if_none◌then◌else◌ {A = ℕ} {B = Bool} (if b then none else some l) false (λ k. eqb k id)) ≡ false
+    by : (l : ℕ) (b : Bool) → eqb l id ≡ b → (if_none◌then◌else◌ {A = ℕ} {B = Bool} (if b then None else Some l) false (λ k. eqb k id)) ≡ false
     by l true e = refl
     by l false e = e
 
     go : (o : Option ℕ) → (if_none leader_without id o then false else λ k. eqb k id) ≡ false
-    go none = refl
-    go (some l) = by l (eqb l id) refl
+    go None = refl
+    go (Some l) = by l (eqb l id) refl
 
 raised_sound : (r : Replica) (ballot : ℕ) → Sound (core r) → Sound (core (check_ballot r ballot).replica)
 unfolding check_ballot core
@@ -358,8 +358,8 @@ unfolding step
 step_sound r e s = go (refusal_of r e.call e.places) refl
   where
     go : (o : Option ℕ) → refusal_of r e.call e.places ≡ o → Sound (core (after r (step_by o (effect r e.call))))
-    go none q = effect_sound r e.call s (taken_none r e.call e.places (rw q))
-    go (some n) q = s
+    go None q = effect_sound r e.call s (taken_none r e.call e.places (rw q))
+    go (Some n) q = s
 
 pub run_sound : (r : Replica) (es : List Event) → Sound (core r) → Sound (core (run r es))
 unfolding run

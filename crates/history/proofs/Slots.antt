@@ -4,11 +4,11 @@ use Prim.Native.Nat.{ℕ, zero, suc, ◌+◌, ◌-◌, ◌≤◌, ◌<◌}
 use mathlib.Core.Bool.{Bool, true, false, ◌&&◌, ◌||◌, not}
 use mathlib.Core.List.{List, [], ◌∷◌, ◌++◌, map}
 use mathlib.Core.Logic.{◌⊎◌, inl, inr, ⊎_elim}
-use mathlib.Core.Option.{Option, none, some, some-injective}
+use Rattle.std.specs.Prelude.{Option, None, Some, some-injective}
 use mathlib.Core.Path.{◌≡◌, refl}
 use native.Mathlib.Omega.{arith}
 use lib.Dec.{ltb, leb, eqb}
-use lib.ListN.{length, get_or, take, drop, set, replicate, get_elem?}
+use lib.ListN.{length, get_or, take, drop, set, replicate, slice_get}
 use borrow.Author.Tests.{ltb-true, ltb-false, eqb-true, not-false}
 use Rattle.words.proofs.Tests.{or_both}
 use Rattle.words.specs.Choice.{if_none◌then◌else◌}
@@ -33,7 +33,7 @@ use Rattle.history.proofs.Reach.{appended, step_sound, run_sound, fresh_sound}
 -- ---- lists of slots
 
 module _ (P : ℕ → Instance → Type 0) where
-  pub each_set : (n : ℕ) (is : List Instance) (k : ℕ) (i j : Instance) → get_elem? is k ≡ some i → ((m : ℕ) → P m i → P m j) → EachSlot P n is → EachSlot P n (set is k j)
+  pub each_set : (n : ℕ) (is : List Instance) (k : ℕ) (i j : Instance) → slice_get is k ≡ Some i → ((m : ℕ) → P m i → P m j) → EachSlot P n is → EachSlot P n (set is k j)
   each_set n [] k i j e f s = tt
   each_set n (x ∷ is) zero i j e f s = (f n (rw (← some-injective x i e) s.0), s.1)
   each_set n (x ∷ is) (suc k) i j e f s = (s.0, each_set (suc n) is k i j e f s.1)
@@ -53,7 +53,7 @@ module _ (P : ℕ → Instance → Type 0) where
   each_after g f n (suc k) [] s = f n [] s
   each_after g f n (suc k) (i ∷ is) s = (s.0, each_after g f (suc n) k is s.1)
 
-  pub each_at : (n : ℕ) (is : List Instance) (k : ℕ) (i : Instance) → get_elem? is k ≡ some i → EachSlot P n is → P (n + k) i
+  pub each_at : (n : ℕ) (is : List Instance) (k : ℕ) (i : Instance) → slice_get is k ≡ Some i → EachSlot P n is → P (n + k) i
   each_at n [] k i e s = let z : ◌≡◌ {A = ℕ} 0 1 = cc in absurd (omega arith)
   each_at n (x ∷ is) zero i e s = let q : n + 0 ≡ n = omega arith in rw (q, ← some-injective x i e) s.0
   each_at n (x ∷ is) (suc k) i e s = let q : n + suc k ≡ suc n + k = omega arith in rw q (each_at (suc n) is k i e s.1)
@@ -135,19 +135,19 @@ Of r = SlotSound r.bal.max_seen r.bar.commit r.bar.exec
 
 -- ---- a change of one slot
 
-pub held_at_lem : (r : Replica) (slot : ℕ) (i : Instance) → inst_at r slot ≡ some i → get_elem? r.insts (slot - r.bar.start) ≡ some i
+pub held_at_lem : (r : Replica) (slot : ℕ) (i : Instance) → inst_at r slot ≡ Some i → slice_get r.insts (slot - r.bar.start) ≡ Some i
 unfolding inst_at
 held_at_lem r slot i = go (ltb slot r.bar.start)
   where
-    go : (b : Bool) → (if b then none else get_elem? r.insts (slot - r.bar.start)) ≡ some i → get_elem? r.insts (slot - r.bar.start) ≡ some i
+    go : (b : Bool) → (if b then None else slice_get r.insts (slot - r.bar.start)) ≡ Some i → slice_get r.insts (slot - r.bar.start) ≡ Some i
     go true e = let z : ◌≡◌ {A = ℕ} 0 1 = cc in absurd (omega arith)
     go false e = e
 
-set_slots : (r : Replica) (slot : ℕ) (i j : Instance) → inst_at r slot ≡ some i → ((m : ℕ) → Of r m i → Of r m j) → SlotsSound r → SlotsSound (set_inst slot j r)
+set_slots : (r : Replica) (slot : ℕ) (i j : Instance) → inst_at r slot ≡ Some i → ((m : ℕ) → Of r m i → Of r m j) → SlotsSound r → SlotsSound (set_inst slot j r)
 unfolding set_inst
 set_slots r slot i j e f s = each_set (Of r) r.bar.start r.insts (slot - r.bar.start) i j (held_at_lem r slot i e) f s
 
-at_sound : (r : Replica) (slot : ℕ) (i : Instance) → inst_at r slot ≡ some i → SlotsSound r → book_bal i.replica_bk ≤ r.bal.max_seen
+at_sound : (r : Replica) (slot : ℕ) (i : Instance) → inst_at r slot ≡ Some i → SlotsSound r → book_bal i.replica_bk ≤ r.bal.max_seen
 at_sound r slot i e s = (each_at (Of r) r.bar.start r.insts (slot - r.bar.start) i (held_at_lem r slot i e) s).notices_bal
 
 -- ---- reads
@@ -156,7 +156,7 @@ abbrev Ends : Done → Type 0
 Ends d = SlotsSound d.replica
 
 -- a book with other held reads
-queue_slots : (r : Replica) (slot : ℕ) (i : Instance) (b : Book) (l : List ReadReq) → inst_at r slot ≡ some i → i.replica_bk ≡ some b → SlotsSound r
+queue_slots : (r : Replica) (slot : ℕ) (i : Instance) (b : Book) (l : List ReadReq) → inst_at r slot ≡ Some i → i.replica_bk ≡ Some b → SlotsSound r
     → SlotsSound (set_inst slot (with_replica_bk (with_holding l b) i) r)
 queue_slots r slot i b l e f s =
     let h : book_bal i.replica_bk ≤ r.bal.max_seen = at_sound r slot i e s in
@@ -300,8 +300,8 @@ unfolding take_notice
 notice_book peer ballot bal o h k = of_if (λ (b : Book). b.bal ≤ bal) (ltb (if_none o then new_book else λ x. x).bal ballot) k (go o h)
   where
     go : (o : Option Book) → book_bal o ≤ bal → (if_none o then new_book else λ x. x).bal ≤ bal
-    go none h = omega arith
-    go (some b) h = h
+    go None h = omega arith
+    go (Some b) h = h
 
 noticed_slots : (r : Replica) (peer slot ballot : ℕ) → ballot ≤ r.bal.max_seen → SlotsSound r → Ends (noticed r peer slot ballot)
 unfolding noticed
@@ -356,11 +356,11 @@ record_sound r ballot reqs m i o h s =
       notices_bal = of_if (λ (b : Option Book). book_bal b ≤ r.bal.max_seen) (is_leader r) s.notices_bal (go i.replica_bk s.notices_bal);
     }
   where
-    go : (b : Option Book) → book_bal b ≤ r.bal.max_seen → book_bal (if_none b then some new_book else λ x. some x) ≤ r.bal.max_seen
-    go none h = omega arith
-    go (some x) h = h
+    go : (b : Option Book) → book_bal b ≤ r.bal.max_seen → book_bal (if_none b then Some new_book else λ x. Some x) ≤ r.bal.max_seen
+    go None h = omega arith
+    go (Some x) h = h
 
-get_elem_pad : (is : List Instance) (n k : ℕ) (i : Instance) → get_elem? (is ++ replicate n null_instance) k ≡ some i → (get_elem? is k ≡ some i) ⊎ (null_instance ≡ i)
+get_elem_pad : (is : List Instance) (n k : ℕ) (i : Instance) → slice_get (is ++ replicate n null_instance) k ≡ Some i → (slice_get is k ≡ Some i) ⊎ (null_instance ≡ i)
 get_elem_pad [] zero k i e = let z : ◌≡◌ {A = ℕ} 0 1 = cc in absurd (omega arith)
 get_elem_pad [] (suc n) zero i e = inr (some-injective null_instance i e)
 get_elem_pad [] (suc n) (suc k) i e = ⊎_elim (λ x. let z : ◌≡◌ {A = ℕ} 0 1 = cc in absurd (omega arith)) inr (get_elem_pad [] n k i e)
@@ -369,13 +369,13 @@ get_elem_pad (x ∷ is) n (suc k) i e = get_elem_pad is n k i e
 
 -- what *record* finds at its slot is open
 found_open : (r : Replica) (slot : ℕ) (hs : List Highest) (i : Instance) → (ltb slot r.bar.start || is_closed r slot) ≡ false
-    → inst_at (with_highest_slot hs (pad slot r)) slot ≡ some i → is_open i.status ≡ true
+    → inst_at (with_highest_slot hs (pad slot r)) slot ≡ Some i → is_open i.status ≡ true
 unfolding pad inst_at
 found_open r slot hs i h e =
     ⊎_elim there (λ (q : null_instance ≡ i). rw (← q))
     (get_elem_pad r.insts (slot + 1 - end r) (slot - r.bar.start) i (held_at_lem (with_highest_slot hs (pad slot r)) slot i e))
   where
-    there : get_elem? r.insts (slot - r.bar.start) ≡ some i → is_open i.status ≡ true
+    there : slice_get r.insts (slot - r.bar.start) ≡ Some i → is_open i.status ≡ true
     there q = not-false (is_open i.status) (rw ((or_both (ltb slot r.bar.start) (is_closed r slot) h).0, q) at (or_both (ltb slot r.bar.start) (is_closed r slot) h).1)
 
 current_bal : (r : Replica) → Sound (core r) → current r ≤ r.bal.max_seen
@@ -477,8 +477,8 @@ unfolding step
 step_slots r e k s = go (refusal_of r e.call e.places) refl
   where
     go : (o : Option ℕ) → refusal_of r e.call e.places ≡ o → SlotsSound (after r (step_by o (effect r e.call)))
-    go none q = effect_slots r e.call k s (taken_none r e.call e.places (rw q))
-    go (some n) q = s
+    go None q = effect_slots r e.call k s (taken_none r e.call e.places (rw q))
+    go (Some n) q = s
 
 run_slots : (r : Replica) (es : List Event) → Sound (core r) → SlotsSound r → SlotsSound (run r es)
 unfolding run

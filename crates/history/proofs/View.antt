@@ -4,7 +4,7 @@ use Rattle.std.specs.Prelude.{if◌then◌else◌}
 use Prim.Native.Nat.{ℕ}
 use mathlib.Core.Bool.{Bool, true, false, ◌&&◌, not}
 use mathlib.Core.List.{List, [], ◌++◌}
-use mathlib.Core.Option.{Option, none, some}
+use Rattle.std.specs.Prelude.{Option, None, Some}
 use mathlib.Core.Path.{◌≡◌, refl, ◌∙◌}
 use lib.Dec.{ltb, leb, eqb}
 use lib.ListN.{get_or, set}
@@ -49,14 +49,14 @@ leader_keeps : (r : Replica) → Keeps view r (become_a_leader r)
 unfolding become_a_leader view
 leader_keeps r = from_keeps view set_keeps _ _ _
 
-adopted_view : (r : Replica) (ballot : ℕ) (c : Conf) → view (adopted r ballot c) ≡ adopting ballot (some c) (view r)
+adopted_view : (r : Replica) (ballot : ℕ) (c : Conf) → view (adopted r ballot c) ≡ adopting ballot (Some c) (view r)
 unfolding update_peer_accept_max figure_of view
 adopted_view r ballot c = refl
 
-new_conf_view : (r : Replica) (ballot : ℕ) (c : Conf) → view (heard_new_conf r ballot c).replica ≡ adopting ballot (some c) (view r)
+new_conf_view : (r : Replica) (ballot : ℕ) (c : Conf) → view (heard_new_conf r ballot c).replica ≡ adopting ballot (Some c) (view r)
 unfolding heard_new_conf
 new_conf_view r ballot c =
-    of_if (λ (d : Done). view d.replica ≡ adopting ballot (some c) (view r)) (is_leader (adopted r ballot c))
+    of_if (λ (d : Done). view d.replica ≡ adopting ballot (Some c) (view r)) (is_leader (adopted r ballot c))
     (leader_keeps (adopted r ballot c) ∙ adopted_view r ballot c)
     (adopted_view r ballot c)
 
@@ -70,17 +70,17 @@ module _ (peer ballot : ℕ) where
   conf_view : (r : Replica) (conf : Option Conf) → leb r.bal.max_seen ballot ≡ true
       → view (heard_conf r peer ballot conf).replica ≡ (if adopts (view r) peer ballot conf then adopting ballot conf (view r) else view r)
   unfolding heard_conf adopts installs view
-  conf_view r none e = refl
-  conf_view r (some c) e = rw e (go (installs r peer ballot c))
+  conf_view r None e = refl
+  conf_view r (Some c) e = rw e (go (installs r peer ballot c))
     where
-      go : (t : Bool) → view (if t then heard_new_conf r ballot c else done r []).replica ≡ (if t then adopting ballot (some c) (view r) else view r)
+      go : (t : Bool) → view (if t then heard_new_conf r ballot c else done r []).replica ≡ (if t then adopting ballot (Some c) (view r) else view r)
       go true = new_conf_view r ballot c
       go false = refl
 
   old_view : (r : Replica) (conf : Option Conf) → leb r.bal.max_seen ballot ≡ false → adopts (view r) peer ballot conf ≡ false
   unfolding adopts view
-  old_view r none e = refl
-  old_view r (some c) e = rw e
+  old_view r None e = refl
+  old_view r (Some c) e = rw e
 
   snap_keeps : (snap : ℕ) (r : Replica) → view (heard_snap_bar snap r) ≡ view r
   unfolding view

@@ -1,6 +1,6 @@
 -- Trusted: document 01, "What a node holds, and how much", and refusal 20: what no list of calls exceeds.
 use Rattle.std.specs.Prelude.{ℕ, ◌≤◌, List, ◌≡◌, length}
-use Rattle.std.proofs.Math.Option.{Option}
+use Rattle.std.specs.Prelude.{Option}
 use Rattle.words.specs.Choice.{if_none◌then◌else◌}
 use Rattle.roster_conf.specs.Ground.{refusal}
 use Rattle.roster_conf.specs.EditList.{Good}

@@ -1,6 +1,6 @@
 -- Trusted: what holds of every replica that calls reach: the order of the bars, the window, the ballots, who leads.
 use Rattle.std.specs.Prelude.{ℕ, suc, ◌+◌, ◌≤◌, ◌<◌, Bool, true, false, List, [], ◌∷◌, eqb, ◌⊎◌, ◌≡◌, length}
-use Rattle.std.proofs.Math.Option.{Option}
+use Rattle.std.specs.Prelude.{Option}
 use Rattle.words.specs.Choice.{if_none◌then◌else◌}
 use Rattle.ids.specs.Limits.{window}
 use Rattle.roster_conf.specs.Conf.{Conf, leads}

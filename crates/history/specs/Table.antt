@@ -3,7 +3,7 @@
 -- calls, pairs and rosters, and what a roster is with the own number filtered out. Beyond document 01 it holds the
 -- roster, since a heartbeat at the current ballot is an adoption just where its roster differs.
 use Rattle.std.specs.Prelude.{ℕ, ◌+◌, ◌-◌, ◌%◌, Bool, false, ◌&&◌, ◌||◌, not, List, [], ◌∷◌, map, ltb, leb, eqb, get_or, set, replicate, if◌then◌else◌}
-use Rattle.std.proofs.Math.Option.{Option, none, some}
+use Rattle.std.specs.Prelude.{Option, None, Some}
 use Rattle.rank.specs.Sort.{sort}
 use Rattle.ids.specs.Limits.{beyond}
 use Rattle.roster_conf.specs.Conf.{Conf, empty, into_filtered, same}
@@ -52,8 +52,8 @@ alters t peer p = beats p (get_or t.pairs peer (pair 0 beyond))
 
 -- a heartbeat's roster is installed: at a higher ballot, or at this one from its proposer where it differs
 unfoldable pub adopts : Table → ℕ → ℕ → Option Conf → Bool
-adopts t peer ballot none = false
-adopts t peer ballot (some c) =
+adopts t peer ballot None = false
+adopts t peer ballot (Some c) =
     leb t.ballot ballot && (ltb t.ballot ballot || (eqb (ballot % 256) (peer + 1) && not (same c t.roster)))
 
 -- a notice at start or above gives its ballot to `check_ballot`, a commit event never does: the larger ballot stands
@@ -68,8 +68,8 @@ guarded peer p t =
     record { own = t.own; population = t.population; quorum = t.quorum; ballot = t.ballot; start = t.start; accept = t.accept; roster = t.roster; pairs = pairs; figure = figure_of t.quorum t.ballot pairs }
 
 abbrev pub adopting : ℕ → Option Conf → Table → Table
-adopting ballot none t = t
-adopting ballot (some c) t =
+adopting ballot None t = t
+adopting ballot (Some c) t =
     let pairs = set t.pairs t.own (pair ballot t.accept) in
     record { own = t.own; population = t.population; quorum = t.quorum; ballot = ballot; start = t.start; accept = t.accept; roster = c; pairs = pairs; figure = figure_of t.quorum ballot pairs }
 

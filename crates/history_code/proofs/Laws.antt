@@ -11,10 +11,8 @@ use Rattle.history.specs.Made.{CodeHistory}
 use Rattle.history.specs.Made as history
 use Rattle.history.proofs.Made.{code_figure, code_order_free}
 use Rattle.node.specs.declared.Node.{Node}
-use Rattle.node.specs.declared.Fresh.TheVariants.{Made}
 use Rattle.node.specs.View.{size, view, ready, in_range, given_of}
 use Rattle.node.specs.Begins.{Stands, Gives}
-use Rattle.node.specs.declared.Answered.{Answered}
 use Rattle.bodega.specs.Answers.{Answers}
 use Rattle.call_heartbeat.specs.Heartbeat.{fitting}
 use Rattle.call_apply.specs.declared.Call.{Call}
@@ -22,9 +20,12 @@ use Rattle.call_apply.specs.declared.Call.TheVariants as call
 use Rattle.call_apply.specs.Call.{call_of, ready_for}
 use Rattle.history_code.specs.CallList as calls
 use Rattle.history_code.specs.CallList.{CallList, fed, CallHistory, ReadingBarStands, ReadingBarOrderFree}
+use Rattle.std.specs.Prelude.{Result, Ok}
+use Rattle.ids.specs.declared.Refusal.{Refusal}
+use Rattle.node.specs.declared.Taken.{Taken}
 
 -- one call, whichever it is
-made_by : (c : Call) (rows text : List ℕ) {node last : Node} {mem mem' end : List ℕ} {fs : List Fed} (area area' : List ℕ) (r : Answered)
+made_by : (c : Call) (rows text : List ℕ) {node last : Node} {mem mem' end : List ℕ} {fs : List Fed} (area area' : List ℕ) (r : Result Taken Refusal)
     → Answers (ready_for c rows) view (call_of c rows text) node mem area (given_of r) mem' area' → history.Made ready view r.node mem' fs last end
     → history.Made ready view node mem (fed (call_of c rows text) r ∷ fs) last end
 made_by (call.Heartbeat peer ballot attached conf commit exec snap) rows text area area' r a m = history.call_with (fitting attached conf.count rows) (call_of (call.Heartbeat peer ballot attached conf commit exec snap) rows text) area area' (given_of r) a m
@@ -43,7 +44,7 @@ made calls.none = history.none
 made (calls.applied c rows text area area' mem' r a k) = made_by c rows text area area' r a (made k)
 
 -- what `Node::fresh` ensures where it makes a node
-stands : (b : Bool) (id population quorum : ℕ) (before : List ℕ) (n : Node) (after : List ℕ) → Gives b id population quorum before (Made n) after → Stands id population quorum before n after
+stands : (b : Bool) (id population quorum : ℕ) (before : List ℕ) (n : Node) (after : List ℕ) → Gives b id population quorum before (Ok n) after → Stands id population quorum before n after
 stands true id population quorum before n after g = g
 stands false id population quorum before n after g = absurd g
 

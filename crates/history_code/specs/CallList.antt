@@ -7,22 +7,23 @@ use Rattle.history.specs.Table.{Fed, fresh_table, feed_all}
 use Rattle.history.specs.History.{SameGuards, quiet}
 use Rattle.history.specs.Made.{fed_of}
 use Rattle.node.specs.declared.Node.{Node}
-use Rattle.node.specs.declared.Answered.{Answered}
-use Rattle.node.specs.declared.Fresh.TheVariants.{Made}
 use Rattle.node.specs.View.{view, ready, given_of}
 use Rattle.node.specs.Begins.{Begins}
 use Rattle.call_apply.specs.declared.Call.{Call}
 use Rattle.call_apply.specs.Call.{call_of, ready_for}
+use Rattle.std.specs.Prelude.{Result, Ok}
+use Rattle.ids.specs.declared.Refusal.{Refusal}
+use Rattle.node.specs.declared.Taken.{Taken}
 
 -- what the table is fed: the call's arguments, and whether it answered "taken"
-abbrev pub fed : machine.Call → Answered → Fed
+abbrev pub fed : machine.Call → Result Taken Refusal → Fed
 fed c r = fed_of ready view c (given_of r)
 
 -- any of the ten calls, refused ones included, in any order: each gets the node and its lent buffer as the last one
 -- left them, and an answer area of its own
 pub data CallList : Node → List ℕ → List Fed → Node → List ℕ → Type 0 where
   none : {node : Node} {mem : List ℕ} → CallList node mem [] node mem
-  applied : {node last : Node} {mem end : List ℕ} {fs : List Fed} (c : Call) (rows text : List ℕ) (area area' mem' : List ℕ) (r : Answered)
+  applied : {node last : Node} {mem end : List ℕ} {fs : List Fed} (c : Call) (rows text : List ℕ) (area area' mem' : List ℕ) (r : Result Taken Refusal)
       → Answers (ready_for c rows) view (call_of c rows text) node mem area (given_of r) mem' area' → CallList r.node mem' fs last end → CallList node mem (fed (call_of c rows text) r ∷ fs) last end
 
 -- a list of calls from a node that `Node::fresh` made, and what `Node::reading_bar` gives of the node that it leaves
@@ -32,7 +33,7 @@ pub record CallHistory (id population quorum : ℕ) (fs : List Fed) (bar : Slot)
   pub before : List ℕ
   pub begin : List ℕ
   pub end : List ℕ
-  pub begins : Begins id population quorum before (Made first) begin
+  pub begins : Begins id population quorum before (Ok first) begin
   pub called : CallList first begin fs last end
   pub shows : bar ≡ last.peer_accept_max
 

@@ -1,9 +1,6 @@
--- Trusted: `Option<ReplicaId>`.
-use Rattle.std.specs.Prelude.{ℕ}
-use Rattle.std.proofs.Math.Option.{Option, none, some}
-use Rattle.ids.specs.declared.Leader.{Leader}
-use Rattle.ids.specs.declared.Leader.TheVariants.{None, Some}
+-- Trusted: a leader, where there is one, by number.
+use Rattle.std.specs.Prelude.{ℕ, Option, option_map}
+use Rattle.ids.specs.declared.Replica.{Replica}
 
-abbrev pub leader_of : Leader → Option ℕ
-leader_of None = none
-leader_of (Some r) = some r.0
+abbrev pub leader_of : Option Replica → Option ℕ
+leader_of o = option_map (λ r. r.0) o

@@ -1,2 +1,3 @@
 pub mod Leader
+pub mod Refusal
 pub mod Limits

@@ -3,7 +3,7 @@ use Rattle.std.specs.Prelude.{if◌then◌else◌}
 use mathlib.Core.Path.{◌≡◌, refl, sym, ap, ◌∙◌}
 use mathlib.Core.Bool.{Bool, true, false, not, ◌&&◌, ◌||◌}
 use mathlib.Core.List.{List, []}
-use mathlib.Core.Option.{Option, none, some}
+use Rattle.std.specs.Prelude.{Option, None, Some}
 use Prim.Native.Nat.{ℕ, ◌+◌, ◌-◌, ◌*◌, ◌%◌, ◌≤◌, ◌<◌}
 use native.Mathlib.Decide.{dec_lt}
 use native.Mathlib.Omega.{arith}
@@ -17,14 +17,10 @@ use Rattle.ids.specs.declared.Slot.{Slot}
 use Rattle.bitmap.specs.Bitmap.{get}
 use Rattle.keys.specs.Read.{read_key}
 use Rattle.keys.specs.Shown.{shown}
-use Rattle.keys.specs.declared.KeyRead.{KeyRead}
-use Rattle.keys.specs.declared.KeyRead.TheVariants.{Number, Unread}
 use Rattle.inty.specs.Value.{value_of}
 use Rattle.inty.specs.declared.Inty.{Inty}
 use Rattle.roster_ranges.specs.Range.{at}
 use Rattle.roster_map.specs.Rows.{ranges_of, mask_in}
-use Rattle.roster_map.specs.declared.Lookup.{Lookup}
-use Rattle.roster_map.specs.declared.Lookup.TheVariants.{Mask, Nothing}
 use Rattle.roster_conf.specs.Edits.{view as roster_of}
 use Rattle.bodega.specs.Replica as machine
 use Rattle.bodega.specs.Localread as local
@@ -35,11 +31,7 @@ use Rattle.inst_cell.specs.Cell.{Notices, status_of, book_of, cell_of}
 use Rattle.inst_cell.specs.declared.Cell.{Cell}
 use Rattle.inst_cell.specs.declared.Status.{Status}
 use Rattle.inst_reqs.specs.Batch.{value_in}
-use Rattle.inst_reqs.specs.declared.Latest.{Latest}
-use Rattle.inst_reqs.specs.declared.Latest.TheVariants as latest
 use Rattle.highest_slot.specs.Written.{written_of, slot_in}
-use Rattle.highest_slot.specs.declared.LastWrite.{LastWrite}
-use Rattle.highest_slot.specs.declared.LastWrite.TheVariants as last
 use Rattle.insts.specs.Slots.{short_at, batch_at, reads_at, inst_of, inst_in, book_of as heldBook}
 use Rattle.release_held_reads.specs.Release.{holding_of}
 use Rattle.words.proofs.Tests.{and_both}
@@ -95,17 +87,17 @@ stable_is n leases m = refl
 
 -- ---- responders
 
-module _ (d id : ℕ) (x : Lookup) (r : Bool) where
-  pub in_mask : (m : ℕ) → x ≡ Mask m → r ≡ get m id → r ≡ get (if_none mask_in x then d else λ k. k) id
-  in_mask m e f = f ∙ ap (λ (y : Lookup). get (if_none mask_in y then d else λ k. k) id) (sym e)
+module _ (d id : ℕ) (x : Option ℕ) (r : Bool) where
+  pub in_mask : (m : ℕ) → x ≡ Some m → r ≡ get m id → r ≡ get (if_none mask_in x then d else λ k. k) id
+  in_mask m e f = f ∙ ap (λ (y : Option ℕ). get (if_none mask_in y then d else λ k. k) id) (sym e)
 
-  pub in_default : x ≡ Nothing → r ≡ get d id → r ≡ get (if_none mask_in x then d else λ k. k) id
-  in_default e f = f ∙ ap (λ (y : Lookup). get (if_none mask_in y then d else λ k. k) id) (sym e)
+  pub in_default : x ≡ None → r ≡ get d id → r ≡ get (if_none mask_in x then d else λ k. k) id
+  in_default e f = f ∙ ap (λ (y : Option ℕ). get (if_none mask_in y then d else λ k. k) id) (sym e)
 
-pub stored_range : (x : Lookup) (k : ℕ) → x ≡ Mask k → local.StoredRange ≡ (if_none mask_in x then local.DefaultRoster else λ m. local.StoredRange)
+pub stored_range : (x : Option ℕ) (k : ℕ) → x ≡ Some k → local.StoredRange ≡ (if_none mask_in x then local.DefaultRoster else λ m. local.StoredRange)
 stored_range x k e = sym (rw e)
 
-pub default_roster : (x : Lookup) → x ≡ Nothing → local.DefaultRoster ≡ (if_none mask_in x then local.DefaultRoster else λ m. local.StoredRange)
+pub default_roster : (x : Option ℕ) → x ≡ None → local.DefaultRoster ≡ (if_none mask_in x then local.DefaultRoster else λ m. local.StoredRange)
 default_roster x e = sym (rw e)
 
 -- ---- a slot that is held
@@ -123,7 +115,7 @@ pub place_below : {c : ℕ} (slot : ℕ) → c ≡ slot % slot_places → c < sl
 place_below slot e = omega arith
 
 module _ (n : Node) (m s : List ℕ) (l : part m slots_at slot_words ≡ s) (slot : ℕ) (t : Bool) (e : t ≡ held_at n.start_slot.0 n.slots slot) where
-  no_slot : not t ≡ true → machine.inst_at (view n m) slot ≡ none
+  no_slot : not t ≡ true → machine.inst_at (view n m) slot ≡ None
   no_slot f = elim (dec_lt slot n.start_slot.0) [
     | yes h ↦ not_below n m slot h
     | no h ↦
@@ -132,14 +124,14 @@ module _ (n : Node) (m s : List ℕ) (l : part m slots_at slot_words ≡ s) (slo
         not_past n m slot k (ltb-false slot (n.start_slot.0 + n.slots) g)
   ]
 
-  slot_at : not t ≡ false → machine.inst_at (view n m) slot ≡ some (inst_in s (slot % slot_places))
+  slot_at : not t ≡ false → machine.inst_at (view n m) slot ≡ Some (inst_in s (slot % slot_places))
   slot_at f =
       let b = and_both (leb n.start_slot.0 slot) (ltb slot (n.start_slot.0 + n.slots)) (sym e ∙ not-false t f) in
       held_at_lem n m slot (leb-true n.start_slot.0 slot b.0) (ltb-true slot (n.start_slot.0 + n.slots) b.1)
-      ∙ ap (λ (y : List ℕ). some (inst_in y (slot % slot_places))) l
+      ∙ ap (λ (y : List ℕ). Some (inst_in y (slot % slot_places))) l
 
-  slot_in_lem : not t ≡ false → (c : ℕ) → c ≡ slot % slot_places → machine.inst_at (view n m) slot ≡ some (inst_in s c)
-  slot_in_lem f c k = slot_at f ∙ ap (λ (j : ℕ). some (inst_in s j)) (sym k)
+  slot_in_lem : not t ≡ false → (c : ℕ) → c ≡ slot % slot_places → machine.inst_at (view n m) slot ≡ Some (inst_in s c)
+  slot_in_lem f c k = slot_at f ∙ ap (λ (j : ℕ). Some (inst_in s j)) (sym k)
 
 -- the slot's short part as it is loaded
 loaded : (s : List ℕ) (c : ℕ) (x : Cell) → cell_of x ≡ short_at s c → inst_in s c ≡ inst_of (cell_of x) (batch_at s c) (reads_at s c)
@@ -149,8 +141,8 @@ loaded s c x l = ap (λ (y : _). inst_of y (batch_at s c) (reads_at s c)) (sym l
 -- ---- a slot's book
 
 pub some_book : (o : Option Notices) (l : List machine.ReadReq) → (if_none o then false else λ b. true) ≡ (if_none heldBook o l then false else λ b. true)
-some_book none l = refl
-some_book (some b) l = refl
+some_book None l = refl
+some_book (Some b) l = refl
 
 -- by the status that the match told
 abbrev waits_by : machine.Status → Option Notices → List machine.ReadReq → Bool
@@ -161,8 +153,8 @@ pub waits_by_lem : (x : Cell) (y : Status) (reqs : List machine.Request) (reads 
 waits_by_lem x y reqs reads e = ap (λ (z : Status). waits_by (status_of z) (book_of x.replica_bk) reads) (sym e)
 
 full_book : (o : Option machine.Book) → leb 16 (length (if_none o then [] else λ b. b.holding)) ≡ (if_none o then false else λ b. leb 16 (length b.holding))
-full_book none = refl
-full_book (some b) = refl
+full_book None = refl
+full_book (Some b) = refl
 
 -- ---- `inspect_highest_slot`, `waits_at` and `full`, by the instance that is found
 
@@ -189,14 +181,14 @@ module _ (n : Node) (m s : List ℕ) (d : part m slots_at slot_words ≡ s) (slo
   inspect_by o f = ap (inspected n.quorum key slot.0) (sym f)
 
   pub inspect_none : not t ≡ true → Inspects (settled.SlotStatus slot)
-  inspect_none f = (inspect_by none (no_slot n m s d slot.0 t e f), tt)
+  inspect_none f = (inspect_by None (no_slot n m s d slot.0 t e f), tt)
 
   module _ (f : not t ≡ false) (c : ℕ) (x : Cell) (k : c ≡ slot.0 % slot_places) (l : cell_of x ≡ short_at s c) where
     abbrev here : machine.Instance
     here = inst_of (cell_of x) (batch_at s c) (reads_at s c)
 
-    found_here : machine.inst_at (view n m) slot.0 ≡ some here
-    found_here = slot_in_lem n m s d slot.0 t e f c k ∙ ap (λ (i : machine.Instance). some i) (loaded s c x l)
+    found_here : machine.inst_at (view n m) slot.0 ≡ Some here
+    found_here = slot_in_lem n m s d slot.0 t e f c k ∙ ap (λ (i : machine.Instance). Some i) (loaded s c x l)
 
     stands : (w : Bool) → w ≡ local.waits here → Stands (view n m) s (record { slot = slot; place = c; waits = w })
     stands w z =
@@ -204,21 +196,21 @@ module _ (n : Node) (m s : List ℕ) (d : part m slots_at slot_words ≡ s) (slo
 
     module _ (u : Bool) (g : u ≡ ltb (machine.order (status_of x.status)) 2) where
       pub inspect_early : u ≡ true → Inspects (settled.SlotStatus slot)
-      inspect_early h = (sym (rw (sym g ∙ h)) ∙ inspect_by (some here) found_here, tt)
+      inspect_early h = (sym (rw (sym g ∙ h)) ∙ inspect_by (Some here) found_here, tt)
 
       module _ (h : u ≡ false) (b : Bool) (y : b ≡ local.is_bound n.quorum here) where
         pub inspect_unbound : not b ≡ true → (w : Bool) → w ≡ local.waits here → Inspects (settled.Notices (record { slot = slot; place = c; waits = w }))
-        inspect_unbound z w v = (sym (rw (sym g ∙ h, sym y ∙ not-true b z)) ∙ inspect_by (some here) found_here, stands w v)
+        inspect_unbound z w v = (sym (rw (sym g ∙ h, sym y ∙ not-true b z)) ∙ inspect_by (Some here) found_here, stands w v)
 
-        module _ (z : not b ≡ false) (p : Latest) (q : value_in p ≡ local.last_put key (batch_at s c)) where
+        module _ (z : not b ≡ false) (p : Option ℕ) (q : value_in p ≡ local.last_put key (batch_at s c)) where
           bound : (if not (local.is_bound n.quorum here) then local.Notices slot.0 else if_none value_in p then local.MissingPut slot.0 else local.FoundPut)
               ≡ local.inspect_highest_slot (view n m) key slot.0
-          bound = rw q (sym (rw (sym g ∙ h)) ∙ inspect_by (some here) found_here)
+          bound = rw q (sym (rw (sym g ∙ h)) ∙ inspect_by (Some here) found_here)
 
-          pub inspect_found : (k : ℕ) → p ≡ latest.Value k → Inspects (settled.FoundPut k)
+          pub inspect_found : (k : ℕ) → p ≡ Some k → Inspects (settled.FoundPut k)
           inspect_found k r = (sym (rw (sym y ∙ not-false b z, r)) ∙ bound, tt)
 
-          pub inspect_missing : p ≡ latest.Nothing → (w : Bool) → w ≡ local.waits here → Inspects (settled.MissingPut (record { slot = slot; place = c; waits = w }))
+          pub inspect_missing : p ≡ None → (w : Bool) → w ≡ local.waits here → Inspects (settled.MissingPut (record { slot = slot; place = c; waits = w }))
           inspect_missing r w v = (sym (rw (sym y ∙ not-false b z, r)) ∙ bound, stands w v)
 
 -- where a read waits
@@ -233,36 +225,36 @@ module _ (r : machine.Replica) (s : List ℕ) (x : SlotAt) (y : Stands r s x) wh
   wait_again h = (sym (rw h) ∙ wait_by, tt)
 
 -- whether its slot is full
-pub full_counted : (r : machine.Replica) (s : List ℕ) (slot c n : ℕ) → machine.inst_at r slot ≡ some (inst_in s c)
+pub full_counted : (r : machine.Replica) (s : List ℕ) (slot c n : ℕ) → machine.inst_at r slot ≡ Some (inst_in s c)
     → (n ≡ length (holding_of (inst_in s c))) × (n ≤ 16) → leb 16 n ≡ full r slot
 full_counted r s slot c n f j = ap (leb 16) j.0 ∙ full_book (inst_in s c).replica_bk ∙ ap filled (sym f)
 
 -- ---- `inspect_latest_write`
 
-module _ (n : Node) (m s w : List ℕ) (l : part m written_at written_words ≡ w) (key : List ℕ) (o : LastWrite) (e : slot_in o ≡ local.highest_of key (written_of w)) where
-  abbrev Latest' : Settled → Type 0
-  Latest' x = Settles (view n m) s (local.inspect_latest_write (view n m) key) x
+module _ (n : Node) (m s w : List ℕ) (l : part m written_at written_words ≡ w) (key : List ℕ) (o : Option Slot) (e : slot_in o ≡ local.highest_of key (written_of w)) where
+  abbrev Option ℕ' : Settled → Type 0
+  Option ℕ' x = Settles (view n m) s (local.inspect_latest_write (view n m) key) x
 
   abbrev latest_of : Option ℕ → local.Settled
   latest_of q =
-      if_none (if_none q then none else λ slot. if ltb slot n.start_slot.0 then none else some slot) then local.NoSlot
+      if_none (if_none q then None else λ slot. if ltb slot n.start_slot.0 then None else Some slot) then local.NoSlot
       else local.inspect_highest_slot (view n m) key
 
   latest_by : latest_of (slot_in o) ≡ local.inspect_latest_write (view n m) key
   unfolding local.inspect_latest_write view
   latest_by = ap latest_of (e ∙ ap (λ (y : List ℕ). local.highest_of key (written_of y)) (sym l))
 
-  pub latest_none : o ≡ last.Nothing → Latest' settled.NoSlot
-  latest_none f = (ap (λ (x : LastWrite). latest_of (slot_in x)) (sym f) ∙ latest_by, tt)
+  pub latest_none : o ≡ None → Option ℕ' settled.NoSlot
+  latest_none f = (ap (λ (x : Option Slot). latest_of (slot_in x)) (sym f) ∙ latest_by, tt)
 
-  module _ (slot : Slot) (f : o ≡ last.At slot) where
-    here_by : latest_of (some slot.0) ≡ local.inspect_latest_write (view n m) key
-    here_by = ap (λ (x : LastWrite). latest_of (slot_in x)) (sym f) ∙ latest_by
+  module _ (slot : Slot) (f : o ≡ Some slot) where
+    here_by : latest_of (Some slot.0) ≡ local.inspect_latest_write (view n m) key
+    here_by = ap (λ (x : Option Slot). latest_of (slot_in x)) (sym f) ∙ latest_by
 
-    pub latest_low : slot.0 < n.start_slot.0 → Latest' settled.NoSlot
+    pub latest_low : slot.0 < n.start_slot.0 → Option ℕ' settled.NoSlot
     latest_low h = (sym (rw (lt-ltb slot.0 n.start_slot.0 h)) ∙ here_by, tt)
 
-    pub latest_at : n.start_slot.0 ≤ slot.0 → (y : Settled) → Settles (view n m) s (local.inspect_highest_slot (view n m) key slot.0) y → Latest' y
+    pub latest_at : n.start_slot.0 ≤ slot.0 → (y : Settled) → Settles (view n m) s (local.inspect_highest_slot (view n m) key slot.0) y → Option ℕ' y
     latest_at h y g = (g.0 ∙ sym (rw (le-ltb slot.0 n.start_slot.0 h)) ∙ here_by, g.1)
 
 -- ---- `settled`
@@ -308,19 +300,19 @@ module _ (n : Node) (m : List ℕ) (leases : ℕ) (key : List ℕ) where
           first : local.FewLeases ≡ settled_by false (read_key key)
           first = rw (lt-ltb leases n.quorum h)
 
-      module _ (h : n.quorum ≤ leases) (k : KeyRead) (g : shown k ≡ read_key key) where
+      module _ (h : n.quorum ≤ leases) (k : Option Inty) (g : shown k ≡ read_key key) where
         read_by : (o : Option ℕ) → shown k ≡ o → (if_none o then local.UnreadKey else λ j. responds n.bodega_conf.default n.id.0 (stored j) barred) ≡ whole
         read_by o q = first ∙ ap (settled_by false) (sym q ∙ g) ∙ unstable
           where
             first : (if_none o then local.UnreadKey else λ j. responds n.bodega_conf.default n.id.0 (stored j) barred) ≡ settled_by false o
             first = rw (le-ltb leases n.quorum h)
 
-        pub settled_unread : k ≡ Unread → Whole settled.UnreadKey
-        settled_unread q = (read_by none (ap shown q), tt)
+        pub settled_unread : k ≡ None → Whole settled.UnreadKey
+        settled_unread q = (read_by None (ap shown q), tt)
 
-        module _ (i : Inty) (q : k ≡ Number i) (r : Lookup) (l : mask_in r ≡ stored (value_of i)) where
+        module _ (i : Inty) (q : k ≡ Some i) (r : Option ℕ) (l : mask_in r ≡ stored (value_of i)) where
           looked : responds n.bodega_conf.default n.id.0 (mask_in r) barred ≡ whole
-          looked = ap (λ (o : Option ℕ). responds n.bodega_conf.default n.id.0 o barred) l ∙ read_by (some (value_of i)) (ap shown q)
+          looked = ap (λ (o : Option ℕ). responds n.bodega_conf.default n.id.0 o barred) l ∙ read_by (Some (value_of i)) (ap shown q)
 
           module _ (u : Bool) (d : u ≡ get (if_none mask_in r then n.bodega_conf.default else λ j. j) n.id.0) where
             answers : (b : Bool) → u ≡ b → (if not b then (if_none mask_in r then local.DefaultRoster else λ j. local.StoredRange) else barred) ≡ whole
@@ -446,15 +438,15 @@ module _ (n : Node) (m : List ℕ) (e : ready n m ≡ true) where
 pub record Waiting (r : machine.Replica) (slot : ℕ) : Type 0 where
   pub inst : machine.Instance
   pub book : machine.Book
-  pub found : machine.inst_at r slot ≡ some inst
-  pub has : inst.replica_bk ≡ some book
+  pub found : machine.inst_at r slot ≡ Some inst
+  pub has : inst.replica_bk ≡ Some book
 
-in_book : (r : machine.Replica) (slot : ℕ) (i : machine.Instance) → machine.inst_at r slot ≡ some i → (o : Option machine.Book) → i.replica_bk ≡ o
+in_book : (r : machine.Replica) (slot : ℕ) (i : machine.Instance) → machine.inst_at r slot ≡ Some i → (o : Option machine.Book) → i.replica_bk ≡ o
     → (if_none o then false else λ b. true) ≡ true → Waiting r slot
-in_book r slot i e none f g = let z : ◌≡◌ {A = ℕ} 0 1 = cc in absurd (omega arith)
-in_book r slot i e (some b) f g = record { inst = i; book = b; found = e; has = f }
+in_book r slot i e None f g = let z : ◌≡◌ {A = ℕ} 0 1 = cc in absurd (omega arith)
+in_book r slot i e (Some b) f g = record { inst = i; book = b; found = e; has = f }
 
-in_slot : (r : machine.Replica) (s slot : ℕ) (i : machine.Instance) → machine.inst_at r s ≡ some i → (b : Bool) → local.waits i ≡ b
+in_slot : (r : machine.Replica) (s slot : ℕ) (i : machine.Instance) → machine.inst_at r s ≡ Some i → (b : Bool) → local.waits i ≡ b
     → (if b then local.HeldBy s else local.Again) ≡ local.HeldBy slot → Waiting r slot
 in_slot r s slot i e false f g = let z : ◌≡◌ {A = ℕ} 0 1 = cc in absurd (omega arith)
 in_slot r s slot i e true f g =
@@ -462,8 +454,8 @@ in_slot r s slot i e true f g =
     in_book r slot i (ap (machine.inst_at r) (sym z) ∙ e) i.replica_bk refl (and_both (machine.is_accepting i.status) (if_none i.replica_bk then false else λ b. true) f).1
 
 in_window : (r : machine.Replica) (s slot : ℕ) (o : Option machine.Instance) → machine.inst_at r s ≡ o → waited s o ≡ local.HeldBy slot → Waiting r slot
-in_window r s slot none e f = let z : ◌≡◌ {A = ℕ} 0 1 = cc in absurd (omega arith)
-in_window r s slot (some i) e f = in_slot r s slot i e (local.waits i) refl f
+in_window r s slot None e f = let z : ◌≡◌ {A = ℕ} 0 1 = cc in absurd (omega arith)
+in_window r s slot (Some i) e f = in_slot r s slot i e (local.waits i) refl f
 
 not_improper : (b : Bool) (slot : ℕ) → (if b then local.Again else local.Consensus) ≡ local.HeldBy slot → ⊥
 not_improper true slot e = let z : ◌≡◌ {A = ℕ} 0 1 = cc in omega arith

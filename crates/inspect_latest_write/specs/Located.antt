@@ -1,7 +1,7 @@
 -- Bridge: what the code's answers to a read stand for, and what they say of the slot that settled it; tied to
 -- `settled` and `read_answer` by proofs/Laws.
 use Rattle.std.specs.Prelude.{◌≡◌, Bool, ◌&&◌, List, ℕ, ◌+◌, ◌%◌, ltb, leb}
-use Rattle.std.proofs.Math.Option.{some}
+use Rattle.std.specs.Prelude.{Some}
 use Rattle.layout.specs.Layout.{slot_places}
 use Rattle.bodega.specs.Replica as machine
 use Rattle.bodega.specs.Localread as local
@@ -34,7 +34,7 @@ settled_of (settled.MissingPut x) = local.MissingPut x.slot.0
 -- the slot is held, at this place of the slots' words s, and this says whether a read waits there
 pub record Stands (r : machine.Replica) (s : List ℕ) (x : SlotAt) : Type 0 where
   pub place : x.place ≡ x.slot.0 % slot_places
-  pub found : machine.inst_at r x.slot.0 ≡ some (inst_in s x.place)
+  pub found : machine.inst_at r x.slot.0 ≡ Some (inst_in s x.place)
   pub waits : x.waits ≡ local.waits (inst_in s x.place)
 
 abbrev pub Located : machine.Replica → List ℕ → Settled → Type 0
@@ -70,7 +70,7 @@ Places r s (answer.Found value) = Unit {0}
 Places r s answer.Missing = Unit {0}
 Places r s answer.FromStore = Unit {0}
 Places r s answer.Consensus = Unit {0}
-Places r s (answer.HeldBy slot c) = (c ≡ slot.0 % slot_places) × (machine.inst_at r slot.0 ≡ some (inst_in s c))
+Places r s (answer.HeldBy slot c) = (c ≡ slot.0 % slot_places) × (machine.inst_at r slot.0 ≡ Some (inst_in s c))
 Places r s answer.Again = Unit {0}
 
 -- the answer is y, and what it tells of the slot's place is so

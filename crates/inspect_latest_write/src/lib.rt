@@ -19,16 +19,11 @@ ghost use Rattle.bodega.specs.Grounds.{overfills};
 ghost use Rattle.node.specs.View.{view, ready};
 ghost use Rattle.inspect_latest_write.specs.Located.{held_at, settled_of, answer_in, Stands, Located, Settles, Places, Gets};
 
-use highest_slot::LastWrite;
 use ids::{Replica, Slot};
-use inst_cell::{Cell, ReplicaBk, Status};
-use inst_reqs::Latest;
+use inst_cell::{Cell, Status};
 use items::Item;
 use key_words::Key;
-use keys::KeyRead;
 use node::{Node, is_leader};
-use roster_map::Lookup;
-use words::wide;
 
 // A slot that settles a read: its place, and whether a read waits there.
 #[derive(Clone, Copy)]
@@ -83,28 +78,28 @@ fn is_stable_leader(node: Node, leases: u64) -> bool
     if seen.0 != prepared.0 {
         return false;
     }
-    if leases < wide(node.quorum) {
+    if leases < u64::from(node.quorum) {
         return false;
     }
     max.0 <= commit.0
 }
 
 // Whether the replica is in the mask stored for a key, or in the default where none is.
-fn is_responder(default: u64, id: Replica, stored: Lookup) -> bool
+fn is_responder(default: u64, id: Replica, stored: Option<u64>) -> bool
     ensures { result ≡ get (if_none mask_in stored then default else λ m. m) id.0 }
 {
     match stored {
-        Lookup::Mask(mask) => bitmap::get(mask, id),
-        Lookup::Nothing => bitmap::get(default, id),
+        Some(mask) => bitmap::get(mask, id),
+        None => bitmap::get(default, id),
     }
 }
 
-fn not_responder(stored: Lookup) -> Settled
+fn not_responder(stored: Option<u64>) -> Settled
     ensures { (x : Machine) (s : List ℕ) → Settles x s (if_none mask_in stored then local.DefaultRoster else λ m. local.StoredRange) result }
 {
     match stored {
-        Lookup::Mask(_mask) => Settled::StoredRange,
-        Lookup::Nothing => Settled::DefaultRoster,
+        Some(_mask) => Settled::StoredRange,
+        None => Settled::DefaultRoster,
     }
 }
 
@@ -126,10 +121,10 @@ fn place_of(slot: Slot) -> usize
     (slot.0 % layout::PLACES) as usize
 }
 
-fn has_book(book: ReplicaBk) -> bool
+fn has_book(book: Option<NoticeBook>) -> bool
     ensures { result ≡ (if_none book_of book then false else λ b. true) }
 {
-    let ReplicaBk::Some(_b) = book else {
+    let Some(_b) = book else {
         return false;
     };
     true
@@ -175,7 +170,7 @@ fn inspect_highest_slot(node: Node, s: &[u64], key: Key, slot: Slot) -> Settled
         });
     }
     let put = insts::last_put(s, c, key);
-    let Latest::Value(value) = put else {
+    let Some(value) = put else {
         let waiting = waits(cell);
         return Settled::MissingPut(SlotAt {
             slot,
@@ -190,7 +185,7 @@ fn inspect_latest_write(node: Node, s: &[u64], w: &[u64], key: Key) -> Settled
     requires { (slot_words ≤ length s.now) × (written_words ≤ length w.now) }
     ensures { (m : List ℕ) → part m slots_at slot_words ≡ s.now → part m written_at written_words ≡ w.now → Settles (view node m) s.now (inspect_latest_write (view node m) (bytes_of key)) result }
 {
-    let LastWrite::At(slot) = highest_slot::highest(w, key) else {
+    let Some(slot) = highest_slot::highest(w, key) else {
         return Settled::NoSlot;
     };
     let start = node.start_slot;
@@ -208,11 +203,11 @@ pub fn settled_by(node: Node, mem: &[u64], leases: u64, key: &[u8], packed: Key)
     if is_stable_leader(node, leases) {
         return Settled::StableLeader;
     }
-    let quorum = wide(node.quorum);
+    let quorum = u64::from(node.quorum);
     if leases < quorum {
         return Settled::FewLeases;
     }
-    let KeyRead::Number(n) = keys::key_to_inty(key) else {
+    let Some(n) = keys::key_to_inty(key) else {
         return Settled::UnreadKey;
     };
     let conf = node.bodega_conf;

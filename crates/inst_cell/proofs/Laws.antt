@@ -4,7 +4,7 @@ use mathlib.Core.Path.{◌≡◌, refl, sym}
 use mathlib.Core.Logic.{inl, inr, ◌≢◌}
 use mathlib.Core.Bool.{Bool, true, false, not}
 use mathlib.Core.List.{List, [], ◌∷◌}
-use mathlib.Core.Option.{Option, none, some}
+use Rattle.std.specs.Prelude.{Option, None, Some}
 use Prim.Native.Nat.{ℕ, zero, suc, ◌+◌, ◌*◌, ◌≤◌, ◌<◌}
 use native.Mathlib.Omega.{arith}
 use native.Mathlib.Decide.{dec_lt}
@@ -40,16 +40,16 @@ module _ (w : ℕ) where
         named_4 n3 = sym (simp (ne_eqb w 0 n0, ne_eqb w 1 n1, ne_eqb w 2 n2, ne_eqb w 3 n3))
 
 module _ (has : ℕ) where
-  pub no_acks : (m : ℕ) → has ≡ 0 → none ≡ acks_named has m
+  pub no_acks : (m : ℕ) → has ≡ 0 → None ≡ acks_named has m
   no_acks m e = sym (simp (eq-eqb has 0 e))
 
-  pub some_acks : (m : ℕ) → (has ≡ 0 → ⊥) → some m ≡ acks_named has m
+  pub some_acks : (m : ℕ) → (has ≡ 0 → ⊥) → Some m ≡ acks_named has m
   some_acks m e = sym (simp (ne_eqb has 0 e))
 
-  pub no_book : (bal m : ℕ) → has ≡ 0 → none ≡ book_named has bal m
+  pub no_book : (bal m : ℕ) → has ≡ 0 → None ≡ book_named has bal m
   no_book bal m e = sym (simp (eq-eqb has 0 e))
 
-  pub some_book : (bal m : ℕ) → (has ≡ 0 → ⊥) → ◌≡◌ {A = Option Notices} (some (record { bal = bal; notices = m })) (book_named has bal m)
+  pub some_book : (bal m : ℕ) → (has ≡ 0 → ⊥) → ◌≡◌ {A = Option Notices} (Some (record { bal = bal; notices = m })) (book_named has bal m)
   some_book bal m e = sym (simp (ne_eqb has 0 e))
 
 -- ---- load and store
@@ -69,12 +69,12 @@ named_status machine.Committed = refl
 named_status machine.Executed = refl
 
 named_acks : (o : Option ℕ) → acks_named (present o) (acks_in o) ≡ o
-named_acks none = refl
-named_acks (some m) = refl
+named_acks None = refl
+named_acks (Some m) = refl
 
 named_book : (o : Option Notices) → book_named (present o) (bal_in o) (notices_in o) ≡ o
-named_book none = refl
-named_book (some b) = refl
+named_book None = refl
+named_book (Some b) = refl
 
 -- a cell is read from its own words
 pub cell_near : (t s : List ℕ) (p : ℕ) → Agrees t s p (p + 7) → cell_at t p ≡ cell_at s p
@@ -141,7 +141,7 @@ pub open_is : (s : List ℕ) (p : ℕ) → ltb (get_or s (p + 1) 0) 3 ≡ machin
 unfolding cell_at
 open_is s p = open_named (get_or s (p + 1) 0)
 
-named_there : (b : Bool) (x : Notices) → not b ≡ (if_none (if b then none else some x) then false else λ y. true)
+named_there : (b : Bool) (x : Notices) → not b ≡ (if_none (if b then None else Some x) then false else λ y. true)
 named_there true x = refl
 named_there false x = refl
 

@@ -1,16 +1,13 @@
 -- Trusted: the short part of an instance that eight words stand for: ballot, status, whether there are acks, the acks,
 -- whether there is a notice book, its ballot, its notices, and one that is not used.
 use Rattle.std.specs.Prelude.{ℕ, ◌+◌, Bool, true, false, List, [], ◌∷◌, eqb, get_or, if◌then◌else◌}
-use Rattle.std.proofs.Math.Option.{Option, none, some}
+use Rattle.std.specs.Prelude.{Option, None, Some}
 use Rattle.words.specs.Choice.{if_none◌then◌else◌}
 use Rattle.bodega.specs.Replica as machine
 use Rattle.inst_cell.specs.declared.Status.{Status}
 use Rattle.inst_cell.specs.declared.Status.TheVariants.{Null, Preparing, Accepting, Committed, Executed}
-use Rattle.inst_cell.specs.declared.LeaderBk.{LeaderBk}
-use Rattle.inst_cell.specs.declared.LeaderBk.TheVariants as leader
-use Rattle.inst_cell.specs.declared.ReplicaBk.{ReplicaBk}
-use Rattle.inst_cell.specs.declared.ReplicaBk.TheVariants as replica
 use Rattle.inst_cell.specs.declared.Cell.{Cell}
+use Rattle.inst_cell.specs.declared.NoticeBook.{NoticeBook}
 
 abbrev pub status_of : Status → machine.Status
 status_of Null = machine.Null
@@ -24,13 +21,13 @@ pub record Notices : Type 0 where
   pub bal : ℕ
   pub notices : ℕ
 
-abbrev pub acks_of : LeaderBk → Option ℕ
-acks_of leader.None = none
-acks_of (leader.Some m) = some m
+abbrev pub acks_of : Option ℕ → Option ℕ
+acks_of None = None
+acks_of (Some m) = Some m
 
-abbrev pub book_of : ReplicaBk → Option Notices
-book_of replica.None = none
-book_of (replica.Some b) = some (record { bal = b.bal.0; notices = b.notices })
+abbrev pub book_of : Option NoticeBook → Option Notices
+book_of None = None
+book_of (Some b) = Some (record { bal = b.bal.0; notices = b.notices })
 
 pub record Short : Type 0 where
   pub bal : ℕ
@@ -57,10 +54,10 @@ status_named w =
     if eqb w 3 then machine.Committed else machine.Executed
 
 abbrev pub acks_named : ℕ → ℕ → Option ℕ
-acks_named has m = if eqb has 0 then none else some m
+acks_named has m = if eqb has 0 then None else Some m
 
 abbrev pub book_named : ℕ → ℕ → ℕ → Option Notices
-book_named has bal m = if eqb has 0 then none else some (record { bal = bal; notices = m })
+book_named has bal m = if eqb has 0 then None else Some (record { bal = bal; notices = m })
 
 -- the cell at word p
 unfoldable pub cell_at : List ℕ → ℕ → Short
@@ -73,8 +70,8 @@ cell_at s p =
     }
 
 abbrev pub present : {A : Type 0} → Option A → ℕ
-present none = 0
-present (some x) = 1
+present None = 0
+present (Some x) = 1
 
 abbrev pub acks_in : Option ℕ → ℕ
 acks_in o = if_none o then 0 else λ m. m

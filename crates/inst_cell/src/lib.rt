@@ -19,13 +19,6 @@ pub enum Status {
     Executed,
 }
 
-// `LeaderBookkeeping`: who has acked the Accept.
-#[derive(Clone, Copy)]
-pub enum LeaderBk {
-    None,
-    Some(u64),
-}
-
 // The notices of a ballot.
 #[derive(Clone, Copy)]
 pub struct NoticeBook {
@@ -33,19 +26,12 @@ pub struct NoticeBook {
     pub notices: u64,
 }
 
-// `ReplicaBookkeeping`, without the held reads.
-#[derive(Clone, Copy)]
-pub enum ReplicaBk {
-    None,
-    Some(NoticeBook),
-}
-
 #[derive(Clone, Copy)]
 pub struct Cell {
     pub bal: Ballot,
     pub status: Status,
-    pub leader_bk: LeaderBk,
-    pub replica_bk: ReplicaBk,
+    pub leader_bk: Option<u64>,
+    pub replica_bk: Option<NoticeBook>,
 }
 
 // Words that no status has are Executed.
@@ -79,35 +65,35 @@ fn status_word(s: Status) -> u64
     }
 }
 
-fn leader_bk(has: u64, acks: u64) -> LeaderBk
+fn leader_bk(has: u64, acks: u64) -> Option<u64>
     ensures { acks_of result ≡ acks_named has acks }
 {
     if has == 0 {
-        return LeaderBk::None;
+        return None;
     }
-    LeaderBk::Some(acks)
+    Some(acks)
 }
 
-fn replica_bk(has: u64, bal: Ballot, notices: u64) -> ReplicaBk
+fn replica_bk(has: u64, bal: Ballot, notices: u64) -> Option<NoticeBook>
     ensures { book_of result ≡ book_named has bal.0 notices }
 {
     if has == 0 {
-        return ReplicaBk::None;
+        return None;
     }
     let book = NoticeBook { bal, notices };
-    ReplicaBk::Some(book)
+    Some(book)
 }
 
 // Whether there are acks, and which.
 #[derive(Clone, Copy)]
 struct AckWords(u64, u64);
 
-fn ack_words(bk: LeaderBk) -> AckWords
+fn ack_words(bk: Option<u64>) -> AckWords
     ensures { (result.0 ≡ present (acks_of bk)) × (result.1 ≡ acks_in (acks_of bk)) }
 {
     match bk {
-        LeaderBk::None => AckWords(0, 0),
-        LeaderBk::Some(acks) => AckWords(1, acks),
+        None => AckWords(0, 0),
+        Some(acks) => AckWords(1, acks),
     }
 }
 
@@ -115,12 +101,12 @@ fn ack_words(bk: LeaderBk) -> AckWords
 #[derive(Clone, Copy)]
 struct BookWords(u64, u64, u64);
 
-fn book_words(bk: ReplicaBk) -> BookWords
+fn book_words(bk: Option<NoticeBook>) -> BookWords
     ensures { (result.0 ≡ present (book_of bk)) × (result.1 ≡ bal_in (book_of bk)) × (result.2 ≡ notices_in (book_of bk)) }
 {
     match bk {
-        ReplicaBk::None => BookWords(0, 0, 0),
-        ReplicaBk::Some(book) => BookWords(1, book.bal.0, book.notices),
+        None => BookWords(0, 0, 0),
+        Some(book) => BookWords(1, book.bal.0, book.notices),
     }
 }
 

@@ -1,7 +1,7 @@
 -- Trusted: the reads held by a slot that lent words stand for. What a push leaves is a bridge, tied by
 -- insts/proofs/Laws.
 use Rattle.std.specs.Prelude.{◌≡◌, Bool, false, List, [], ◌∷◌, ◌++◌, ℕ, ◌+◌, ◌*◌, ◌≤◌, leb, length, get_or, if◌then◌else◌}
-use Rattle.std.proofs.Math.Option.{Option, none, some}
+use Rattle.std.specs.Prelude.{Option, None, Some}
 use Rattle.words.specs.Counted.{counted}
 use Rattle.key_words.specs.Key.{key_at, words_of, bytes_of}
 use Rattle.layout.specs.Layout.{held_row, held_places, held_words}
@@ -27,10 +27,10 @@ unfoldable pub reads_of : List ℕ → List machine.ReadReq
 reads_of s = counted read_from held_row held_places s
 
 abbrev pub capped : List machine.ReadReq → Option (List machine.ReadReq)
-capped l = if leb (length l) held_places then some l else none
+capped l = if leb (length l) held_places then Some l else None
 
 -- what a push of x onto the words s leaves: the answer, and the words t
 pub record Pushes (s : List ℕ) (x : machine.ReadReq) (r : Bool) (t : List ℕ) : Type 0 where
-  pub outcome : (if r then some (reads_of t) else none) ≡ capped (reads_of s ++ (x ∷ []))
+  pub outcome : (if r then Some (reads_of t) else None) ≡ capped (reads_of s ++ (x ∷ []))
   pub refused : r ≡ false → t ≡ s
   pub beyond : (j : ℕ) → held_words ≤ j → get_or t j 0 ≡ get_or s j 0

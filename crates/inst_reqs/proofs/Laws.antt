@@ -4,7 +4,7 @@ use mathlib.Core.Path.{◌≡◌, refl, sym, ap, ◌∙◌}
 use mathlib.Core.Bool.{Bool, true, false, true≢false}
 use mathlib.Core.Logic.{inr}
 use mathlib.Core.List.{List, [], ◌∷◌, ◌++◌}
-use mathlib.Core.Option.{Option, none, some}
+use Rattle.std.specs.Prelude.{Option, None, Some}
 use Prim.Native.Nat.{ℕ, ◌+◌, ◌-◌, ◌*◌, ◌≤◌, ◌<◌}
 use native.Mathlib.Nat.{zero-add}
 use native.Mathlib.Omega.{arith}
@@ -26,8 +26,6 @@ use Rattle.inst_reqs.specs.Batch.{command_of, command_at, kind_of, value_of, req
 use Rattle.inst_reqs.specs.declared.Command.{Command}
 use Rattle.inst_reqs.specs.declared.Command.TheVariants.{Get, Put}
 use Rattle.inst_reqs.specs.declared.Request.{Request}
-use Rattle.inst_reqs.specs.declared.Latest.{Latest}
-use Rattle.inst_reqs.specs.declared.Latest.TheVariants.{Value, Nothing}
 
 pub near : (s' s : List ℕ) (p : ℕ) → Agrees s' s p (p + request_row) → request_from s' p ≡ request_from s p
 unfolding request_from
@@ -94,7 +92,7 @@ push_no s n q many full =
 pub pushed_on : (s t : List ℕ) (q : machine.Request) (r : Bool) → Pushes s q r t → length (requests_of s) < request_places → requests_of t ≡ requests_of s ++ (q ∷ [])
 pushed_on s t q r p h = go r (rw (le-leb (length (requests_of s ++ (q ∷ []))) request_places (rw length-append (omega arith))) at p.outcome)
   where
-    go : (r : Bool) → (if r then some (requests_of t) else none) ≡ some (requests_of s ++ (q ∷ [])) → requests_of t ≡ requests_of s ++ (q ∷ [])
+    go : (r : Bool) → (if r then Some (requests_of t) else None) ≡ Some (requests_of s ++ (q ∷ [])) → requests_of t ≡ requests_of s ++ (q ∷ [])
     go true e = cc
     go false e = cc
 
@@ -116,35 +114,35 @@ abbrev PutAt : List ℕ → ℕ → Key → Option ℕ
 PutAt s i key = put_of (bytes_of key) (request_at s i) (request_at s i).command
 
 module _ (s : List ℕ) (i : ℕ) (key : Key) where
-  pub put_other : (get_or s (1 + i * request_row + 1 + 1) 0 ≡ 1 → ⊥) → none ≡ PutAt s i key
+  pub put_other : (get_or s (1 + i * request_row + 1 + 1) 0 ≡ 1 → ⊥) → None ≡ PutAt s i key
   unfolding request_from
   put_other h = rw (ne_eqb (get_or s (1 + i * request_row + 1 + 1) 0) 1 h)
 
   module _ (h : get_or s (1 + i * request_row + 1 + 1) 0 ≡ 1) (k : Key) (t : Bool) (e : k ≡ key_at s (1 + i * request_row + 1 + 1 + 1 + 1)) (q : t ≡ same_bytes (bytes_of k) (bytes_of key)) where
-    pub put_here : t ≡ true → some (get_or s (1 + i * request_row + 1 + 1 + 1) 0) ≡ PutAt s i key
+    pub put_here : t ≡ true → Some (get_or s (1 + i * request_row + 1 + 1 + 1) 0) ≡ PutAt s i key
     unfolding request_from
     put_here y = rw (eq-eqb (get_or s (1 + i * request_row + 1 + 1) 0) 1 h, ← e, ← q, y)
 
-    pub put_away : t ≡ false → none ≡ PutAt s i key
+    pub put_away : t ≡ false → None ≡ PutAt s i key
     unfolding request_from
     put_away y = rw (eq-eqb (get_or s (1 + i * request_row + 1 + 1) 0) 1 h, ← e, ← q, y)
 
 -- ---- the last Put, from the end
 
 last_snoc : (key : List ℕ) (qs : List machine.Request) (q : machine.Request)
-    → last_put key (qs ++ (q ∷ [])) ≡ (if_none put_of key q q.command then last_put key qs else λ v. some v)
+    → last_put key (qs ++ (q ∷ [])) ≡ (if_none put_of key q q.command then last_put key qs else λ v. Some v)
 unfolding last_put
 last_snoc key [] q = go (put_of key q q.command)
   where
-    go : (o : Option ℕ) → o ≡ (if_none o then none else λ v. some v)
-    go none = refl
-    go (some v) = refl
+    go : (o : Option ℕ) → o ≡ (if_none o then None else λ v. Some v)
+    go None = refl
+    go (Some v) = refl
 last_snoc key (r ∷ qs) q = rw (last_snoc key qs q) (go (put_of key q q.command))
   where
-    go : (o : Option ℕ) → (if_none (if_none o then last_put key qs else λ v. some v) then put_of key r r.command else λ v. some v)
-        ≡ (if_none o then (if_none last_put key qs then put_of key r r.command else λ v. some v) else λ v. some v)
-    go none = refl
-    go (some v) = refl
+    go : (o : Option ℕ) → (if_none (if_none o then last_put key qs else λ v. Some v) then put_of key r r.command else λ v. Some v)
+        ≡ (if_none o then (if_none last_put key qs then put_of key r r.command else λ v. Some v) else λ v. Some v)
+    go None = refl
+    go (Some v) = refl
 
 -- the answer among the first i requests
 unfoldable pub last_of : List ℕ → ℕ → List ℕ → Option ℕ
@@ -157,23 +155,23 @@ last_start s n key = refl
 pub last_all : (s : List ℕ) (n : ℕ) (key : List ℕ) → n ≡ length (requests_of s) → last_put key (tab (request_at s) 0 n) ≡ last_put key (requests_of s)
 last_all s n key h = ap (last_put key) (sym (requests_are s n h))
 
-pub last_end : (s : List ℕ) (i : ℕ) (key : List ℕ) → i ≤ 0 → last_of s i key ≡ none
+pub last_end : (s : List ℕ) (i : ℕ) (key : List ℕ) → i ≤ 0 → last_of s i key ≡ None
 unfolding last_of last_put
 last_end s i key h =
     let z : i ≡ 0 = omega arith in
     rw z
 
 -- in the words of the code: r is what the request before i says
-module _ (s : List ℕ) (i : ℕ) (key : Key) (r : Latest) (b : 0 < i) (told : value_in r ≡ PutAt s (i - 1) key) where
-  cut : last_of s i (bytes_of key) ≡ (if_none value_in r then last_of s (i - 1) (bytes_of key) else λ v. some v)
+module _ (s : List ℕ) (i : ℕ) (key : Key) (r : Option ℕ) (b : 0 < i) (told : value_in r ≡ PutAt s (i - 1) key) where
+  cut : last_of s i (bytes_of key) ≡ (if_none value_in r then last_of s (i - 1) (bytes_of key) else λ v. Some v)
   unfolding last_of
   cut =
       let m : i ≡ i - 1 + 1 = omega arith in
       ap (λ (n : ℕ). last_put (bytes_of key) (tab (request_at s) 0 n)) m
       ∙ rw (tab_snoc (request_at s) 0 (i - 1), zero-add (i - 1), told) (last_snoc (bytes_of key) (tab (request_at s) 0 (i - 1)) (request_at s (i - 1)))
 
-  pub last_here : (v : ℕ) → r ≡ Value v → last_of s i (bytes_of key) ≡ some v
+  pub last_here : (v : ℕ) → r ≡ Some v → last_of s i (bytes_of key) ≡ Some v
   last_here v e = cut ∙ rw e
 
-  pub last_next : r ≡ Nothing → last_of s i (bytes_of key) ≡ last_of s (i - 1) (bytes_of key)
+  pub last_next : r ≡ None → last_of s i (bytes_of key) ≡ last_of s (i - 1) (bytes_of key)
   last_next e = cut ∙ rw e

@@ -1,6 +1,6 @@
 -- Trusted: a slot's batch that lent words stand for. What a push leaves is a bridge, tied by req_batch/proofs/Laws.
 use Rattle.std.specs.Prelude.{◌≡◌, Bool, false, List, [], ◌∷◌, ◌++◌, ℕ, ◌+◌, ◌*◌, ◌≤◌, leb, eqb, length, get_or, if◌then◌else◌}
-use Rattle.std.proofs.Math.Option.{Option, none, some}
+use Rattle.std.specs.Prelude.{Option, None, Some}
 use Rattle.words.specs.Counted.{counted}
 use Rattle.key_words.specs.Key.{key_at, words_of, bytes_of}
 use Rattle.layout.specs.Layout.{request_places, request_row, batch_words}
@@ -8,8 +8,6 @@ use Rattle.bodega.specs.Replica as machine
 use Rattle.inst_reqs.specs.declared.Command.{Command}
 use Rattle.inst_reqs.specs.declared.Command.TheVariants.{Get, Put}
 use Rattle.inst_reqs.specs.declared.Request.{Request}
-use Rattle.inst_reqs.specs.declared.Latest.{Latest}
-use Rattle.inst_reqs.specs.declared.Latest.TheVariants.{Value, Nothing}
 
 -- a request of the code, and its words
 abbrev pub command_of : Command → machine.Command
@@ -50,15 +48,15 @@ request_at s i = request_from s (1 + i * request_row)
 unfoldable pub requests_of : List ℕ → List machine.Request
 requests_of s = counted request_from request_row request_places s
 
-abbrev pub value_in : Latest → Option ℕ
-value_in (Value v) = some v
-value_in Nothing = none
+abbrev pub value_in : Option ℕ → Option ℕ
+value_in (Some v) = Some v
+value_in None = None
 
 abbrev pub capped : List machine.Request → Option (List machine.Request)
-capped l = if leb (length l) request_places then some l else none
+capped l = if leb (length l) request_places then Some l else None
 
 -- what a push of q onto the words s leaves: the answer, and the words t
 pub record Pushes (s : List ℕ) (q : machine.Request) (r : Bool) (t : List ℕ) : Type 0 where
-  pub outcome : (if r then some (requests_of t) else none) ≡ capped (requests_of s ++ (q ∷ []))
+  pub outcome : (if r then Some (requests_of t) else None) ≡ capped (requests_of s ++ (q ∷ []))
   pub refused : r ≡ false → t ≡ s
   pub beyond : (j : ℕ) → batch_words ≤ j → get_or t j 0 ≡ get_or s j 0

@@ -29,13 +29,6 @@ pub struct Request {
     pub key: Key,
 }
 
-// The value of a Put, where there is one.
-#[derive(Clone, Copy)]
-pub enum Latest {
-    Value(u64),
-    Nothing,
-}
-
 pub fn count(s: &[u64]) -> usize
     requires { batch_words ≤ length s.now }
     ensures { (result ≡ length (requests_of s.now)) × (result ≤ request_places) }
@@ -133,7 +126,7 @@ pub fn clear(s: &mut [u64])
 }
 
 // The value that the i-th request puts at a key.
-fn put_at(s: &[u64], i: usize, key: Key) -> Latest
+fn put_at(s: &[u64], i: usize, key: Key) -> Option<u64>
     requires { (i < request_places) × (batch_words ≤ length s.now) }
     ensures { value_in result ≡ put_of (bytes_of key) (request_at s.now i) (request_at s.now i).command }
 {
@@ -143,16 +136,16 @@ fn put_at(s: &[u64], i: usize, key: Key) -> Latest
     let p3 = p2 + 1;
     let p4 = p3 + 1;
     if s[p2] != 1 {
-        return Latest::Nothing;
+        return None;
     }
     if key_words::same(get_key(s, p4), key) {
-        return Latest::Value(s[p3]);
+        return Some(s[p3]);
     }
-    Latest::Nothing
+    None
 }
 
 // The value of the last Put of a key among the first n requests.
-pub fn last_put_among(s: &[u64], n: usize, key: Key) -> Latest
+pub fn last_put_among(s: &[u64], n: usize, key: Key) -> Option<u64>
     requires { (n ≤ request_places) × (batch_words ≤ length s.now) }
     ensures { value_in result ≡ last_put (bytes_of key) (tab (request_at s.now) 0 n) }
 {
@@ -161,17 +154,17 @@ pub fn last_put_among(s: &[u64], n: usize, key: Key) -> Latest
         i = i - 1;
         let put = put_at(s, i, key);
         match put {
-            Latest::Value(v) => {
-                return Latest::Value(v);
+            Some(v) => {
+                return Some(v);
             }
-            Latest::Nothing => {}
+            None => {}
         }
     }
-    Latest::Nothing
+    None
 }
 
 // The value of the last Put of a key.
-pub fn last_put(s: &[u64], key: Key) -> Latest
+pub fn last_put(s: &[u64], key: Key) -> Option<u64>
     requires { batch_words ≤ length s.now }
     ensures { value_in result ≡ last_put (bytes_of key) (requests_of s.now) }
 {

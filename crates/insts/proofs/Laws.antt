@@ -4,12 +4,12 @@ use mathlib.Core.Path.{◌≡◌, refl, sym, ap, ◌∙◌}
 use mathlib.Core.Logic.{◌≢◌}
 use mathlib.Core.List.{List, [], ◌∷◌, ◌++◌, append_assoc, append-nil}
 use mathlib.Core.Bool.{Bool, true, false, not}
-use mathlib.Core.Option.{Option, none, some}
+use Rattle.std.specs.Prelude.{Option, None, Some}
 use Prim.Native.Nat.{ℕ, zero, suc, ◌+◌, ◌-◌, ◌*◌, ◌%◌, ◌≤◌, ◌<◌}
 use native.Mathlib.Nat.{zero-add}
 use native.Mathlib.Decide.{dec_lt}
 use native.Mathlib.Omega.{arith}
-use lib.ListN.{length, set, take, drop, replicate, get_elem?, length-set, length-append}
+use lib.ListN.{length, set, take, drop, replicate, slice_get, length-set, length-append}
 use lib.Dec.{ltb}
 use lib.Seq.{take-length}
 use borrow.Author.Tests.{le-leb, not-true, not-false}
@@ -142,7 +142,7 @@ module _ (s : List ℕ) (c : ℕ) (h : slot_words ≤ length s) (b : c < slot_pl
         puts_reads n w k (ap length e.1 ∙ length-set (take n (drop (reads_from + c * held_words) s)) 0 0 ∙ lent (reads_from + c * held_words) n (omega arith) ∙ k) [] e.0
 
 -- a push that has room
-kept_all : (r : Bool) (a b : List machine.ReadReq) → (if r then some a else none) ≡ some b → a ≡ b
+kept_all : (r : Bool) (a b : List machine.ReadReq) → (if r then Some a else None) ≡ Some b → a ≡ b
 kept_all true a b e = cc
 kept_all false a b e = cc
 
@@ -160,7 +160,7 @@ module _ (s : List ℕ) (c : ℕ) (h : slot_words ≤ length s) (b : c < slot_pl
   unfolding reads_at
   read_pushed w x r l f p =
       let e : length (reads_of (part s (reads_from + c * held_words) held_words) ++ (x ∷ [])) ≤ held_places = simp length-append (omega arith) in
-      let q : (if r then some (reads_of w) else none) ≡ some (reads_of (part s (reads_from + c * held_words) held_words) ++ (x ∷ [])) =
+      let q : (if r then Some (reads_of w) else None) ≡ Some (reads_of (part s (reads_from + c * held_words) held_words) ++ (x ∷ [])) =
       p.outcome ∙ ap (λ (y : List ℕ). capped (reads_of y ++ (x ∷ []))) lent_reads
       ∙ rw (le-leb (length (reads_of (part s (reads_from + c * held_words) held_words) ++ (x ∷ []))) held_places e) in
       puts_reads s c h b n w k (l ∙ lent s c h b (reads_from + c * held_words) n (omega arith) ∙ k) (reads_at s c ++ (x ∷ []))
@@ -245,11 +245,11 @@ dropped start n d s h =
     ∙ sym (drop_tab (λ i. inst_in s ((start + i) % slot_places)) 0 n d h)
 
 -- the slot at a place, where it is held
-pub inst_at_lem : (start n k : ℕ) (s : List ℕ) → k < n → get_elem? (insts_of start n s) k ≡ some (inst_in s ((start + k) % slot_places))
+pub inst_at_lem : (start n k : ℕ) (s : List ℕ) → k < n → slice_get (insts_of start n s) k ≡ Some (inst_in s ((start + k) % slot_places))
 unfolding insts_of
-inst_at_lem start n k s h = elem_tab (λ i. inst_in s ((start + i) % slot_places)) 0 n k h ∙ ap (λ (j : ℕ). some (inst_in s ((start + j) % slot_places))) (zero-add k)
+inst_at_lem start n k s h = elem_tab (λ i. inst_in s ((start + i) % slot_places)) 0 n k h ∙ ap (λ (j : ℕ). Some (inst_in s ((start + j) % slot_places))) (zero-add k)
 
-pub inst_none : (start n k : ℕ) (s : List ℕ) → n ≤ k → get_elem? (insts_of start n s) k ≡ none
+pub inst_none : (start n k : ℕ) (s : List ℕ) → n ≤ k → slice_get (insts_of start n s) k ≡ None
 unfolding insts_of
 inst_none start n k s h = elem_past (λ i. inst_in s ((start + i) % slot_places)) 0 n k h
 
@@ -286,8 +286,8 @@ first start n k s h = take_tab (λ i. inst_in s ((start + i) % slot_places)) 0 n
 
 book_holds : (o : Option Notices) (l : List machine.ReadReq)
     → (if_none book_of o l then false else λ b. ltb 0 (length b.holding)) ≡ (if (if_none o then false else λ b. true) then ltb 0 (length l) else false)
-book_holds none l = refl
-book_holds (some b) l = refl
+book_holds None l = refl
+book_holds (Some b) l = refl
 
 holds_by : (s : List ℕ) (c : ℕ) → holds (inst_in s c) ≡ (if has_book (short_at s c) then ltb 0 (length (reads_at s c)) else false)
 unfolding inst_in
@@ -303,12 +303,12 @@ module _ (s : List ℕ) (c : ℕ) (t : Bool) (e : t ≡ has_book (short_at s c))
 -- ---- reads without a notice book
 
 seen_some : (o : Option Notices) (l : List machine.ReadReq) → (if_none o then false else λ b. true) ≡ true → seen_reads o l ≡ l
-seen_some none l e = let z : ◌≡◌ {A = ℕ} 0 1 = cc in absurd (omega arith)
-seen_some (some b) l e = refl
+seen_some None l e = let z : ◌≡◌ {A = ℕ} 0 1 = cc in absurd (omega arith)
+seen_some (Some b) l e = refl
 
 seen_none : (o : Option Notices) (l : List machine.ReadReq) → (if_none o then false else λ b. true) ≡ false → seen_reads o l ≡ []
-seen_none none l e = refl
-seen_none (some b) l e = let z : ◌≡◌ {A = ℕ} 0 1 = cc in absurd (omega arith)
+seen_none None l e = refl
+seen_none (Some b) l e = let z : ◌≡◌ {A = ℕ} 0 1 = cc in absurd (omega arith)
 
 module _ (s : List ℕ) (c : ℕ) (t : Bool) (e : t ≡ has_book (short_at s c)) where
   pub book_there : t ≡ true → Puts s c (short_at s c) (batch_at s c) (seen_reads (short_at s c).replica_bk (reads_at s c)) s

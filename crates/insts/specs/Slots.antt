@@ -1,7 +1,7 @@
 -- Trusted: the instances that the slots' words stand for: cells, then batches, then held reads, each in the place of
 -- the slot. What a change of a place leaves is a bridge, tied by node/proofs/Slots.
 use Rattle.std.specs.Prelude.{◌≡◌, ◌≢◌, List, [], ℕ, ◌+◌, ◌*◌, ◌%◌, ◌<◌, length}
-use Rattle.std.proofs.Math.Option.{Option, none, some}
+use Rattle.std.specs.Prelude.{Option, None, Some}
 use Rattle.words.specs.Choice.{if_none◌then◌else◌}
 use Rattle.words.specs.Tab.{tab}
 use Rattle.words.specs.Part.{part}
@@ -31,7 +31,7 @@ reads_at s c = reads_of (part s (reads_start c) held_words)
 
 -- reads are held where there is a notice book
 abbrev pub book_of : Option Notices → List machine.ReadReq → Option machine.Book
-book_of o l = if_none o then none else λ b. some (record { bal = b.bal; notices = b.notices; holding = l })
+book_of o l = if_none o then None else λ b. Some (record { bal = b.bal; notices = b.notices; holding = l })
 
 -- reads that no notice book has are no reads
 abbrev pub seen_reads : Option Notices → List machine.ReadReq → List machine.ReadReq
@@ -45,7 +45,7 @@ inst_in s c = inst_of (short_at s c) (batch_at s c) (reads_at s c)
 
 -- the short part of a null slot
 abbrev pub null_short : Short
-null_short = record { bal = 0; status = machine.Null; leader_bk = none; replica_bk = none }
+null_short = record { bal = 0; status = machine.Null; leader_bk = None; replica_bk = None }
 
 -- ---- n slots from start on
 

@@ -14,9 +14,8 @@ ghost use Rattle.insts.specs.Slots.{batch_start, reads_start, short_at, batch_at
 ghost use Rattle.bodega.specs.Grounds.{any, holds};
 
 use ids::{Ballot, Slot};
-use inst_cell::{Cell, LeaderBk, ReplicaBk, Status};
+use inst_cell::{Cell, Status};
 use inst_holding::ReadReq;
-use inst_reqs::Latest;
 use key_words::Key;
 
 // Where the batch and the held reads of place c stand.
@@ -109,7 +108,7 @@ pub fn push_read(s: &mut [u64], c: usize, x: ReadReq)
 }
 
 // The value of the last Put of a key in the batch at place c.
-pub fn last_put(s: &[u64], c: usize, key: Key) -> Latest
+pub fn last_put(s: &[u64], c: usize, key: Key) -> Option<u64>
     requires { (c < slot_places) × (slot_words ≤ length s.now) }
     ensures { value_in result ≡ last_put (bytes_of key) (batch_at s.now c) }
 {
@@ -125,8 +124,8 @@ fn null_slot(s: &mut [u64], c: usize)
 {
     let bal = Ballot(0);
     let status = Status::Null;
-    let leader_bk = LeaderBk::None;
-    let replica_bk = ReplicaBk::None;
+    let leader_bk = None;
+    let replica_bk = None;
     let cell = Cell {
         bal,
         status,

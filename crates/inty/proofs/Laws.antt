@@ -8,7 +8,7 @@ use native.Mathlib.Nat.{le_of_lt, suc-mul, add-mul, mul_comm, mul_assoc, mul-le-
 use native.Mathlib.Omega.{arith}
 use lib.Dec.{ltb, eqb, lit<}
 use lib.Arith.{digits_div, digits_mod, digits_lt}
-use mathlib.Core.Option.{none, some}
+use Rattle.std.specs.Prelude.{None, Some}
 use Rattle.inty.specs.Value.{bounded}
 use borrow.Author.Tests.{lt-ltb, le-ltb, eq-eqb, ne_eqb, ltb-true, ltb-false, eqb-true, eqb-false}
 
@@ -82,32 +82,32 @@ module _ (B : ℕ) where
   ten_over h l d k r e g = omega (arith, tens h k, mul-le-mul_right B g)
 
 -- a number of 128 bits, and one past them
-pub in_bounds : (x y : ℕ) → x ≡ y → y < 2 ^ 128 → some x ≡ bounded y
-in_bounds x y e f = simp (lt-ltb y (2 ^ 128) f) (ap some e)
+pub in_bounds : (x y : ℕ) → x ≡ y → y < 2 ^ 128 → Some x ≡ bounded y
+in_bounds x y e f = simp (lt-ltb y (2 ^ 128) f) (ap Some e)
 
 -- what two halves hold is below 2 ^ 128
 pub below_top : (h l : ℕ) → h < 2 ^ 64 → l < 2 ^ 64 → h * 18446744073709551616 + l < 2 ^ 128
 below_top h l f g = digits_lt {q = h} {m = 18446744073709551616} {r = l} {c = 18446744073709551616} f g
 
-pub past_bounds : (y : ℕ) → 2 ^ 128 ≤ y → none ≡ bounded y
+pub past_bounds : (y : ℕ) → 2 ^ 128 ≤ y → None ≡ bounded y
 past_bounds y f = simp (le-ltb y (2 ^ 128) f)
 
 -- what a bounded number was
-pub was_in : (n v : ℕ) → some n ≡ bounded v → n ≡ v
+pub was_in : (n v : ℕ) → Some n ≡ bounded v → n ≡ v
 was_in n v e = go (ltb v (2 ^ 128)) refl
   where
     go : (t : Bool) → ltb v (2 ^ 128) ≡ t → n ≡ v
-    go true p = let q : some n ≡ some v = e ∙ simp p in cc
-    go false p = let q : some n ≡ none = e ∙ simp p in cc
+    go true p = let q : Some n ≡ Some v = e ∙ simp p in cc
+    go false p = let q : Some n ≡ None = e ∙ simp p in cc
 
-pub was_out : (v : ℕ) → none ≡ bounded v → 2 ^ 128 ≤ v
+pub was_out : (v : ℕ) → None ≡ bounded v → 2 ^ 128 ≤ v
 was_out v e = go (ltb v (2 ^ 128)) refl
   where
     zero_one : ◌≡◌ {A = ℕ} 0 1 → ⊥
     zero_one e = omega arith
 
     go : (t : Bool) → ltb v (2 ^ 128) ≡ t → 2 ^ 128 ≤ v
-    go true p = let q : some v ≡ none = sym (e ∙ simp p) in let z : ◌≡◌ {A = ℕ} 0 1 = cc in absurd (zero_one z)
+    go true p = let q : Some v ≡ None = sym (e ∙ simp p) in let z : ◌≡◌ {A = ℕ} 0 1 = cc in absurd (zero_one z)
     go false p = ltb-false v (2 ^ 128) p
 
 -- a number of the lower half alone
@@ -197,30 +197,30 @@ module _ (h l d : ℕ) (f : l < 2 ^ 64) (g : d < 256) where
   pub carry_fits : carry l d ≤ 18446744073709551615
   carry_fits = omega (arith, carry_small l d f g)
 
-  pub ten_past : (18446744073709551615 - carry l d) / 10 < h → none ≡ bounded (10 * (h * 18446744073709551616 + l) + d)
+  pub ten_past : (18446744073709551615 - carry l d) / 10 < h → None ≡ bounded (10 * (h * 18446744073709551616 + l) + d)
   ten_past k = past_bounds _ (ten_over (2 ^ 64) h l d (carry l d) (rest l d) (low_step l d) (upper_over h (carry l d) (carry_small l d f g) k))
 
   module _ (k : h ≤ (18446744073709551615 - carry l d) / 10) where
     pub upper_fits : h * 10 + carry l d < 2 ^ 64
     upper_fits = upper_in h (carry l d) (carry_small l d f g) k
 
-    pub ten_within : some ((h * 10 + carry l d) * 18446744073709551616 + rest l d) ≡ bounded (10 * (h * 18446744073709551616 + l) + d)
+    pub ten_within : Some ((h * 10 + carry l d) * 18446744073709551616 + rest l d) ≡ bounded (10 * (h * 18446744073709551616 + l) + d)
     ten_within = in_bounds _ _ (ten_is (2 ^ 64) h l d (carry l d) (rest l d) (low_step l d)) (ten_below (2 ^ 64) h l d (carry l d) (rest l d) (low_step l d) (rest_fits l d) upper_fits)
 
 -- ---- one more, one less, a tenth of a small number: the halves and the tests as the code has them
 
 module _ (h l : ℕ) where
-  pub succ_low : h < 2 ^ 64 → l < 18446744073709551615 → some (h * 18446744073709551616 + (l + 1)) ≡ bounded (h * 18446744073709551616 + l + 1)
+  pub succ_low : h < 2 ^ 64 → l < 18446744073709551615 → Some (h * 18446744073709551616 + (l + 1)) ≡ bounded (h * 18446744073709551616 + l + 1)
   succ_low f g =
       let e : h * 18446744073709551616 + (l + 1) ≡ h * 18446744073709551616 + l + 1 = omega arith in
       in_bounds _ _ e (rw (← e) (below_top h (l + 1) f (omega arith)))
 
-  pub succ_high : l < 2 ^ 64 → 18446744073709551615 ≤ l → h < 18446744073709551615 → some ((h + 1) * 18446744073709551616 + 0) ≡ bounded (h * 18446744073709551616 + l + 1)
+  pub succ_high : l < 2 ^ 64 → 18446744073709551615 ≤ l → h < 18446744073709551615 → Some ((h + 1) * 18446744073709551616 + 0) ≡ bounded (h * 18446744073709551616 + l + 1)
   succ_high k f g =
       let e : (h + 1) * 18446744073709551616 + 0 ≡ h * 18446744073709551616 + l + 1 = omega arith in
       in_bounds _ _ e (rw (← e) (below_top (h + 1) 0 (omega arith) (omega arith)))
 
-  pub succ_top : 18446744073709551615 ≤ l → 18446744073709551615 ≤ h → none ≡ bounded (h * 18446744073709551616 + l + 1)
+  pub succ_top : 18446744073709551615 ≤ l → 18446744073709551615 ≤ h → None ≡ bounded (h * 18446744073709551616 + l + 1)
   succ_top f g = past_bounds _ (top_over (2 ^ 64) h l (omega arith) (omega arith))
 
   pub pred_low : 0 < l → h * 18446744073709551616 + (l - 1) ≡ h * 18446744073709551616 + l - 1

@@ -10,13 +10,6 @@ pub struct Inty {
     pub lo: u64,
 }
 
-// What two halves hold, or more than that.
-#[derive(Clone, Copy)]
-pub enum Checked {
-    Number(Inty),
-    Overflow,
-}
-
 #[derive(Clone, Copy)]
 pub struct Tenth {
     pub quotient: Inty,
@@ -54,22 +47,22 @@ pub fn is_zero(a: Inty) -> bool
 }
 
 // `checked_add(1)`.
-pub fn succ(a: Inty) -> Checked
+pub fn succ(a: Inty) -> Option<Inty>
     ensures { checked result ≡ bounded (value_of a + 1) }
 {
     if a.lo < 0xffff_ffff_ffff_ffff {
-        return Checked::Number(Inty {
+        return Some(Inty {
             hi: a.hi,
             lo: a.lo + 1,
         });
     }
     if a.hi < 0xffff_ffff_ffff_ffff {
-        return Checked::Number(Inty {
+        return Some(Inty {
             hi: a.hi + 1,
             lo: 0,
         });
     }
-    Checked::Overflow
+    None
 }
 
 // `saturating_sub(1)`.
@@ -102,18 +95,18 @@ pub fn is_next(a: Inty, b: Inty) -> bool
 }
 
 // 10 * x + d.
-pub fn ten_step(x: Inty, d: u8) -> Checked
+pub fn ten_step(x: Inty, d: u8) -> Option<Inty>
     ensures { checked result ≡ bounded (10 * value_of x + d) }
 {
     let low = (x.lo % 0x1_0000_0000) * 10 + d as u64;
     let mid = (x.lo / 0x1_0000_0000) * 10 + low / 0x1_0000_0000;
     let carry = mid / 0x1_0000_0000;
     if x.hi > (0xffff_ffff_ffff_ffff - carry) / 10 {
-        return Checked::Overflow;
+        return None;
     }
     let hi = x.hi * 10 + carry;
     let lo = (mid % 0x1_0000_0000) * 0x1_0000_0000 + low % 0x1_0000_0000;
-    Checked::Number(Inty { hi, lo })
+    Some(Inty { hi, lo })
 }
 
 pub fn div_ten(x: Inty) -> Tenth

@@ -4,7 +4,7 @@ use mathlib.Core.Path.{◌≡◌, refl, sym, ap, ◌∙◌}
 use mathlib.Core.Bool.{Bool, true, false, and-true, true≢false}
 use mathlib.Core.Logic.{◌⊎◌, inl, inr, ◌≢◌}
 use mathlib.Core.List.{List, [], ◌∷◌, ◌++◌}
-use mathlib.Core.Option.{Option, none, some}
+use Rattle.std.specs.Prelude.{Option, None, Some}
 use Prim.Native.Nat.{ℕ, zero, suc, ◌+◌, ◌*◌, ◌/◌, ◌^◌, ◌≤◌, ◌<◌}
 use native.Mathlib.Nat.{mod-eq_of_lt, mod-lt, zero-lt-suc, zero-add, not-suc-le-zero}
 use native.Mathlib.Decide.{dec_lt}
@@ -22,9 +22,9 @@ use Rattle.inty.specs.Value.{value_of}
 use Rattle.inty.specs.declared.Inty.{Inty}
 use Rattle.items.specs.declared.Item as declared
 use Rattle.items.specs.declared.Six.{Six}
-use Rattle.items.specs.declared.Got.{Got}
 use Rattle.items.specs.Item.{Item, Value, Absent, Store, Pass, Hold, Retry, Resend, Commit, Lead, Prelog, Prepare, Span, Rest, Fits, six, item_of, item_words, encode, places, length_item, length_encode, encode_snoc}
 use Rattle.items.specs.Area.{Put, put_item, item_at, got_of, six_of, same_words, named, decode}
+use Rattle.items.specs.declared.Item.{Item}
 
 -- ---- the exits
 
@@ -46,19 +46,19 @@ same_last x y f g h i j =
     sym (rw (eq-eqb _ _ f, eq-eqb _ _ g, eq-eqb _ _ h, eq-eqb _ _ i, eq-eqb _ _ j) (and-true (eqb x.5 y.5)))
 
 module _ (w s : Six) (i : declared.Item) (t : Bool) (n : item_of i ≡ named w.0 w.1 w.2 w.3 w.4 w.5) (k : six_of s ≡ item_words (item_of i)) (q : t ≡ same_words (six_of s) (six_of w)) where
-  pub decoded_yes : t ≡ true → some (item_of i) ≡ decode (six_of w)
+  pub decoded_yes : t ≡ true → Some (item_of i) ≡ decode (six_of w)
   unfolding decode
   decoded_yes e = sym (rw (← n, ← k, ← q, e))
 
-  pub decoded_no : t ≡ false → none ≡ decode (six_of w)
+  pub decoded_no : t ≡ false → None ≡ decode (six_of w)
   unfolding decode
   decoded_no e = sym (rw (← n, ← k, ← q, e))
 
-pub at_none : (area : List ℕ) (place : ℕ) → length area / 6 ≤ place → none ≡ item_at area place
+pub at_none : (area : List ℕ) (place : ℕ) → length area / 6 ≤ place → None ≡ item_at area place
 unfolding item_at
 at_none area place h = sym (rw (le-ltb place (length area / 6) h))
 
-pub at_some : (area : List ℕ) (place : ℕ) (s : Six) (g : Got) → place < length area / 6 → six_of s ≡ words_from 6 area (place * 6)
+pub at_some : (area : List ℕ) (place : ℕ) (s : Six) (g : Option Item) → place < length area / 6 → six_of s ≡ words_from 6 area (place * 6)
     → got_of g ≡ decode (six_of s) → got_of g ≡ item_at area place
 unfolding item_at
 at_some area place s g h e f = f ∙ rw (lt-ltb place (length area / 6) h) (ap decode e)
@@ -101,8 +101,8 @@ named_words (Absent c r) h = refl
 named_words (Store c r) h = refl
 named_words (Pass c r) h = refl
 named_words (Hold c r s) h = refl
-named_words (Retry c r none) h = refl
-named_words (Retry c r (some l)) h = rw (mod-eq_of_lt h)
+named_words (Retry c r None) h = refl
+named_words (Retry c r (Some l)) h = rw (mod-eq_of_lt h)
 named_words (Resend s p) h = rw (mod-eq_of_lt h)
 named_words (Commit s) h = refl
 named_words (Lead true) h = refl
@@ -112,7 +112,7 @@ named_words (Prepare s b) h = refl
 named_words (Span f t m) h = rw (split f 64, split t 64)
 named_words (Rest m) h = refl
 
-pub decode_words : (x : Item) → Fits x → decode (item_words x) ≡ some x
+pub decode_words : (x : Item) → Fits x → decode (item_words x) ≡ Some x
 unfolding decode
 decode_words x h = rw (named_words x h, same_refl (item_words x))
 
@@ -138,11 +138,11 @@ named_fits k a b c d e =
     tt)))))))))))
 
 -- what is decoded has those words
-pub decode_sound : (ws : List ℕ) (x : Item) → decode ws ≡ some x → (item_words x ≡ ws) × Fits x
+pub decode_sound : (ws : List ℕ) (x : Item) → decode ws ≡ Some x → (item_words x ≡ ws) × Fits x
 unfolding decode
 decode_sound ws x e = go (same_words (item_words (named_in ws)) ws) refl e
   where
-    go : (t : Bool) → same_words (item_words (named_in ws)) ws ≡ t → (if t then some (named_in ws) else none) ≡ some x → (item_words x ≡ ws) × Fits x
+    go : (t : Bool) → same_words (item_words (named_in ws)) ws ≡ t → (if t then Some (named_in ws) else None) ≡ Some x → (item_words x ≡ ws) × Fits x
     go true s e =
         let q : named_in ws ≡ x = cc in (
           rw (← q) (same_eq (item_words (named_in ws)) ws s),
@@ -154,7 +154,7 @@ decode_sound ws x e = go (same_words (item_words (named_in ws)) ws) refl e
 pub words_injective : (x y : Item) → Fits x → Fits y → item_words x ≡ item_words y → x ≡ y
 words_injective x y f g e = some_inj x y (sym (decode_words x f) ∙ ap decode e ∙ decode_words y g)
   where
-    some_inj : (x y : Item) → some x ≡ some y → x ≡ y
+    some_inj : (x y : Item) → Some x ≡ Some y → x ≡ y
     some_inj x y e = cc
 
 -- ---- places
@@ -163,18 +163,18 @@ place_room : (n place : ℕ) → place < n / 6 → place * 6 + 6 ≤ n
 place_room n place h = omega arith
 
 -- an item stands at a place exactly if there is such a place, and its words are there
-pub at_words : (area : List ℕ) (place : ℕ) (x : Item) → item_at area place ≡ some x
+pub at_words : (area : List ℕ) (place : ℕ) (x : Item) → item_at area place ≡ Some x
     → (place < places area) × (words_from 6 area (place * 6) ≡ item_words x) × Fits x
 unfolding item_at
 at_words area place x e = go (ltb place (places area)) refl e
   where
-    go : (t : Bool) → ltb place (places area) ≡ t → (if t then decode (words_from 6 area (place * 6)) else none) ≡ some x
+    go : (t : Bool) → ltb place (places area) ≡ t → (if t then decode (words_from 6 area (place * 6)) else None) ≡ Some x
         → (place < places area) × (words_from 6 area (place * 6) ≡ item_words x) × Fits x
     go true l e = let s = decode_sound (words_from 6 area (place * 6)) x e in (ltb-true place (places area) l, sym s.0, s.1)
     go false l e = let z : ◌≡◌ {A = ℕ} 0 1 = cc in absurd (omega arith)
 
 pub words_at : (area : List ℕ) (place : ℕ) (x : Item) → place < places area → words_from 6 area (place * 6) ≡ item_words x → Fits x
-    → item_at area place ≡ some x
+    → item_at area place ≡ Some x
 unfolding item_at
 words_at area place x h e f = rw (lt-ltb place (places area) h) (ap decode e ∙ decode_words x f)
 
@@ -204,7 +204,7 @@ put_length area place x = elim (dec_lt place (places area)) [
 ]
 
 -- the item is read back
-pub get_put : (area : List ℕ) (place : ℕ) (x : Item) → place < places area → Fits x → item_at (put_item area place x).area place ≡ some x
+pub get_put : (area : List ℕ) (place : ℕ) (x : Item) → place < places area → Fits x → item_at (put_item area place x).area place ≡ Some x
 get_put area place x h f =
     let l : place * 6 + length (item_words x) ≤ length area = rw (length_item x) (place_room (length area) place h) in
     let r : words_from 6 (writes area (place * 6) (item_words x)) (place * 6) ≡ item_words x = rw (length_item x) at (run_writes area (place * 6) (item_words x) l) in
@@ -249,7 +249,7 @@ encode_run (x ∷ xs) (suc i) d h =
 
 -- each is read back
 pub get_encoded : (area : List ℕ) (xs : List Item) (i : ℕ) (d : Item) → length xs ≤ places area → i < length xs → Fits (get_or xs i d)
-    → item_at (writes area 0 (encode xs)) i ≡ some (get_or xs i d)
+    → item_at (writes area 0 (encode xs)) i ≡ Some (get_or xs i d)
 get_encoded area xs i d l h f =
     let ws : List ℕ = encode xs in
     let m : length ws ≡ length xs * 6 = length_encode xs in

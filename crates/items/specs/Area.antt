@@ -1,20 +1,19 @@
 -- Trusted: a lent answer area, and what putting an item at a place of it and reading it there leave.
 use Rattle.std.specs.Prelude.{Bool, true, false, ◌&&◌, List, [], ◌∷◌, ℕ, ◌+◌, ◌*◌, ◌%◌, ◌^◌, eqb, ltb, get_or, if◌then◌else◌}
-use Rattle.std.proofs.Math.Option.{Option, none, some}
+use Rattle.std.specs.Prelude.{Option, None, Some}
 use Rattle.words.specs.Tab.{words_from}
 use Rattle.words.specs.Writes.{writes}
 use Rattle.items.specs.Item.{Item, Value, Absent, Store, Pass, Hold, Retry, Resend, Commit, Lead, Prelog, Prepare, Span, Rest, item_of, item_words, six, places}
 use Rattle.items.specs.declared.Six.{Six}
-use Rattle.items.specs.declared.Got.{Got}
-use Rattle.items.specs.declared.Got.TheVariants as got
+use Rattle.items.specs.declared.Item.{Item}
 
 -- the code's six words, and its answer
 abbrev pub six_of : Six → List ℕ
 six_of s = six s.0 s.1 s.2 s.3 s.4 s.5
 
-abbrev pub got_of : Got → Option Item
-got_of (got.Item x) = some (item_of x)
-got_of got.Nothing = none
+abbrev pub got_of : Option Item → Option Item
+got_of (Some x) = Some (item_of x)
+got_of None = None
 
 -- the answer, and the area after it
 pub record Put : Type 0 where
@@ -34,7 +33,7 @@ named k a b c d e =
     else if eqb k 3 then Store a b
     else if eqb k 4 then Pass a b
     else if eqb k 5 then Hold a b c
-    else if eqb k 6 then Retry a b (if eqb c 0 then none else some (d % 256))
+    else if eqb k 6 then Retry a b (if eqb c 0 then None else Some (d % 256))
     else if eqb k 7 then Resend a (b % 256)
     else if eqb k 8 then Commit a
     else if eqb k 9 then Lead (eqb a 1)
@@ -54,8 +53,8 @@ same_words (x ∷ xs) (y ∷ ys) = eqb x y && same_words xs ys
 unfoldable pub decode : List ℕ → Option Item
 decode ws =
     let x = named (get_or ws 0 0) (get_or ws 1 0) (get_or ws 2 0) (get_or ws 3 0) (get_or ws 4 0) (get_or ws 5 0) in
-    if same_words (item_words x) ws then some x else none
+    if same_words (item_words x) ws then Some x else None
 
 -- what stands at a place: nothing where there is no such place, or its words are no item's
 unfoldable pub item_at : List ℕ → ℕ → Option Item
-item_at area place = if ltb place (places area) then decode (words_from 6 area (place * 6)) else none
+item_at area place = if ltb place (places area) then decode (words_from 6 area (place * 6)) else None

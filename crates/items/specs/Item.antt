@@ -1,7 +1,7 @@
 -- Trusted: document 01, "The event program": the items that a call sends, and each in six words, its kind first.
 use Rattle.std.specs.Prelude.{◌≡◌, refl, Bool, List, [], ◌∷◌, ◌++◌, ℕ, ◌*◌, ◌/◌, ◌%◌, ◌^◌, ◌<◌, length, if◌then◌else◌}
 use Rattle.std.proofs.Common.{sym, ap, ◌∙◌, append_assoc, arith, length-append}
-use Rattle.std.proofs.Math.Option.{Option, none, some}
+use Rattle.std.specs.Prelude.{Option, None, Some}
 use Rattle.ids.specs.Leader.{leader_of}
 use Rattle.inty.specs.Value.{value_of}
 use Rattle.items.specs.declared.Item as declared
@@ -53,8 +53,8 @@ abbrev pub six : ℕ → ℕ → ℕ → ℕ → ℕ → ℕ → List ℕ
 six k a b c d e = k ∷ a ∷ b ∷ c ∷ d ∷ e ∷ []
 
 abbrev pub leader_words : ℕ → ℕ → Option ℕ → List ℕ
-leader_words c r none = six 6 c r 0 0 0
-leader_words c r (some l) = six 6 c r 1 l 0
+leader_words c r None = six 6 c r 0 0 0
+leader_words c r (Some l) = six 6 c r 1 l 0
 
 -- an item in six words; a number of 128 bits is two of them
 abbrev pub item_words : Item → List ℕ
@@ -79,8 +79,8 @@ Fits (Absent c r) = Unit
 Fits (Store c r) = Unit
 Fits (Pass c r) = Unit
 Fits (Hold c r s) = Unit
-Fits (Retry c r none) = Unit
-Fits (Retry c r (some l)) = l < 256
+Fits (Retry c r None) = Unit
+Fits (Retry c r (Some l)) = l < 256
 Fits (Resend s p) = p < 256
 Fits (Commit s) = Unit
 Fits (Lead b) = Unit
@@ -104,8 +104,8 @@ length_item (Absent c r) = refl
 length_item (Store c r) = refl
 length_item (Pass c r) = refl
 length_item (Hold c r s) = refl
-length_item (Retry c r none) = refl
-length_item (Retry c r (some l)) = refl
+length_item (Retry c r None) = refl
+length_item (Retry c r (Some l)) = refl
 length_item (Resend s p) = refl
 length_item (Commit s) = refl
 length_item (Lead b) = refl

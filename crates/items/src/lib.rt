@@ -7,7 +7,7 @@ ghost use Rattle.items.specs.Area.{Put, put_item, item_at, got_of, six_of, same_
 ghost use Rattle.words.specs.Tab.{words_from};
 ghost use Rattle.words.specs.Writes.{writes};
 
-use ids::{Ballot, Leader, Replica, Slot};
+use ids::{Ballot, Replica, Slot};
 use inty::Inty;
 
 #[derive(Clone, Copy)]
@@ -37,7 +37,7 @@ pub enum Item {
     Retry {
         client: u64,
         request: u64,
-        leader: Leader,
+        leader: Option<Replica>,
     },
     Resend {
         slot: Slot,
@@ -56,12 +56,6 @@ pub enum Item {
         mask: u64,
     },
     Rest(u64),
-}
-
-#[derive(Clone, Copy)]
-pub enum Got {
-    Item(Item),
-    Nothing,
 }
 
 // The words of one place.
@@ -90,10 +84,10 @@ fn words_of(item: Item) -> Six
             request,
             leader,
         } => match leader {
-            Leader::None => Six(6, client, request, 0, 0, 0),
-            Leader::Some(id) => Six(6, client, request, 1, words::wide(id.0), 0),
+            None => Six(6, client, request, 0, 0, 0),
+            Some(id) => Six(6, client, request, 1, u64::from(id.0), 0),
         },
-        Item::Resend { slot, peer } => Six(7, slot.0, words::wide(peer.0), 0, 0, 0),
+        Item::Resend { slot, peer } => Six(7, slot.0, u64::from(peer.0), 0, 0, 0),
         Item::Commit(slot) => Six(8, slot.0, 0, 0, 0, 0),
         Item::Lead(leads) => if leads {
             Six(9, 1, 0, 0, 0, 0)
@@ -145,7 +139,7 @@ fn item_named(w: Six) -> Item
             }
         }
         6 => if w.3 == 0 {
-            let leader = Leader::None;
+            let leader = None;
             Item::Retry {
                 client: w.1,
                 request: w.2,
@@ -153,7 +147,7 @@ fn item_named(w: Six) -> Item
             }
         } else {
             let id = Replica(byte(w.4));
-            let leader = Leader::Some(id);
+            let leader = Some(id);
             Item::Retry {
                 client: w.1,
                 request: w.2,
@@ -213,14 +207,14 @@ fn same_words(x: Six, y: Six) -> bool
     x.5 == y.5
 }
 
-fn decoded(w: Six) -> Got
+fn decoded(w: Six) -> Option<Item>
     ensures { got_of result ≡ decode (six_of w) }
 {
     let item = item_named(w);
     if same_words(words_of(item), w) {
-        return Got::Item(item);
+        return Some(item);
     }
-    Got::Nothing
+    None
 }
 
 fn store(area: &mut [u64], place: usize, w: Six)
@@ -266,11 +260,11 @@ pub fn put_item(area: &mut [u64], place: usize, item: Item) -> bool
 }
 
 // Nothing where the area has no such place, or its words are no item's.
-pub fn get_item(area: &[u64], place: usize) -> Got
+pub fn get_item(area: &[u64], place: usize) -> Option<Item>
     ensures { got_of result ≡ item_at area.now place }
 {
     if place >= area.len() / 6 {
-        return Got::Nothing;
+        return None;
     }
     decoded(load(area, place))
 }

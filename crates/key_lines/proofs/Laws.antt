@@ -2,7 +2,7 @@
 use mathlib.Core.Path.{◌≡◌, sym, ap, ◌∙◌}
 use mathlib.Core.Bool.{Bool, true, false}
 use mathlib.Core.List.{List, [], ◌∷◌}
-use mathlib.Core.Option.{Option, none}
+use Rattle.std.specs.Prelude.{Option, None}
 use Prim.Native.Nat.{ℕ, suc, ◌+◌, ◌-◌, ◌*◌, ◌^◌, ◌≤◌, ◌<◌}
 use native.Mathlib.Nat.{add-zero, zero-add}
 use native.Mathlib.Omega.{arith}
@@ -14,27 +14,24 @@ use borrow.Author.Tests.{lt-ltb, le-ltb}
 use Rattle.words.specs.Writes.{writes, writes_snoc}
 use Rattle.decimal.specs.Digits.{decimal}
 use Rattle.decimal.specs.Placed.{placed}
-use Rattle.decimal.specs.declared.Written.{Written}
-use Rattle.decimal.specs.declared.Written.TheVariants.{End, Short}
 use Rattle.decimal.proofs.Laws.{has_room}
 use Rattle.inty.specs.Value.{value_of}
 use Rattle.inty.specs.declared.Inty.{Inty}
 use Rattle.keys.specs.Shown.{shown}
 use Rattle.keys.specs.Read.{read_key}
-use Rattle.keys.specs.declared.KeyRead.{KeyRead}
-use Rattle.keys.specs.declared.KeyRead.TheVariants.{Number, Unread}
 use Rattle.key_lines.proofs.Short.{answer_short}
 use Rattle.stream_pieces.specs.Pieces.{none_begun, before}
 use Rattle.stream_pieces.specs.Streamed.{prepend, streamed, last_line, OutputAfter, output_after}
 use Rattle.stream_pieces.proofs.Laws.{line_none, line_below, runs_line, runs_none, done_append}
 use Rattle.key_lines.specs.Lines.{text_of, answer_of, line_read, answer, line_output}
+use Rattle.std.specs.Prelude.{Some}
 
 -- ---- a number or `-`
-module _ (s : List ℕ) (at : ℕ) (r : KeyRead) where
-  module _ (e : r ≡ Unread) where
+module _ (s : List ℕ) (at : ℕ) (r : Option Inty) where
+  module _ (e : r ≡ None) where
     is_dash : text_of (shown r) ≡ 45 ∷ []
     unfolding text_of
-    is_dash = ap (λ (k : KeyRead). text_of (shown k)) e
+    is_dash = ap (λ (k : Option Inty). text_of (shown k)) e
 
     pub dash_end : at + 1 ≡ at + length (text_of (shown r))
     dash_end = rw is_dash
@@ -45,31 +42,31 @@ module _ (s : List ℕ) (at : ℕ) (r : KeyRead) where
     pub dash_put : set s at 45 ≡ writes s at (text_of (shown r))
     dash_put = rw is_dash
 
-  module _ (x : Inty) (w : Written) (l : List ℕ) (e : r ≡ Number x) (h : at + length (text_of (shown r)) ≤ length s)
+  module _ (x : Inty) (w : Option ℕ) (l : List ℕ) (e : r ≡ Some x) (h : at + length (text_of (shown r)) ≤ length s)
       (p : record { answer = w; bytes = l } ≡ placed s at (decimal (value_of x))) where
     is_number_lem : text_of (shown r) ≡ decimal (value_of x)
     unfolding text_of
-    is_number_lem = ap (λ (k : KeyRead). text_of (shown k)) e
+    is_number_lem = ap (λ (k : Option Inty). text_of (shown k)) e
 
-    wrote : (w ≡ End (at + length (decimal (value_of x)))) × (l ≡ writes s at (decimal (value_of x)))
+    wrote : (w ≡ Some (at + length (decimal (value_of x)))) × (l ≡ writes s at (decimal (value_of x)))
     wrote = has_room s at (decimal (value_of x)) w l (rw is_number_lem at h) p
 
-    pub number_end : (n : ℕ) → w ≡ End n → n ≡ at + length (text_of (shown r))
+    pub number_end : (n : ℕ) → w ≡ Some n → n ≡ at + length (text_of (shown r))
     number_end n q = rw is_number_lem (let f = wrote.0 in cc)
 
-    pub number_put : (n : ℕ) → w ≡ End n → l ≡ writes s at (text_of (shown r))
+    pub number_put : (n : ℕ) → w ≡ Some n → l ≡ writes s at (text_of (shown r))
     number_put n q = rw is_number_lem wrote.1
 
-    never : w ≡ Short → ⊥
+    never : w ≡ None → ⊥
     never q = let f = wrote.0 in let z : ◌≡◌ {A = ℕ} 0 1 = cc in zero_one z
       where
         zero_one : ◌≡◌ {A = ℕ} 0 1 → ⊥
         zero_one e = omega arith
 
-    pub short_end : w ≡ Short → at ≡ at + length (text_of (shown r))
+    pub short_end : w ≡ None → at ≡ at + length (text_of (shown r))
     short_end q = absurd (never q)
 
-    pub short_put : w ≡ Short → l ≡ writes s at (text_of (shown r))
+    pub short_put : w ≡ None → l ≡ writes s at (text_of (shown r))
     short_put q = absurd (never q)
 
 -- ---- and the newline
@@ -97,11 +94,11 @@ module _ (s : List ℕ) (at : ℕ) (o : Option ℕ) where
 
 -- ---- what a line reads as
 module _ (long : Bool) (line : List ℕ) where
-  pub read_long : long ≡ true → none ≡ line_read long line
+  pub read_long : long ≡ true → None ≡ line_read long line
   unfolding line_read
   read_long e = rw e
 
-  pub read_over : long ≡ false → 1024 < length line → none ≡ line_read long line
+  pub read_over : long ≡ false → 1024 < length line → None ≡ line_read long line
   unfolding line_read
   read_over e h = rw (e, lt-ltb 1024 (length line) h)
 

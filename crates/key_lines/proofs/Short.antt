@@ -3,7 +3,7 @@
 use mathlib.Core.Path.{◌≡◌, refl, sym, ap, ◌∙◌}
 use mathlib.Core.Bool.{Bool, true, false, ◌||◌}
 use mathlib.Core.List.{List, [], ◌∷◌}
-use mathlib.Core.Option.{Option, none, some}
+use Rattle.std.specs.Prelude.{Option, None, Some}
 use Prim.Native.Nat.{ℕ, suc, ◌+◌, ◌-◌, ◌*◌, ◌^◌, ◌≤◌, ◌<◌}
 use native.Mathlib.Nat.{lt_of_lt_of_le, mul-le-mul_right, mul_assoc, mul_comm, one-mul, mul-one, pow-suc}
 use native.Mathlib.Omega.{arith}
@@ -18,22 +18,22 @@ use Rattle.stream_pieces.specs.Pieces.{Begun}
 use Rattle.key_lines.specs.Lines.{text_of, answer_of, line_read, answer}
 
 -- digits after those that made a
-number_below : (a : ℕ) (s : List ℕ) (v : ℕ) → number a s ≡ some v → v < (a + 1) * 10 ^ length s
+number_below : (a : ℕ) (s : List ℕ) (v : ℕ) → number a s ≡ Some v → v < (a + 1) * 10 ^ length s
 number_below a [] v e = let q : a ≡ v = cc in rw mul-one (omega arith)
 number_below a (c ∷ s) v e = go (is_digit c) refl (number_below (10 * a + (c - 48)) s v)
   where
     ten : (a d : ℕ) → d ≤ 9 → 10 * a + d + 1 ≤ (a + 1) * 10
     ten a d h = omega arith
 
-    go : (t : Bool) → is_digit c ≡ t → (number (10 * a + (c - 48)) s ≡ some v → v < (10 * a + (c - 48) + 1) * 10 ^ length s) → v < (a + 1) * 10 ^ suc (length s)
+    go : (t : Bool) → is_digit c ≡ t → (number (10 * a + (c - 48)) s ≡ Some v → v < (10 * a + (c - 48) + 1) * 10 ^ length s) → v < (a + 1) * 10 ^ suc (length s)
     go true p ih =
         let d : c ≤ 57 = digit_to c true (sym p) refl in
         let m : (10 * a + (c - 48) + 1) * 10 ^ length s ≤ (a + 1) * 10 * 10 ^ length s = mul-le-mul_right (10 ^ length s) (ten a (c - 48) (omega arith)) in
         let w : (a + 1) * 10 * 10 ^ length s ≡ (a + 1) * 10 ^ suc (length s) = mul_assoc (a + 1) 10 (10 ^ length s) ∙ ap (λ (k : ℕ). (a + 1) * k) (mul_comm 10 (10 ^ length s) ∙ sym (pow-suc 10 (length s))) in
         rw (← w) (lt_of_lt_of_le (ih (simp p at e)) m)
-    go false p ih = let q : none ≡ some v = simp p at e in absurd (let z : ◌≡◌ {A = ℕ} 0 1 = cc in omega arith)
+    go false p ih = let q : None ≡ Some v = simp p at e in absurd (let z : ◌≡◌ {A = ℕ} 0 1 = cc in omega arith)
 
-digits_short : (s : List ℕ) (v : ℕ) → digits s ≡ some v → length (decimal v) ≤ length s
+digits_short : (s : List ℕ) (v : ℕ) → digits s ≡ Some v → length (decimal v) ≤ length s
 digits_short [] v e = absurd (let z : ◌≡◌ {A = ℕ} 0 1 = cc in omega arith)
 digits_short (c ∷ s) v e = short (length s) v (rw one-mul at (number_below 0 (c ∷ s) v e))
 
@@ -55,8 +55,8 @@ sign_short (c ∷ s) = go (eqb c 43) refl
 
 text_short : (line : List ℕ) (o : Option ℕ) → o ≡ digits (sign (strip line)) → length (text_of (overflow o)) ≤ suc (length line)
 unfolding text_of
-text_short line none e = omega arith
-text_short line (some v) e = go (ltb v (2 ^ 128)) refl
+text_short line None e = omega arith
+text_short line (Some v) e = go (ltb v (2 ^ 128)) refl
   where
     go : (t : Bool) → ltb v (2 ^ 128) ≡ t → length (text_of (bounded v)) ≤ suc (length line)
     go true p = simp p (omega (arith, digits_short (sign (strip line)) v (sym e), sign_short (strip line), strip_short line))

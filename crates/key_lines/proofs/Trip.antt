@@ -2,7 +2,7 @@
 use mathlib.Core.Path.{◌≡◌, refl, sym, ap, ◌∙◌}
 use mathlib.Core.Bool.{Bool, true, false}
 use mathlib.Core.List.{List, [], ◌∷◌, ◌++◌}
-use mathlib.Core.Option.{none, some}
+use Rattle.std.specs.Prelude.{None, Some}
 use Prim.Native.Nat.{ℕ, zero, suc, ◌+◌, ◌-◌, ◌*◌, ◌/◌, ◌%◌, ◌^◌, ◌≤◌, ◌<◌}
 use native.Mathlib.Nat.{le_refl}
 use native.Mathlib.Omega.{arith}
@@ -19,36 +19,36 @@ digit_is d h =
     simp (le-leb 48 (48 + d) f, le-leb (48 + d) 57 g)
 
 -- one digit more
-number_snoc : (a : ℕ) (s : List ℕ) (n d : ℕ) → number a s ≡ some n → d < 10 → number a (s ++ ((48 + d) ∷ [])) ≡ some (10 * n + d)
+number_snoc : (a : ℕ) (s : List ℕ) (n d : ℕ) → number a s ≡ Some n → d < 10 → number a (s ++ ((48 + d) ∷ [])) ≡ Some (10 * n + d)
 number_snoc a [] n d e h =
     let v : a ≡ n = cc in
     let w : 48 + d - 48 ≡ d = omega arith in
     simp (digit_is d h, w, v)
 number_snoc a (c ∷ s) n d e h = go (is_digit c) refl (number_snoc (10 * a + (c - 48)) s n d)
   where
-    go : (t : Bool) → is_digit c ≡ t → (number (10 * a + (c - 48)) s ≡ some n → d < 10 → number (10 * a + (c - 48)) (s ++ ((48 + d) ∷ [])) ≡ some (10 * n + d))
-        → number a (c ∷ (s ++ ((48 + d) ∷ []))) ≡ some (10 * n + d)
+    go : (t : Bool) → is_digit c ≡ t → (number (10 * a + (c - 48)) s ≡ Some n → d < 10 → number (10 * a + (c - 48)) (s ++ ((48 + d) ∷ [])) ≡ Some (10 * n + d))
+        → number a (c ∷ (s ++ ((48 + d) ∷ []))) ≡ Some (10 * n + d)
     go true p ih = simp p (ih (simp p at e) h)
-    go false p ih = let q : none ≡ some n = simp p at e in cc
+    go false p ih = let q : None ≡ Some n = simp p at e in cc
 
-number_is : (f n : ℕ) → n < f → number 0 (decimal n) ≡ some n
+number_is : (f n : ℕ) → n < f → number 0 (decimal n) ≡ Some n
 number_is zero n h = absurd (omega arith)
 number_is (suc f) n h = go (λ p. number_is f (n / 10) p) (n / 10) refl
   where
-    go : (n / 10 < f → number 0 (decimal (n / 10)) ≡ some (n / 10)) → (q : ℕ) → n / 10 ≡ q → number 0 (decimal n) ≡ some n
+    go : (n / 10 < f → number 0 (decimal (n / 10)) ≡ Some (n / 10)) → (q : ℕ) → n / 10 ≡ q → number 0 (decimal n) ≡ Some n
     go ih zero e =
         let v : 10 * 0 + n % 10 ≡ n = omega arith in
-        ap (number 0) (one_digit n e) ∙ (number_snoc 0 [] 0 (n % 10) refl (omega arith) ∙ ap some v)
+        ap (number 0) (one_digit n e) ∙ (number_snoc 0 [] 0 (n % 10) refl (omega arith) ∙ ap Some v)
     go ih (suc q) e =
         let v : 10 * (n / 10) + n % 10 ≡ n = omega arith in
-        ap (number 0) (more_digits n (λ z. omega (arith, e))) ∙ (number_snoc 0 (decimal (n / 10)) (n / 10) (n % 10) (ih (omega (arith, e))) (omega arith) ∙ ap some v)
+        ap (number 0) (more_digits n (λ z. omega (arith, e))) ∙ (number_snoc 0 (decimal (n / 10)) (n / 10) (n % 10) (ih (omega (arith, e))) (omega arith) ∙ ap Some v)
 
 -- digits have nothing to strip and no sign
-plain : (s : List ℕ) (n : ℕ) → number 0 s ≡ some n → (s ≡ [] → ⊥) → digits (sign (strip s)) ≡ some n
+plain : (s : List ℕ) (n : ℕ) → number 0 s ≡ Some n → (s ≡ [] → ⊥) → digits (sign (strip s)) ≡ Some n
 plain [] n e z = absurd (z refl)
 plain (c ∷ s) n e z = go (is_digit c) refl
   where
-    go : (t : Bool) → is_digit c ≡ t → digits (sign (strip (c ∷ s))) ≡ some n
+    go : (t : Bool) → is_digit c ≡ t → digits (sign (strip (c ∷ s))) ≡ Some n
     go true p =
         let f : 48 ≤ c = digit_from c true (sym p) refl in
         let g : c ≤ 57 = digit_to c true (sym p) refl in
@@ -56,7 +56,7 @@ plain (c ∷ s) n e z = go (is_digit c) refl
         let l : c ≡ 75 → ⊥ = λ x. omega arith in
         let m : c ≡ 43 → ⊥ = λ x. omega arith in
         simp (ne_eqb c 107 k, ne_eqb c 75 l, ne_eqb c 43 m) e
-    go false p = let q : none ≡ some n = simp p at e in cc
+    go false p = let q : None ≡ Some n = simp p at e in cc
 
 some_digit : (n : ℕ) → decimal n ≡ [] → ⊥
 some_digit n e = go (n / 10) refl
@@ -69,6 +69,6 @@ some_digit n e = go (n / 10) refl
     go zero p = snoc [] _ (sym (one_digit n p) ∙ e)
     go (suc q) p = snoc (decimal (n / 10)) _ (sym (more_digits n (λ z. omega (arith, p))) ∙ e)
 
-pub read_back : (n : ℕ) → n < 2 ^ 128 → read_key (decimal n) ≡ some n
+pub read_back : (n : ℕ) → n < 2 ^ 128 → read_key (decimal n) ≡ Some n
 unfolding read_key
 read_back n h = rw (plain (decimal n) n (number_is (suc n) n (le_refl (suc n))) (some_digit n)) (simp (lt-ltb n (2 ^ 128) h))

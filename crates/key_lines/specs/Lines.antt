@@ -1,6 +1,6 @@
 -- Trusted: the answer to a line of the key reader.
 use Rattle.std.specs.Prelude.{ℕ, Bool, ◌||◌, List, [], ◌∷◌, ◌++◌, ltb, length, if◌then◌else◌}
-use Rattle.std.proofs.Math.Option.{Option, none}
+use Rattle.std.specs.Prelude.{Option, None}
 use Rattle.words.specs.Choice.{if_none◌then◌else◌}
 use Rattle.decimal.specs.Digits.{decimal}
 use Rattle.keys.specs.Read.{read_key}
@@ -16,7 +16,7 @@ answer_of n = text_of n ++ (10 ∷ [])
 
 -- a line of more than 1,024 bytes does not read
 unfoldable pub line_read : Bool → List ℕ → Option ℕ
-line_read long line = if long || ltb 1024 (length line) then none else read_key line
+line_read long line = if long || ltb 1024 (length line) then None else read_key line
 
 unfoldable pub answer : Begun → List ℕ
 answer b = answer_of (line_read b.long b.line)

@@ -8,8 +8,6 @@ ghost use Rattle.keys.specs.Shown.{shown};
 ghost use Rattle.stream_pieces.specs.Streamed.{streamed, last_line, output_after};
 ghost use Rattle.key_lines.specs.Lines.{text_of, answer_of, line_read, answer, line_output};
 
-use decimal::Written;
-use keys::KeyRead;
 
 // The place in a piece where the line that has begun starts, how much of the output is used, and whether bytes of that
 // line were dropped.
@@ -20,21 +18,21 @@ pub struct Fed {
     pub long: bool,
 }
 
-fn put_text(out: &mut [u8], at: usize, r: KeyRead) -> usize
+fn put_text(out: &mut [u8], at: usize, r: Option<Inty>) -> usize
     requires { at + length (text_of (shown r)) ≤ length out.old }
     ensures { (result ≡ at + length (text_of (shown r))) × (out.new ≡ writes out.old at (text_of (shown r))) }
 {
-    let KeyRead::Number(x) = r else {
+    let Some(x) = r else {
         out[at] = b'-';
         return at + 1;
     };
-    let Written::End(end) = decimal::write(out, at, x) else {
+    let Some(end) = decimal::write(out, at, x) else {
         return at;
     };
     end
 }
 
-fn put_answer(out: &mut [u8], at: usize, r: KeyRead) -> usize
+fn put_answer(out: &mut [u8], at: usize, r: Option<Inty>) -> usize
     requires { at + length (answer_of (shown r)) ≤ length out.old }
     ensures { (result ≡ at + length (answer_of (shown r))) × (out.new ≡ writes out.old at (answer_of (shown r))) }
 {
@@ -43,14 +41,14 @@ fn put_answer(out: &mut [u8], at: usize, r: KeyRead) -> usize
     end + 1
 }
 
-fn read_line(line: &[u8], long: bool) -> KeyRead
+fn read_line(line: &[u8], long: bool) -> Option<Inty>
     ensures { shown result ≡ line_read long line.now }
 {
     if long {
-        return KeyRead::Unread;
+        return None;
     }
     if line.len() > 1024 {
-        return KeyRead::Unread;
+        return None;
     }
     keys::key_to_inty(line)
 }

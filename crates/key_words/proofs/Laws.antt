@@ -4,7 +4,7 @@ use Rattle.std.specs.Prelude.{if◌then◌else◌}
 use mathlib.Core.Path.{◌≡◌, refl, sym, ap, ◌∙◌}
 use mathlib.Core.Bool.{Bool, true, false, and-true}
 use mathlib.Core.List.{List, [], ◌∷◌, ◌++◌}
-use mathlib.Core.Option.{Option, none, some}
+use Rattle.std.specs.Prelude.{Option, None, Some}
 use Prim.Native.Nat.{ℕ, zero, suc, ◌+◌, ◌-◌, ◌*◌, ◌/◌, ◌%◌, ◌^◌, ◌≤◌, ◌<◌, min}
 use native.Mathlib.Nat.{zero-add, one-mul, not-suc-le-zero, div-lt_iff_lt-mul}
 use native.Mathlib.Numerals.{add-one}
@@ -92,10 +92,10 @@ bytes_pack_of k b h =
     let p : is_packed (pack_of k) ≡ true = rw e (same_key_refl (pack_of k)) in
     rw (p, e)
 
-pub pack_key : (k : List ℕ) (r : Key) → length k ≤ 48 → bytes_of r ≡ k → ◌≡◌ {A = Option (List ℕ)} (some (bytes_of r)) (at_most_48 k)
+pub pack_key : (k : List ℕ) (r : Key) → length k ≤ 48 → bytes_of r ≡ k → ◌≡◌ {A = Option (List ℕ)} (Some (bytes_of r)) (at_most_48 k)
 pack_key k r h e = rw (e, le-leb (length k) 48 h)
 
-pub pack_long : (k : List ℕ) → 48 < length k → none ≡ at_most_48 k
+pub pack_long : (k : List ℕ) → 48 < length k → None ≡ at_most_48 k
 pack_long k h = rw (lt-leb (length k) 48 h)
 
 -- ---- keys are compared as their bytes are
@@ -270,7 +270,7 @@ module _ (k : Key) (s t : List ℕ) (fits : 48 ≤ length s) (e : t ≡ writes s
       rw e (front s (all_bytes k) 48 (omega (arith, l)) (omega (arith, l)) ∙ take_all 48 (all_bytes k) (omega (arith, l)))
 
   module _ (u : Bool) (told : u ≡ is_packed k) where
-    pub unpack_yes : u ≡ true → ◌≡◌ {A = Option (List ℕ)} (some (take k.len t)) (at_most_48 (bytes_of k))
+    pub unpack_yes : u ≡ true → ◌≡◌ {A = Option (List ℕ)} (Some (take k.len t)) (at_most_48 (bytes_of k))
     unfolding bytes_of
     unpack_yes q =
         let p : is_packed k ≡ true = sym told ∙ q in
@@ -279,7 +279,7 @@ module _ (k : Key) (s t : List ℕ) (fits : 48 ≤ length s) (e : t ≡ writes s
     pub unpack_few : u ≡ true → k.len ≤ 48
     unpack_few q = packed_few k (sym told ∙ q)
 
-    pub unpack_no : u ≡ false → none ≡ at_most_48 (bytes_of k)
+    pub unpack_no : u ≡ false → None ≡ at_most_48 (bytes_of k)
     unfolding bytes_of
     unpack_no q = rw (sym told ∙ q)
 
@@ -305,29 +305,29 @@ sign_zeroed (c ∷ p) r = go (eqb c 43)
     go true = (p, r, refl)
     go false = (c ∷ p, r, refl)
 
-number_none : (a : ℕ) (p r : List ℕ) → number a (p ++ (0 ∷ r)) ≡ none
+number_none : (a : ℕ) (p r : List ℕ) → number a (p ++ (0 ∷ r)) ≡ None
 number_none a [] r = refl
 number_none a (c ∷ p) r = go (is_digit c) (number_none (10 * a + (c - 48)) p r)
   where
-    go : (t : Bool) → number (10 * a + (c - 48)) (p ++ (0 ∷ r)) ≡ none → (if t then number (10 * a + (c - 48)) (p ++ (0 ∷ r)) else none) ≡ none
+    go : (t : Bool) → number (10 * a + (c - 48)) (p ++ (0 ∷ r)) ≡ None → (if t then number (10 * a + (c - 48)) (p ++ (0 ∷ r)) else None) ≡ None
     go true e = e
     go false e = refl
 
-digits_none : (p r : List ℕ) → digits (p ++ (0 ∷ r)) ≡ none
+digits_none : (p r : List ℕ) → digits (p ++ (0 ∷ r)) ≡ None
 digits_none [] r = refl
 digits_none (c ∷ p) r = number_none 0 (c ∷ p) r
 
-zeroed_unread : (p r : List ℕ) → read_key (p ++ (0 ∷ r)) ≡ none
+zeroed_unread : (p r : List ℕ) → read_key (p ++ (0 ∷ r)) ≡ None
 unfolding read_key
 zeroed_unread p r =
     let w = strip_zeroed p r in
     let v = sign_zeroed w.0 w.1 in
     rw (w.2, v.2, digits_none v.0 v.1)
 
-pub foreign_unread : (k : Key) → none ≡ at_most_48 (bytes_of k) → read_key (bytes_of k) ≡ none
+pub foreign_unread : (k : Key) → None ≡ at_most_48 (bytes_of k) → read_key (bytes_of k) ≡ None
 unfolding bytes_of
 foreign_unread k h = go (is_packed k) h
   where
-    go : (t : Bool) → none ≡ at_most_48 (if t then unpack_of k else words_of k ++ replicate 42 0) → read_key (if t then unpack_of k else words_of k ++ replicate 42 0) ≡ none
-    go true e = let z : ◌≡◌ {A = Option (List ℕ)} none (some (unpack_of k)) = e ∙ rw (le-leb (length (unpack_of k)) 48 (short k)) in cc
+    go : (t : Bool) → None ≡ at_most_48 (if t then unpack_of k else words_of k ++ replicate 42 0) → read_key (if t then unpack_of k else words_of k ++ replicate 42 0) ≡ None
+    go true e = let z : ◌≡◌ {A = Option (List ℕ)} None (Some (unpack_of k)) = e ∙ rw (le-leb (length (unpack_of k)) 48 (short k)) in cc
     go false e = zeroed_unread (words_of k) (replicate 41 0)

@@ -1,16 +1,12 @@
 -- Trusted: the bytes that a key of seven words stands for, on any words. How it is packed is a bridge, tied by
 -- proofs/Laws.
 use Rattle.std.specs.Prelude.{◌≡◌, Bool, List, [], ◌∷◌, ◌++◌, ℕ, zero, suc, ◌+◌, ◌*◌, ◌/◌, ◌%◌, ◌≤◌, min, leb, length, get_or, take, replicate, if◌then◌else◌}
-use Rattle.std.proofs.Math.Option.{Option, none, some}
+use Rattle.std.specs.Prelude.{Option, None, Some}
 use Rattle.words.specs.Tab.{words_from}
 use Rattle.words.specs.Writes.{writes}
 use Rattle.ids.specs.Limits.{key_bytes}
 use Rattle.keys.specs.Same.{same_bytes}
 use Rattle.key_words.specs.declared.Key.{Key}
-use Rattle.key_words.specs.declared.Packed.{Packed}
-use Rattle.key_words.specs.declared.Packed.TheVariants as packed
-use Rattle.key_words.specs.declared.Unpacked.{Unpacked}
-use Rattle.key_words.specs.declared.Unpacked.TheVariants as unpacked
 
 -- ---- words
 
@@ -61,22 +57,22 @@ bytes_of k = if is_packed k then unpack_of k else words_of k ++ replicate 42 0
 -- ---- what the answers say
 
 abbrev pub at_most_48 : List ℕ → Option (List ℕ)
-at_most_48 b = if leb (length b) key_bytes then some b else none
+at_most_48 b = if leb (length b) key_bytes then Some b else None
 
-abbrev pub key_in : Packed → Option (List ℕ)
-key_in (packed.Key k) = some (bytes_of k)
-key_in packed.Long = none
+abbrev pub key_in : Option Key → Option (List ℕ)
+key_in (Some k) = Some (bytes_of k)
+key_in None = None
 
-abbrev pub bytes_in : Unpacked → List ℕ → Option (List ℕ)
-bytes_in (unpacked.Bytes n) t = some (take n t)
-bytes_in unpacked.Foreign t = none
+abbrev pub bytes_in : Option ℕ → List ℕ → Option (List ℕ)
+bytes_in (Some n) t = Some (take n t)
+bytes_in None t = None
 
-abbrev pub size_in : Unpacked → ℕ
-size_in (unpacked.Bytes n) = n
-size_in unpacked.Foreign = 0
+abbrev pub size_in : Option ℕ → ℕ
+size_in (Some n) = n
+size_in None = 0
 
 -- 48 bytes are stored, and the key's own are the first of them
-pub record Unpacks (k : Key) (s t : List ℕ) (r : Unpacked) : Type 0 where
+pub record Unpacks (k : Key) (s t : List ℕ) (r : Option ℕ) : Type 0 where
   pub stored : t ≡ writes s 0 (all_bytes k)
   pub told : bytes_in r t ≡ at_most_48 (bytes_of k)
   pub few : size_in r ≤ 48

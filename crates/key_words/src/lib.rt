@@ -6,7 +6,6 @@ ghost use Rattle.words.specs.Writes.{writes};
 ghost use Rattle.keys.specs.Same.{same_bytes};
 ghost use Rattle.key_words.specs.Key.{key_at, words_of, same_key, pack_of, le_word, le_bytes, bytes_of, key_in, at_most_48, Unpacks, all_bytes, is_packed};
 
-use words::wide;
 
 #[derive(Clone, Copy)]
 pub struct Key {
@@ -17,20 +16,6 @@ pub struct Key {
     pub w3: u64,
     pub w4: u64,
     pub w5: u64,
-}
-
-// The key of some bytes, or that they are more than 48.
-#[derive(Clone, Copy)]
-pub enum Packed {
-    Key(Key),
-    Long,
-}
-
-// How many bytes a key is, or that its words are no bytes'.
-#[derive(Clone, Copy)]
-pub enum Unpacked {
-    Bytes(usize),
-    Foreign,
 }
 
 fn same_words(a: Key, b: Key) -> bool
@@ -108,7 +93,7 @@ pub fn put_key(s: &mut [u64], at: usize, k: Key)
 fn byte_or_0(k: &[u8], i: usize) -> u64
     ensures { (result ≡ get_or k.now i 0) × (result < 256) }
 {
-    if i < k.len() { wide(k[i]) } else { 0 }
+    if i < k.len() { u64::from(k[i]) } else { 0 }
 }
 
 // Eight bytes from `at` on, as a word.
@@ -177,13 +162,13 @@ pub fn pack_short(bytes: &[u8]) -> Key
     key_of(bytes)
 }
 
-pub fn pack(bytes: &[u8]) -> Packed
+pub fn pack(bytes: &[u8]) -> Option<Key>
     ensures { key_in result ≡ at_most_48 bytes.now }
 {
     if keys::KEY_BYTES < bytes.len() {
-        return Packed::Long;
+        return None;
     }
-    Packed::Key(pack_short(bytes))
+    Some(pack_short(bytes))
 }
 
 fn low(x: u64) -> u8
@@ -282,13 +267,13 @@ fn is_packed(k: Key, out: &[u8]) -> bool
 }
 
 // The bytes of a key, at the front of the first 48 of out.
-pub fn unpack(k: Key, out: &mut [u8]) -> Unpacked
+pub fn unpack(k: Key, out: &mut [u8]) -> Option<usize>
     requires { 48 ≤ length out.old }
     ensures { Unpacks k out.old out.new result }
 {
     put_words(out, k);
     if is_packed(k, out) {
-        return Unpacked::Bytes(k.len as usize);
+        return Some(k.len as usize);
     }
-    Unpacked::Foreign
+    None
 }

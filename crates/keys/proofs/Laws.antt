@@ -2,7 +2,7 @@
 use mathlib.Core.Path.{◌≡◌, refl, sym, ap, ◌∙◌}
 use mathlib.Core.Bool.{Bool, true, false, ◌&&◌}
 use mathlib.Core.List.{List, [], ◌∷◌}
-use mathlib.Core.Option.{Option, none, some}
+use Rattle.std.specs.Prelude.{Option, None, Some}
 use Prim.Native.Nat.{ℕ, ◌+◌, ◌-◌, ◌*◌, ◌^◌, ◌≤◌, ◌<◌}
 use native.Mathlib.Numerals.{add-one}
 use native.Mathlib.Nat.{le_trans, lt_of_lt_of_le}
@@ -14,8 +14,6 @@ use borrow.Author.Tests.{lt-ltb, le-ltb, le-leb, lt-leb, leb-true, eq-eqb, ne_eq
 use Rattle.inty.proofs.Laws.{below_top, low_only, was_in, was_out}
 use Rattle.inty.specs.Value.{value_of, checked, bounded}
 use Rattle.inty.specs.declared.Inty.{Inty}
-use Rattle.inty.specs.declared.Checked.{Checked}
-use Rattle.inty.specs.declared.Checked.TheVariants.{Number, Overflow}
 use Rattle.keys.specs.Read.{is_k, is_digit, strip, sign, number, digits, overflow, read_key}
 
 -- a suffix that is not empty is a byte and the next suffix
@@ -78,46 +76,46 @@ module _ (s : List ℕ) (i : ℕ) where
 -- ---- digits and overflow
 
 -- digits only make a number larger, so one that is past 128 bits stays so
-past : (a : ℕ) (s : List ℕ) → 2 ^ 128 ≤ a → overflow (number a s) ≡ none
+past : (a : ℕ) (s : List ℕ) → 2 ^ 128 ≤ a → overflow (number a s) ≡ None
 past a [] f = simp (le-ltb a (2 ^ 128) f)
 past a (c ∷ s) f = go (is_digit c) refl (past (10 * a + (c - 48)) s (le_trans f (more a (c - 48))))
   where
     more : (a d : ℕ) → a ≤ 10 * a + d
     more a d = omega arith
 
-    go : (t : Bool) → is_digit c ≡ t → overflow (number (10 * a + (c - 48)) s) ≡ none → overflow (number a (c ∷ s)) ≡ none
+    go : (t : Bool) → is_digit c ≡ t → overflow (number (10 * a + (c - 48)) s) ≡ None → overflow (number a (c ∷ s)) ≡ None
     go true e ih = simp e ih
     go false e ih = simp e
 
 -- the bytes from i on, after the digits that made a; k is what the key reads as, t the test of the byte at i
 module _ (s : List ℕ) (i a : ℕ) (k : Option ℕ) where
   module _ (t : Bool) (h : i < length s) (e : t ≡ is_digit (get_or s i 0)) where
-    pub digit_none : t ≡ false → overflow (number a (drop i s)) ≡ k → none ≡ k
+    pub digit_none : t ≡ false → overflow (number a (drop i s)) ≡ k → None ≡ k
     digit_none f g = sym (ap (λ (l : List ℕ). overflow (number a l)) (uncons s i h) ∙ simp (sym e ∙ f)) ∙ g
 
     module _ (f : t ≡ true) (g : overflow (number a (drop i s)) ≡ k) where
       pub digit_on : (w : ℕ) → w ≡ get_or s i 0 - 48 → overflow (number (10 * a + w) (drop (i + 1) s)) ≡ k
       digit_on w p = rw p (sym (ap (λ (l : List ℕ). overflow (number a l)) (uncons s i h) ∙ simp (sym e ∙ f)) ∙ g)
 
-      module _ (r : Checked) (p : checked r ≡ bounded (10 * a + (get_or s i 0 - 48))) where
-        pub digit_next : (y : Inty) → r ≡ Number y → overflow (number (value_of y) (drop (i + 1) s)) ≡ k
+      module _ (r : Option Inty) (p : checked r ≡ bounded (10 * a + (get_or s i 0 - 48))) where
+        pub digit_next : (y : Inty) → r ≡ Some y → overflow (number (value_of y) (drop (i + 1) s)) ≡ k
         digit_next y q = rw (was_in (value_of y) (10 * a + (get_or s i 0 - 48)) (ap checked (sym q) ∙ p)) (digit_on _ refl)
 
-        pub digit_over : r ≡ Overflow → none ≡ k
+        pub digit_over : r ≡ None → None ≡ k
         digit_over q = sym (past _ (drop (i + 1) s) (was_out _ (ap checked (sym q) ∙ p))) ∙ digit_on _ refl
 
   -- the rest was read beyond one word
   pub digit_long : (r : Option ℕ) → r ≡ overflow (number a (drop i s)) → overflow (number a (drop i s)) ≡ k → r ≡ k
   digit_long r e g = e ∙ g
 
-  all_read : length s ≤ i → a < 2 ^ 128 → overflow (number a (drop i s)) ≡ k → some a ≡ k
+  all_read : length s ≤ i → a < 2 ^ 128 → overflow (number a (drop i s)) ≡ k → Some a ≡ k
   all_read h f g = sym (ap (λ (l : List ℕ). overflow (number a l)) (drop_of_length-le s h) ∙ simp (lt-ltb a (2 ^ 128) f)) ∙ g
 
 module _ (s : List ℕ) (i : ℕ) (k : Option ℕ) (e : length s ≤ i) where
-  pub long_end : (h l : ℕ) → h < 2 ^ 64 → l < 2 ^ 64 → overflow (number (h * 18446744073709551616 + l) (drop i s)) ≡ k → some (h * 18446744073709551616 + l) ≡ k
+  pub long_end : (h l : ℕ) → h < 2 ^ 64 → l < 2 ^ 64 → overflow (number (h * 18446744073709551616 + l) (drop i s)) ≡ k → Some (h * 18446744073709551616 + l) ≡ k
   long_end h l f g = all_read s i (h * 18446744073709551616 + l) k e (below_top h l f g)
 
-  pub word_end : (l : ℕ) → l < 2 ^ 64 → overflow (number l (drop i s)) ≡ k → some (0 * 18446744073709551616 + l) ≡ k
+  pub word_end : (l : ℕ) → l < 2 ^ 64 → overflow (number l (drop i s)) ≡ k → Some (0 * 18446744073709551616 + l) ≡ k
   word_end l f g = rw (low_only l) (all_read s i l k e (lt_of_lt_of_le f (lit≤ tt)) g)
 
 pub long_start : (s : List ℕ) (i l : ℕ) → overflow (number (0 * 18446744073709551616 + l) (drop i s)) ≡ overflow (number l (drop i s))
@@ -132,5 +130,5 @@ module _ (s : List ℕ) (j i : ℕ) (e : drop j s ≡ strip s) (f : drop i s ≡
   pub key_read : (r : Option ℕ) → i < length s → r ≡ overflow (number 0 (drop i s)) → r ≡ read_key s
   key_read r h g = g ∙ (ap (λ (l : List ℕ). overflow (number 0 l)) (uncons s i h) ∙ (sym (ap (λ (l : List ℕ). overflow (digits l)) (uncons s i h)) ∙ from_start))
 
-  pub key_empty : length s ≤ i → none ≡ read_key s
+  pub key_empty : length s ≤ i → None ≡ read_key s
   key_empty h = sym (ap (λ (l : List ℕ). overflow (digits l)) (drop_of_length-le s h)) ∙ from_start

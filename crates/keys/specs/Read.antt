@@ -1,7 +1,7 @@
 -- Trusted: `key.trim_start_matches(['k', 'K']).parse::<u128>()` in four steps, each from Rust's library page, over the
 -- bytes of the key.
 use Rattle.std.specs.Prelude.{ℕ, ◌+◌, ◌-◌, ◌*◌, Bool, ◌&&◌, ◌||◌, List, [], ◌∷◌, leb, eqb, if◌then◌else◌}
-use Rattle.std.proofs.Math.Option.{Option, none, some}
+use Rattle.std.specs.Prelude.{Option, None, Some}
 use Rattle.words.specs.Choice.{if_none◌then◌else◌}
 use Rattle.inty.specs.Value.{bounded}
 
@@ -24,16 +24,16 @@ is_digit c = leb 48 c && leb c 57
 
 -- the number that digits stand for, after those that made a
 abbrev pub number : ℕ → List ℕ → Option ℕ
-number a [] = some a
-number a (c ∷ s) = if is_digit c then number (10 * a + (c - 48)) s else none
+number a [] = Some a
+number a (c ∷ s) = if is_digit c then number (10 * a + (c - 48)) s else None
 
 abbrev pub digits : List ℕ → Option ℕ
-digits [] = none
+digits [] = None
 digits (c ∷ s) = number 0 (c ∷ s)
 
 -- 4. Overflow. "Integer is too large to store in target integer type" (`PosOverflow`), here 128 bits
 abbrev pub overflow : Option ℕ → Option ℕ
-overflow n = if_none n then none else bounded
+overflow n = if_none n then None else bounded
 
 unfoldable pub read_key : List ℕ → Option ℕ
 read_key key = overflow (digits (sign (strip key)))

@@ -1,10 +1,9 @@
 -- Trusted: what an answer of `key_to_inty` says.
 use Rattle.std.specs.Prelude.{ℕ}
-use Rattle.std.proofs.Math.Option.{Option, none, some}
+use Rattle.std.specs.Prelude.{Option, None, Some}
 use Rattle.inty.specs.Value.{value_of}
-use Rattle.keys.specs.declared.KeyRead.{KeyRead}
-use Rattle.keys.specs.declared.KeyRead.TheVariants.{Number, Unread}
+use Rattle.inty.specs.declared.Inty.{Inty}
 
-abbrev pub shown : KeyRead → Option ℕ
-shown (Number x) = some (value_of x)
-shown Unread = none
+abbrev pub shown : Option Inty → Option ℕ
+shown (Some x) = Some (value_of x)
+shown None = None

@@ -5,17 +5,10 @@ ghost use Rattle.std.specs.Prelude.{◌≡◌, ◌≤◌, length, drop};
 ghost use Rattle.keys.specs.Read.{is_k, is_digit, strip, sign, number, overflow, read_key};
 ghost use Rattle.keys.specs.Shown.{shown};
 
-use inty::{Checked, Inty};
+use inty::Inty;
 
 // The bytes of a key at most, wherever one is kept or stands in a call.
 pub const KEY_BYTES: usize = 48;
-
-// Rust's `Result` of `parse::<u128>()`, its errors taken as one.
-#[derive(Clone, Copy)]
-pub enum KeyRead {
-    Number(Inty),
-    Unread,
-}
 
 fn is_k(c: u8) -> bool
     ensures { result ≡ is_k c }
@@ -64,7 +57,7 @@ fn skip_sign(key: &[u8], from: usize) -> usize
 }
 
 // The digits from `from` on, after those that made `acc`.
-fn read_long(key: &[u8], from: usize, acc: u64) -> KeyRead
+fn read_long(key: &[u8], from: usize, acc: u64) -> Option<Inty>
     requires { from ≤ length key.now }
     ensures { shown result ≡ overflow (number acc (drop from key.now)) }
 {
@@ -73,20 +66,20 @@ fn read_long(key: &[u8], from: usize, acc: u64) -> KeyRead
     while i < key.len() {
         let c = key[i];
         if is_digit(c) {
-            let Checked::Number(next) = inty::ten_step(x, c - b'0') else {
-                return KeyRead::Unread;
+            let Some(next) = x.ten_step(c - b'0') else {
+                return None;
             };
             x = next;
             i += 1;
         } else {
-            return KeyRead::Unread;
+            return None;
         }
     }
-    KeyRead::Number(x)
+    Some(x)
 }
 
 // The digits from `from` on: one word holds 19 of them and often 20, so most keys end here.
-fn read_digits(key: &[u8], from: usize) -> KeyRead
+fn read_digits(key: &[u8], from: usize) -> Option<Inty>
     requires { from ≤ length key.now }
     ensures { shown result ≡ overflow (number 0 (drop from key.now)) }
 {
@@ -98,21 +91,21 @@ fn read_digits(key: &[u8], from: usize) -> KeyRead
             if acc > 1844674407370955160 {
                 return read_long(key, i, acc);
             }
-            acc = 10 * acc + words::wide(c - b'0');
+            acc = 10 * acc + u64::from(c - b'0');
             i += 1;
         } else {
-            return KeyRead::Unread;
+            return None;
         }
     }
-    KeyRead::Number(Inty { hi: 0, lo: acc })
+    Some(Inty { hi: 0, lo: acc })
 }
 
-pub fn key_to_inty(key: &[u8]) -> KeyRead
+pub fn key_to_inty(key: &[u8]) -> Option<Inty>
     ensures { shown result ≡ read_key key.now }
 {
     let start = skip_sign(key, skip_ks(key));
     if start < key.len() {
         return read_digits(key, start);
     }
-    KeyRead::Unread
+    None
 }

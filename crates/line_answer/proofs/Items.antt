@@ -2,7 +2,7 @@
 use mathlib.Core.Path.{◌≡◌, refl, sym, ap, ◌∙◌}
 use mathlib.Core.Bool.{true, false}
 use mathlib.Core.List.{List, [], ◌∷◌, ◌++◌, append_assoc, append-nil}
-use mathlib.Core.Option.{none, some}
+use Rattle.std.specs.Prelude.{None, Some}
 use Prim.Native.Nat.{ℕ, suc, ◌+◌, ◌*◌, ◌≤◌, ◌<◌}
 use native.Mathlib.Omega.{arith}
 use borrow.Author.Tests.{ne_eqb}
@@ -32,8 +32,8 @@ six_item (Absent c r) = refl
 six_item (Store c r) = refl
 six_item (Pass c r) = refl
 six_item (Hold c r s) = refl
-six_item (Retry c r none) = refl
-six_item (Retry c r (some l)) = refl
+six_item (Retry c r None) = refl
+six_item (Retry c r (Some l)) = refl
 six_item (Resend s p) = refl
 six_item (Commit s) = refl
 six_item (Lead true) = refl

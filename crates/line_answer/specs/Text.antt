@@ -1,6 +1,6 @@
 -- Trusted: document 01, "The event program": what is written for a line.
 use Rattle.std.specs.Prelude.{ℕ, Bool, List, [], ◌∷◌, ◌++◌, length, if◌then◌else◌}
-use Rattle.std.proofs.Math.Option.{Option}
+use Rattle.std.specs.Prelude.{Option}
 use Rattle.words.specs.Text.{Bytes, bytes}
 use Rattle.words.specs.Choice.{if_none◌then◌else◌}
 use Rattle.decimal.specs.Digits.{decimal}

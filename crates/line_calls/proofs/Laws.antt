@@ -3,7 +3,7 @@ use Rattle.std.specs.Prelude.{if◌then◌else◌}
 use mathlib.Core.Path.{◌≡◌, refl, sym, ap, subst, ◌∙◌, fun_ext}
 use mathlib.Core.Bool.{Bool, true, false, not, ◌&&◌, and-true, and-false, true≢false}
 use mathlib.Core.List.{List, [], ◌∷◌}
-use mathlib.Core.Option.{Option, some}
+use Rattle.std.specs.Prelude.{Option, Some}
 use Prim.Native.Nat.{ℕ, ◌<◌, ◌≤◌}
 use native.Mathlib.Omega.{arith}
 use lib.Dec.{leb, ltb, eqb}
@@ -21,7 +21,6 @@ use Rattle.bodega.specs.Grounds.{grounds, unformed}
 use Rattle.bodega.specs.Step.{Step, Refused, step, refusal_of}
 use Rattle.bodega.specs.Answers.{due, Follows, Answers}
 use Rattle.node.specs.declared.Node.{Node}
-use Rattle.node.specs.declared.Answered.{Answered}
 use Rattle.node.specs.View.{view, ready, given_of}
 use Rattle.node.proofs.Calls.{is_ready}
 use Rattle.call_apply.specs.declared.Call as code
@@ -46,6 +45,9 @@ use Rattle.line_calls.specs.declared.Asked.{Asked}
 use Rattle.line_calls.specs.declared.HeardFields.{HeardFields}
 use Rattle.line_calls.specs.ReadsRead.{ReadsRead}
 use Rattle.line_calls.specs.Asks.{in_byte, width, no_call, AsksNumbers, Asks, heard_by, ReadsHeard}
+use Rattle.std.specs.Prelude.{Result}
+use Rattle.ids.specs.declared.Refusal.{Refusal}
+use Rattle.node.specs.declared.Taken.{Taken}
 
 -- ---- a replica number that no byte has: from 255 on the number of the refusal is the same
 
@@ -53,33 +55,33 @@ module _ (n : Node) (m : List ℕ) (places : ℕ) where
   past : (peer : ℕ) → 255 ≤ peer → ready n m ≡ true → leb n.population peer ≡ true
   past peer h e = le-leb n.population peer (omega (arith, is_ready n m true (sym e) refl))
 
-  guard_3 : (number bar peer : ℕ) → 255 ≤ peer → ready n m ≡ true → refusal_of (view n m) (Guard peer number bar) places ≡ some 3
+  guard_3 : (number bar peer : ℕ) → 255 ≤ peer → ready n m ≡ true → refusal_of (view n m) (Guard peer number bar) places ≡ Some 3
   unfolding refusal_of grounds view
   guard_3 number bar peer h e = rw (past peer h e)
 
-  reply_3 : (slot ballot peer : ℕ) → 255 ≤ peer → ready n m ≡ true → refusal_of (view n m) (Reply peer slot ballot) places ≡ some 3
+  reply_3 : (slot ballot peer : ℕ) → 255 ≤ peer → ready n m ≡ true → refusal_of (view n m) (Reply peer slot ballot) places ≡ Some 3
   unfolding refusal_of grounds view
   reply_3 slot ballot peer h e = rw (past peer h e)
 
-  notice_3 : (slot ballot peer : ℕ) → 255 ≤ peer → ready n m ≡ true → refusal_of (view n m) (Notice peer slot ballot) places ≡ some 3
+  notice_3 : (slot ballot peer : ℕ) → 255 ≤ peer → ready n m ≡ true → refusal_of (view n m) (Notice peer slot ballot) places ≡ Some 3
   unfolding refusal_of grounds view
   notice_3 slot ballot peer h e = rw (past peer h e)
 
-  commit_3 : (ballot bar peer : ℕ) → 255 ≤ peer → ready n m ≡ true → refusal_of (view n m) (CommitNotice peer ballot bar) places ≡ some 3
+  commit_3 : (ballot bar peer : ℕ) → 255 ≤ peer → ready n m ≡ true → refusal_of (view n m) (CommitNotice peer ballot bar) places ≡ Some 3
   unfolding refusal_of grounds view
   commit_3 ballot bar peer h e = rw (past peer h e)
 
   heartbeat_3 : (ballot : ℕ) (conf : Option Conf) (commit exec snap peer : ℕ) → 255 ≤ peer → ready n m ≡ true
-      → refusal_of (view n m) (Heartbeat peer ballot conf commit exec snap) places ≡ some (if unformed conf then 2 else 3)
+      → refusal_of (view n m) (Heartbeat peer ballot conf commit exec snap) places ≡ Some (if unformed conf then 2 else 3)
   unfolding refusal_of grounds view
   heartbeat_3 ballot conf commit exec snap peer h e = go (unformed conf) refl
     where
-      go : (t : Bool) → unformed conf ≡ t → refusal_of (view n m) (Heartbeat peer ballot conf commit exec snap) places ≡ some (if t then 2 else 3)
+      go : (t : Bool) → unformed conf ≡ t → refusal_of (view n m) (Heartbeat peer ballot conf commit exec snap) places ≡ Some (if t then 2 else 3)
       go true f = rw f
       go false f = rw (f, past peer h e)
 
-module _ (n : Node) (m area m' area' : List ℕ) (r : Answered) where
-  as_byte_lem : (c : ℕ → Call) (k peer : ℕ) → ((p : ℕ) → 255 ≤ p → ready n m ≡ true → refusal_of (view n m) (c p) (places area) ≡ some k)
+module _ (n : Node) (m area m' area' : List ℕ) (r : Result Taken Refusal) where
+  as_byte_lem : (c : ℕ → Call) (k peer : ℕ) → ((p : ℕ) → 255 ≤ p → ready n m ≡ true → refusal_of (view n m) (c p) (places area) ≡ Some k)
       → Answers ready view (c (as_byte peer)) n m area (given_of r) m' area' → Answers ready view (c peer) n m area (given_of r) m' area'
   unfolding due step
   as_byte_lem c k peer f a = go (ltb 255 peer) refl a
@@ -109,7 +111,7 @@ module _ (n : Node) (m area m' area' : List ℕ) (r : Answered) where
 
 -- ---- a line whose fields are not well-formed, and one whose call was made
 
-pub malformed : (good : Bool) (c : Call) (n : Node) (m area : List ℕ) (r : Answered) → good ≡ false → r ≡ record { number = 1; count = 0; node = n }
+pub malformed : (good : Bool) (c : Call) (n : Node) (m area : List ℕ) (r : Result Taken Refusal) → good ≡ false → r ≡ record { number = 1; count = 0; node = n }
     → AnswersLine good c n m area r m area
 malformed good c n m area r g e =
     record {
@@ -117,7 +119,7 @@ malformed good c n m area r g e =
       well = λ b. not_both g b;
     }
 
-well_formed : (good : Bool) (c : Call) (n : Node) (m area m' area' : List ℕ) (r : Answered) → good ≡ true → Answers ready view (in_byte c) n m area (given_of r) m' area'
+well_formed : (good : Bool) (c : Call) (n : Node) (m area m' area' : List ℕ) (r : Result Taken Refusal) → good ≡ true → Answers ready view (in_byte c) n m area (given_of r) m' area'
     → AnswersLine good c n m area r m' area'
 well_formed good c n m area m' area' r g h =
     record {
@@ -161,7 +163,7 @@ ready_for_lem (call.Bars start accept commit exec) rows text e = refl
 ready_for_lem (call.Read client request leases) rows text e = refl
 ready_for_lem (call.Release slot) rows text e = refl
 
-module _ (kind : CallKind) (s : Bytes) (at : ℕ) (x : Asked) (h : Asks (is_call kind (fields_from s at)) (call_of kind (fields_from s at)) s x) (n : Node) (m area : List ℕ) (r : Answered) where
+module _ (kind : CallKind) (s : Bytes) (at : ℕ) (x : Asked) (h : Asks (is_call kind (fields_from s at)) (call_of kind (fields_from s at)) s x) (n : Node) (m area : List ℕ) (r : Result Taken Refusal) where
   pub not_asked : not x.good ≡ true → r ≡ record { number = 1; count = 0; node = n } → AnswersLine (is_call kind (fields_from s at)) (call_of kind (fields_from s at)) n m area r m area
   not_asked f e = malformed _ _ n m area r (sym h.good ∙ not-true x.good f) e
 
@@ -478,7 +480,7 @@ whole_roster : (attached : Bool) (count : ℕ) (rows : List ℕ) → holds_rows 
 whole_roster attached count rows e =
     fun_ext (λ (k : Node). fun_ext (λ (w : List ℕ). ap (λ (b : Bool). ready k w && b) (fits_roster attached count rows e) ∙ and-true (ready k w)))
 
-module _ (fs : List Bytes) (f : HeardFields) (h : ReadsHeard fs f) (draft : RespondersConf) (rows : List ℕ) (n : Node) (m area : List ℕ) (r : Answered) where
+module _ (fs : List Bytes) (f : HeardFields) (h : ReadsHeard fs f) (draft : RespondersConf) (rows : List ℕ) (n : Node) (m area : List ℕ) (r : Result Taken Refusal) where
   pub not_heard : not f.good ≡ true → r ≡ record { number = 1; count = 0; node = n } → AnswersLine (is_heard fs) (heard_by draft rows fs) n m area r m area
   not_heard g e = malformed _ _ n m area r (sym h.good ∙ not-true f.good g) e
 

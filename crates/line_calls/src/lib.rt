@@ -13,9 +13,9 @@ ghost use Rattle.line_calls.specs.ReadsRead.{ReadsRead};
 ghost use Rattle.line_calls.specs.Asks.{in_byte, width, no_call, AsksNumbers, Asks, heard_by, ReadsHeard};
 
 use call_apply::Call;
-use ids::{Ballot, Replica, Slot};
+use ids::{Ballot, Refusal, Replica, Slot};
 use line_kind::CallKind;
-use node::{Answered, Node};
+use node::{Taken, Node};
 use roster_conf::RespondersConf;
 
 // The call that a line's fields are, where they are well-formed. A read's key is a part of the line.
@@ -172,12 +172,12 @@ pub fn call_line(
     area: &mut [u64],
     line: &[u8],
     at: usize,
-) -> Answered
+) -> Result<Taken, Refusal>
     ensures { AnswersLine (is_call kind (fields_from line.now at)) (call_of kind (fields_from line.now at)) node mem.old area.old result mem.new area.new }
 {
     let a = call_at(kind, line, at);
     if !a.good {
-        return Answered::refused(node, 1);
+        return Err(Refusal::Malformed);
     }
     let call = a.call;
     let start = a.start;
@@ -242,12 +242,12 @@ pub fn heard_line(
     rows: &[u64],
     line: &[u8],
     at: usize,
-) -> Answered
+) -> Result<Taken, Refusal>
     ensures { holds_rows (length rows.now) draft.count ≡ true → AnswersLine (is_heard (fields_from line.now at)) (heard_by draft rows.now (fields_from line.now at)) node mem.old area.old result mem.new area.new }
 {
     let f = heard_fields(line, at);
     if !f.good {
-        return Answered::refused(node, 1);
+        return Err(Refusal::Malformed);
     }
     let peer = f.peer;
     let ballot = f.ballot;

@@ -20,16 +20,12 @@ use Rattle.line_fields.proofs.Laws.{all_read, from_past, numbers_none}
 use Rattle.line_reader.specs.declared.FieldsNumber.{FieldsNumber}
 use Rattle.line_reader.specs.Takes.{ReadsFieldsNumber}
 use Rattle.roster_conf.specs.declared.RespondersConf.{RespondersConf}
-use Rattle.roster_conf.specs.declared.Edited.{Edited}
 use Rattle.roster_conf.specs.declared.Edited.TheVariants as edited
-use Rattle.roster_show.specs.declared.Shown.{Shown}
 use Rattle.roster_show.specs.declared.Shown.TheVariants as shown
 use Rattle.roster_conf.specs.Edit.{Edit, SetLeader, SetResponders, IntoFiltered, EditResult, grounds, edit_result, refused}
 use Rattle.roster_conf.specs.Edits.{Edits, Gives, due, view, holds_rows, in_range}
 use Rattle.roster_show.specs.Show.{Listing, listing}
 use Rattle.node.specs.declared.Node.{Node}
-use Rattle.node.specs.declared.Answered.{Answered}
-use Rattle.node.specs.declared.Fresh.{Fresh}
 use Rattle.node.specs.declared.Fresh.TheVariants as begun
 use Rattle.node.specs.View as node
 use Rattle.node.specs.View.{size, ready}
@@ -40,6 +36,9 @@ use Rattle.line_host.specs.Follows.{EditsLine, as_byte}
 use Rattle.line_host.proofs.Laws.{not_both, some_left}
 use Rattle.line_draft.specs.declared.RangeFields.{RangeFields}
 use Rattle.line_draft.specs.Drafts.{ReadsRange, ShowsLine, BeginsBy, BeginsLine}
+use Rattle.std.specs.Prelude.{Result}
+use Rattle.ids.specs.declared.Refusal.{Refusal}
+use Rattle.node.specs.declared.Taken.{Taken}
 
 -- ---- a replica number that no byte has
 
@@ -48,7 +47,7 @@ module _ (population : ℕ) (c : RespondersConf) (rows : List ℕ) where
   far i l e = le-leb population i (omega (arith, leb-true population 64 (and_both (leb 1 population) (leb population 64) (and_both (holds_rows (length rows) c.count) (in_range population) e).1).1))
 
   -- any edit that is refused 3 from the population on
-  as_byte_lem : (e : ℕ → Edit) → ((i : ℕ) → leb population i ≡ true → edit_result population (view c rows) (e i) ≡ refused 3) → (b id : ℕ) (r : Edited) (rows' : List ℕ) → b ≡ as_byte id
+  as_byte_lem : (e : ℕ → Edit) → ((i : ℕ) → leb population i ≡ true → edit_result population (view c rows) (e i) ≡ refused 3) → (b id : ℕ) (r : Result RespondersConf Refusal) (rows' : List ℕ) → b ≡ as_byte id
       → Edits (e b) population c rows r rows' → Edits (e id) population c rows r rows'
   unfolding due
   as_byte_lem e f b id r rows' q x = go (ltb 255 id) refl (rw q at x)
@@ -63,11 +62,11 @@ module _ (population : ℕ) (c : RespondersConf) (rows : List ℕ) where
           subst (λ (z : EditResult). Gives z r rows rows') k y
       go false g y = y
 
-  pub to_leader : (b id : ℕ) (r : Edited) (rows' : List ℕ) → b ≡ as_byte id → Edits (SetLeader b) population c rows r rows' → Edits (SetLeader id) population c rows r rows'
+  pub to_leader : (b id : ℕ) (r : Result RespondersConf Refusal) (rows' : List ℕ) → b ≡ as_byte id → Edits (SetLeader b) population c rows r rows' → Edits (SetLeader id) population c rows r rows'
   unfolding edit_result grounds
   to_leader = as_byte_lem SetLeader (λ i g. rw g)
 
-  pub to_dropped : (b id : ℕ) (r : Edited) (rows' : List ℕ) → b ≡ as_byte id → Edits (IntoFiltered b) population c rows r rows' → Edits (IntoFiltered id) population c rows r rows'
+  pub to_dropped : (b id : ℕ) (r : Result RespondersConf Refusal) (rows' : List ℕ) → b ≡ as_byte id → Edits (IntoFiltered b) population c rows r rows' → Edits (IntoFiltered id) population c rows r rows'
   unfolding edit_result grounds
   to_dropped = as_byte_lem IntoFiltered (λ i g. rw g)
 
@@ -76,7 +75,7 @@ module _ (population : ℕ) (c : RespondersConf) (rows : List ℕ) where
 pub bad_edit : (good : Bool) (e : Edit) (population : ℕ) (c : RespondersConf) (rows : List ℕ) → good ≡ false → EditsLine good e population c rows (edited.Refused 1) rows
 bad_edit good e population c rows g = record { bad = λ f. (refl, refl); well = λ f. not_both g f }
 
-pub good_edit : (good : Bool) (e : Edit) (population : ℕ) (c : RespondersConf) (rows rows' : List ℕ) (r : Edited) → good ≡ true → Edits e population c rows r rows'
+pub good_edit : (good : Bool) (e : Edit) (population : ℕ) (c : RespondersConf) (rows rows' : List ℕ) (r : Result RespondersConf Refusal) → good ≡ true → Edits e population c rows r rows'
     → EditsLine good e population c rows r rows'
 good_edit good e population c rows rows' r g h = record { bad = λ f. not_both f g; well = λ f. h }
 
@@ -85,12 +84,12 @@ module _ (s : Bytes) (at k : ℕ) (out xs : List ℕ) (t : Bool) (h : ReadsNumbe
       → EditsLine (numbers k (fields_from s at)) e population c rows (edited.Refused 1) rows
   other_fields e population c rows f = bad_edit _ e population c rows (sym h.good ∙ not-true t f)
 
-  pub one_number : (e : ℕ → Edit) (population : ℕ) (c : RespondersConf) (rows rows' : List ℕ) (r : Edited) → not t ≡ false → 0 < k
+  pub one_number : (e : ℕ → Edit) (population : ℕ) (c : RespondersConf) (rows rows' : List ℕ) (r : Result RespondersConf Refusal) → not t ≡ false → 0 < k
       → Edits (e (get_or xs 0 0)) population c rows r rows' → EditsLine (numbers k (fields_from s at)) (e (number_at (fields_from s at) 0)) population c rows r rows'
   one_number e population c rows rows' r f l g =
       good_edit _ _ population c rows rows' r (sym h.good ∙ not-false t f) (rw (h.values (not-false t f) 0 l) at g)
 
-pub of_kind : (k x : EditKind) (fs : List Bytes) (population : ℕ) (c : RespondersConf) (rows rows' : List ℕ) (r : Edited) → k ≡ x → EditsLine (is_edit x fs) (edit_of x fs) population c rows r rows'
+pub of_kind : (k x : EditKind) (fs : List Bytes) (population : ℕ) (c : RespondersConf) (rows rows' : List ℕ) (r : Result RespondersConf Refusal) → k ≡ x → EditsLine (is_edit x fs) (edit_of x fs) population c rows r rows'
     → EditsLine (is_edit k fs) (edit_of k fs) population c rows r rows'
 of_kind k x fs population c rows rows' r e f = subst (λ (y : EditKind). EditsLine (is_edit y fs) (edit_of y fs) population c rows r rows') (sym e) f
 
@@ -107,7 +106,7 @@ module _ (s : Bytes) (at : ℕ) (t : Bool) (e : t ≡ none_left (fields_from s a
       → EditsLine (numbers 0 (fields_from s at)) d population c rows (edited.Refused 1) rows
   some_field_edit d population c rows f = bad_edit _ d population c rows (some_field f)
 
-  pub no_field_edit : (d : Edit) (population : ℕ) (c : RespondersConf) (rows rows' : List ℕ) (r : Edited) → not t ≡ false → Edits d population c rows r rows'
+  pub no_field_edit : (d : Edit) (population : ℕ) (c : RespondersConf) (rows rows' : List ℕ) (r : Result RespondersConf Refusal) → not t ≡ false → Edits d population c rows r rows'
       → EditsLine (numbers 0 (fields_from s at)) d population c rows r rows'
   no_field_edit d population c rows rows' r f h = good_edit _ d population c rows rows' r (no_field f) h
 
@@ -118,7 +117,7 @@ module _ (s : Bytes) (at : ℕ) (t : Bool) (e : t ≡ none_left (fields_from s a
     pub unmade_show : not t ≡ false → population ≡ 0 → ShowsLine (numbers 0 (fields_from s at)) population c rows area (shown.Refused 2) area
     unmade_show f z = record { bad = λ g. not_both g (no_field f); unmade = λ g w. (refl, refl); well = λ g w. absurd (w z) }
 
-    pub shows : (r : Shown) (area' : List ℕ) → not t ≡ false → (population ≡ 0 → ⊥) → ◌≡◌ {A = Listing} (record { answer = r; area = area' }) (listing c rows area)
+    pub shows : (r : Result ℕ Refusal) (area' : List ℕ) → not t ≡ false → (population ≡ 0 → ⊥) → ◌≡◌ {A = Listing} (record { answer = r; area = area' }) (listing c rows area)
         → ShowsLine (numbers 0 (fields_from s at)) population c rows area r area'
     shows r area' f z h = record { bad = λ g. not_both g (no_field f); unmade = λ g w. absurd (z w); well = λ g w. h }
 
@@ -141,7 +140,7 @@ module _ (id population quorum : ℕ) where
       let d = and_both (leb population 64) _ b.1 in
       record { own = ltb-true id population d.1; few = leb-true population 64 d.0; quorate = leb-true quorum population b.0 }
 
-  module _ (n : Node) (mem : List ℕ) (a : Answered) (e : a ≡ record { number = 2; count = 0; node = n }) where
+  module _ (n : Node) (mem : List ℕ) (a : Result Taken Refusal) (e : a ≡ record { number = 2; count = 0; node = n }) where
     not_begun : node.in_range id population quorum ≡ false → BeginsBy (node.in_range id population quorum) id population quorum n mem a mem
     not_begun f = rw f (record { answer = e; same_mem = refl })
 
@@ -154,11 +153,11 @@ module _ (id population quorum : ℕ) where
     pub far_quorum : 255 < quorum → BeginsBy (node.in_range id population quorum) id population quorum n mem a mem
     far_quorum h = not_begun (is_false _ (λ t. omega (arith, small t)))
 
-  module _ (n : Node) (mem mem' : List ℕ) (long : node_words ≤ length mem) (f : Fresh) (b : begins.Begins id population quorum mem f mem') where
+  module _ (n : Node) (mem mem' : List ℕ) (long : node_words ≤ length mem) (f : Result Node Refusal) (b : begins.Begins id population quorum mem f mem') where
     by_range : begins.Gives (node.in_range id population quorum) id population quorum mem f mem'
     by_range = rw (le-leb node_words (length mem) long) at b
 
-    pub made : (m : Node) (a : Answered) → f ≡ begun.Made m → length mem' ≡ length mem → a ≡ record { number = 0; count = 0; node = m }
+    pub made : (m : Node) (a : Result Taken Refusal) → f ≡ begun.Made m → length mem' ≡ length mem → a ≡ record { number = 0; count = 0; node = m }
         → BeginsBy (node.in_range id population quorum) id population quorum n mem a mem'
     made m a e l g = go (node.in_range id population quorum) (rw e at by_range)
       where
@@ -166,7 +165,7 @@ module _ (id population quorum : ℕ) where
         go true h = rw g (record { number = refl; count = refl; replica = h.replica; readied = h.readied; size = l; beyond = h.beyond })
         go false h = absurd h
 
-    pub unmade : (k : ℕ) (a : Answered) → f ≡ begun.Refused k → a ≡ record { number = 2; count = 0; node = n }
+    pub unmade : (k : ℕ) (a : Result Taken Refusal) → f ≡ begun.Refused k → a ≡ record { number = 2; count = 0; node = n }
         → BeginsBy (node.in_range id population quorum) id population quorum n mem a mem'
     unmade k a e g = go (node.in_range id population quorum) (rw e at by_range)
       where
@@ -175,7 +174,7 @@ module _ (id population quorum : ℕ) where
         go false h = record { answer = g; same_mem = h.1 }
 
 module _ (s : Bytes) (at : ℕ) (out xs : List ℕ) (g : Bool) (h : ReadsNumbers s at 3 out g xs) (n : Node) (mem : List ℕ) where
-  pub bad_node : (id population quorum : ℕ) (a : Answered) → not g ≡ true → a ≡ record { number = 1; count = 0; node = n }
+  pub bad_node : (id population quorum : ℕ) (a : Result Taken Refusal) → not g ≡ true → a ≡ record { number = 1; count = 0; node = n }
       → BeginsLine (numbers 3 (fields_from s at)) id population quorum n mem a mem
   bad_node id population quorum a f e =
       let b = sym h.good ∙ not-true g f in
@@ -185,12 +184,12 @@ module _ (s : Bytes) (at : ℕ) (out xs : List ℕ) (g : Bool) (h : ReadsNumbers
     good : numbers 3 (fields_from s at) ≡ true
     good = sym h.good ∙ not-false g f
 
-    pub second_node : (id population quorum : ℕ) (a : Answered) → t ≡ true → a ≡ record { number = 2; count = 0; node = n }
+    pub second_node : (id population quorum : ℕ) (a : Result Taken Refusal) → t ≡ true → a ≡ record { number = 2; count = 0; node = n }
         → BeginsLine (numbers 3 (fields_from s at)) id population quorum n mem a mem
     second_node id population quorum a q e =
         record { bad = λ x. not_both x good; second = λ x y. record { answer = e; same_mem = refl }; first = λ x y. not_both y (sym r ∙ q) }
 
-    pub first_node : (a : Answered) (mem' : List ℕ) → t ≡ false
+    pub first_node : (a : Result Taken Refusal) (mem' : List ℕ) → t ≡ false
         → BeginsBy (node.in_range (get_or xs 0 0) (get_or xs 1 0) (get_or xs 2 0)) (get_or xs 0 0) (get_or xs 1 0) (get_or xs 2 0) n mem a mem'
         → BeginsLine (numbers 3 (fields_from s at)) (number_at (fields_from s at) 0) (number_at (fields_from s at) 1) (number_at (fields_from s at) 2) n mem a mem'
     first_node a mem' q w =
@@ -276,7 +275,7 @@ module _ (s : Bytes) (at : ℕ) (f : RangeFields) (h : ReadsRange s at f) (popul
   pub bad_range : (e : Edit) → not f.good ≡ true → EditsLine (is_range (fields_from s at)) e population c rows (edited.Refused 1) rows
   bad_range e g = bad_edit _ e population c rows (sym h.good ∙ not-true f.good g)
 
-  pub good_range : (rows' : List ℕ) (r : Edited) → not f.good ≡ false
+  pub good_range : (rows' : List ℕ) (r : Result RespondersConf Refusal) → not f.good ≡ false
       → Edits (SetResponders (between s f.start f.start_end) (between s f.end f.end_end) f.mask) population c rows r rows'
       → EditsLine (is_range (fields_from s at)) (SetResponders (get_or (fields_from s at) 0 []) (get_or (fields_from s at) 1 []) (number_at (fields_from s at) 2)) population c rows r rows'
   good_range rows' r g d =

@@ -7,15 +7,15 @@ use Rattle.line_fields.specs.Split.{fields_from}
 use Rattle.line_fields.specs.Number.{number_at}
 use Rattle.line_fields.specs.Reads.{between}
 use Rattle.roster_conf.specs.declared.RespondersConf.{RespondersConf}
-use Rattle.roster_show.specs.declared.Shown.{Shown}
-use Rattle.roster_show.specs.declared.Shown.TheVariants.{Refused}
 use Rattle.roster_show.specs.Show.{Listing, listing}
 use Rattle.bodega.specs.Replica.{fresh}
 use Rattle.node.specs.declared.Node.{Node}
-use Rattle.node.specs.declared.Answered.{Answered}
 use Rattle.node.specs.View.{view, ready, in_range}
 use Rattle.line_host.specs.Line.{is_range}
 use Rattle.line_draft.specs.declared.RangeFields.{RangeFields}
+use Rattle.std.specs.Prelude.{Result, Err}
+use Rattle.ids.specs.declared.Refusal.{Refusal}
+use Rattle.node.specs.declared.Taken.{Taken}
 
 -- ---- the fields of a range line: START,END,MASK
 
@@ -34,18 +34,18 @@ pub record ReadsRange (s : Bytes) (at : ℕ) (r : RangeFields) : Type 0 where
 
 -- ---- show: where no node is made the population is 0
 
-pub record ShowsLine (good : Bool) (population : ℕ) (c : RespondersConf) (rows area : List ℕ) (r : Shown) (area' : List ℕ) : Type 0 where
-  pub bad : good ≡ false → (r ≡ Refused 1) × (area' ≡ area)
-  pub unmade : good ≡ true → population ≡ 0 → (r ≡ Refused 2) × (area' ≡ area)
+pub record ShowsLine (good : Bool) (population : ℕ) (c : RespondersConf) (rows area : List ℕ) (r : Result ℕ Refusal) (area' : List ℕ) : Type 0 where
+  pub bad : good ≡ false → (r ≡ Err 1) × (area' ≡ area)
+  pub unmade : good ≡ true → population ≡ 0 → (r ≡ Err 2) × (area' ≡ area)
   pub well : good ≡ true → (population ≡ 0 → ⊥) → ◌≡◌ {A = Listing} (record { answer = r; area = area' }) (listing c rows area)
 
 -- ---- the node line
 
-pub record Refuses (n : ℕ) (node : Node) (mem : List ℕ) (a : Answered) (mem' : List ℕ) : Type 0 where
+pub record Refuses (n : ℕ) (node : Node) (mem : List ℕ) (a : Result Taken Refusal) (mem' : List ℕ) : Type 0 where
   pub answer : a ≡ record { number = n; count = 0; node = node }
   pub same_mem : mem' ≡ mem
 
-pub record Makes (id population quorum : ℕ) (mem : List ℕ) (a : Answered) (mem' : List ℕ) : Type 0 where
+pub record Makes (id population quorum : ℕ) (mem : List ℕ) (a : Result Taken Refusal) (mem' : List ℕ) : Type 0 where
   pub number : a.number ≡ 0
   pub count : a.count ≡ 0
   pub replica : view a.node mem' ≡ fresh id population quorum
@@ -54,11 +54,11 @@ pub record Makes (id population quorum : ℕ) (mem : List ℕ) (a : Answered) (m
   pub beyond : Untouched node_words mem mem'
 
 -- by whether population, quorum and own number are in range
-abbrev pub BeginsBy : Bool → ℕ → ℕ → ℕ → Node → List ℕ → Answered → List ℕ → Type 0
+abbrev pub BeginsBy : Bool → ℕ → ℕ → ℕ → Node → List ℕ → Result Taken Refusal → List ℕ → Type 0
 BeginsBy true id population quorum node mem a mem' = Makes id population quorum mem a mem'
 BeginsBy false id population quorum node mem a mem' = Refuses 2 node mem a mem'
 
-pub record BeginsLine (good : Bool) (id population quorum : ℕ) (node : Node) (mem : List ℕ) (a : Answered) (mem' : List ℕ) : Type 0 where
+pub record BeginsLine (good : Bool) (id population quorum : ℕ) (node : Node) (mem : List ℕ) (a : Result Taken Refusal) (mem' : List ℕ) : Type 0 where
   pub bad : good ≡ false → Refuses 1 node mem a mem'
   pub second : good ≡ true → ready node mem ≡ true → Refuses 2 node mem a mem'
   pub first : good ≡ true → ready node mem ≡ false → BeginsBy (in_range id population quorum) id population quorum node mem a mem'

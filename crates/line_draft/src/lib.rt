@@ -13,20 +13,19 @@ ghost use Rattle.line_host.specs.Line.{is_edit, edit_of};
 ghost use Rattle.line_host.specs.Follows.{EditsLine};
 ghost use Rattle.line_draft.specs.Drafts.{ReadsRange, ShowsLine, BeginsBy, BeginsLine};
 
-use ids::Replica;
+use ids::{Refusal, Replica};
 use line_kind::EditKind;
-use node::{Answered, Fresh, Node};
-use roster_conf::{Edited, RespondersConf};
-use roster_show::Shown;
+use node::{Taken, Node};
+use roster_conf::RespondersConf;
 
 // ---- the draft
 
-fn lead_line(draft: RespondersConf, rows: &[u64], population: u8, line: &[u8], at: usize) -> Edited
+fn lead_line(draft: RespondersConf, rows: &[u64], population: u8, line: &[u8], at: usize) -> Result<RespondersConf, Refusal>
     ensures { EditsLine (is_edit Lead (fields_from line.now at)) (edit_of Lead (fields_from line.now at)) population draft rows.now result rows.now }
 {
     let mut a = [0u64; 1];
     if !line_reader::numbers(line, at, 1, &mut a) {
-        return Edited::Refused(1);
+        return Err(Refusal::Malformed);
     }
     draft.set_leader(rows, population, line_host::replica(a[0]))
 }
@@ -37,12 +36,12 @@ fn drop_line(
     population: u8,
     line: &[u8],
     at: usize,
-) -> Edited
+) -> Result<RespondersConf, Refusal>
     ensures { EditsLine (is_edit Drop (fields_from line.now at)) (edit_of Drop (fields_from line.now at)) population draft rows.old result rows.new }
 {
     let mut a = [0u64; 1];
     if !line_reader::numbers(line, at, 1, &mut a) {
-        return Edited::Refused(1);
+        return Err(Refusal::Malformed);
     }
     draft.into_filtered(rows, population, line_host::replica(a[0]))
 }
@@ -53,21 +52,21 @@ fn whole_line(
     population: u8,
     line: &[u8],
     at: usize,
-) -> Edited
+) -> Result<RespondersConf, Refusal>
     ensures { EditsLine (is_edit Whole (fields_from line.now at)) (edit_of Whole (fields_from line.now at)) population draft rows.old result rows.new }
 {
     let mut a = [0u64; 1];
     if !line_reader::numbers(line, at, 1, &mut a) {
-        return Edited::Refused(1);
+        return Err(Refusal::Malformed);
     }
     draft.set_full(rows, population, a[0])
 }
 
-fn reset_line(draft: RespondersConf, rows: &[u64], population: u8, line: &[u8], at: usize) -> Edited
+fn reset_line(draft: RespondersConf, rows: &[u64], population: u8, line: &[u8], at: usize) -> Result<RespondersConf, Refusal>
     ensures { EditsLine (is_edit Reset (fields_from line.now at)) (edit_of Reset (fields_from line.now at)) population draft rows.now result rows.now }
 {
     if !line_fields::ended(line, at) {
-        return Edited::Refused(1);
+        return Err(Refusal::Malformed);
     }
     draft.reset_full(rows, population)
 }
@@ -125,12 +124,12 @@ fn range_line(
     population: u8,
     line: &[u8],
     at: usize,
-) -> Edited
+) -> Result<RespondersConf, Refusal>
     ensures { EditsLine (is_edit Range (fields_from line.now at)) (edit_of Range (fields_from line.now at)) population draft rows.old result rows.new }
 {
     let f = range_fields(line, at);
     if !f.good {
-        return Edited::Refused(1);
+        return Err(Refusal::Malformed);
     }
     let start = f.start;
     let start_end = f.start_end;
@@ -153,7 +152,7 @@ pub fn edit_line(
     population: u8,
     line: &[u8],
     at: usize,
-) -> Edited
+) -> Result<RespondersConf, Refusal>
     ensures { EditsLine (is_edit kind (fields_from line.now at)) (edit_of kind (fields_from line.now at)) population draft rows.old result rows.new }
 {
     match kind {
@@ -172,14 +171,14 @@ pub fn show_line(
     population: u8,
     line: &[u8],
     at: usize,
-) -> Shown
+) -> Result<usize, Refusal>
     ensures { ShowsLine (numbers 0 (fields_from line.now at)) population draft rows.now area.old result area.new }
 {
     if !line_fields::ended(line, at) {
-        return Shown::Refused(1);
+        return Err(Refusal::Malformed);
     }
     if population == 0 {
-        return Shown::Refused(2);
+        return Err(Refusal::NotReady);
     }
     roster_show::show(draft, rows, area)
 }
@@ -187,34 +186,34 @@ pub fn show_line(
 // ---- the node
 
 // The node in place of one that no call made.
-fn begin(node: Node, mem: &mut [u64], id: u64, population: u64, quorum: u64) -> Answered
+fn begin(node: Node, mem: &mut [u64], id: u64, population: u64, quorum: u64) -> Result<Taken, Refusal>
     ensures { node_words ≤ length mem.old → BeginsBy (in_range id population quorum) id population quorum node mem.old result mem.new }
 {
     if 255 < id {
-        return Answered::refused(node, 2);
+        return Err(Refusal::NotReady);
     }
     if 255 < population {
-        return Answered::refused(node, 2);
+        return Err(Refusal::NotReady);
     }
     if 255 < quorum {
-        return Answered::refused(node, 2);
+        return Err(Refusal::NotReady);
     }
-    let Fresh::Made(made) = Node::fresh(mem, Replica(id as u8), population as u8, quorum as u8)
+    let Ok(made) = Node::fresh(mem, Replica(id as u8), population as u8, quorum as u8)
     else {
-        return Answered::refused(node, 2);
+        return Err(Refusal::NotReady);
     };
-    Answered::taken(made, 0)
+    Ok(Taken { node: made, count: 0 })
 }
 
-pub fn node_line(node: Node, mem: &mut [u64], line: &[u8], at: usize) -> Answered
+pub fn node_line(node: Node, mem: &mut [u64], line: &[u8], at: usize) -> Result<Taken, Refusal>
     ensures { node_words ≤ length mem.old → BeginsLine (numbers 3 (fields_from line.now at)) (number_at (fields_from line.now at) 0) (number_at (fields_from line.now at) 1) (number_at (fields_from line.now at) 2) node mem.old result mem.new }
 {
     let mut a = [0u64; 3];
     if !line_reader::numbers(line, at, 3, &mut a) {
-        return Answered::refused(node, 1);
+        return Err(Refusal::Malformed);
     }
     if node::is_ready(node, mem) {
-        return Answered::refused(node, 2);
+        return Err(Refusal::NotReady);
     }
     begin(node, mem, a[0], a[1], a[2])
 }

@@ -3,7 +3,7 @@ use Rattle.std.specs.Prelude.{if◌then◌else◌}
 use mathlib.Core.Path.{◌≡◌, refl, sym, ap, subst, ◌∙◌}
 use mathlib.Core.Bool.{Bool, true, false, not, ◌&&◌, and-true, and-false}
 use mathlib.Core.List.{List, [], ◌∷◌, ◌++◌}
-use mathlib.Core.Option.{Option, none, some}
+use Rattle.std.specs.Prelude.{Option, None, Some}
 use Prim.Native.Nat.{ℕ, ◌*◌, ◌/◌, ◌<◌, ◌≤◌}
 use native.Mathlib.Omega.{arith}
 use lib.Dec.{leb, ltb, eqb}
@@ -15,9 +15,7 @@ use Rattle.words.proofs.Tests.{and_both}
 use Rattle.ids.specs.Limits.{items}
 use Rattle.items.specs.Item.{Item, encode, places}
 use Rattle.roster_conf.specs.declared.RespondersConf.{RespondersConf}
-use Rattle.roster_conf.specs.declared.Edited.{Edited}
 use Rattle.roster_conf.specs.declared.Edited.TheVariants as edits
-use Rattle.roster_show.specs.declared.Shown.{Shown}
 use Rattle.roster_show.specs.declared.Shown.TheVariants as shows
 use Rattle.roster_conf.specs.Ground.{Ground, ◌when◌or◌, refusal}
 use Rattle.roster_conf.proofs.Grounds.{NoneApply, none_apply, not_0, edit_positive}
@@ -58,6 +56,8 @@ use Rattle.words.specs.Writes.{length_writes}
 use Rattle.layout.specs.Layout.{roster_words, node_words}
 use Rattle.line_event.specs.Ways as ways
 use Rattle.line_event.specs.Event.{whole, fit, due_in, due as due-line, AnswersEvent}
+use Rattle.std.specs.Prelude.{Result}
+use Rattle.ids.specs.declared.Refusal.{Refusal}
 
 -- ---- a refusal changes nothing
 
@@ -73,8 +73,8 @@ unfolding step
 step_positive r c places n e = go (refusal_of r c places) refl e
   where
     go : (o : Option ℕ) → refusal_of r c places ≡ o → step_by o (effect r c) ≡ Refused n → 0 < n
-    go none f g = let z : ◌≡◌ {A = ℕ} 0 1 = cc in absurd (omega arith)
-    go (some k) f g = let q : k ≡ n = cc in refused_not_0 r c places n (f ∙ ap some q)
+    go None f g = let z : ◌≡◌ {A = ℕ} 0 1 = cc in absurd (omega arith)
+    go (Some k) f g = let q : k ≡ n = cc in refused_not_0 r c places n (f ∙ ap Some q)
 
 module _ (h : code.Host) (mem rows area mem' area' : List ℕ) (a : code-answered.Answered) (r : LineDone) (e : r ≡ ways.called h a) where
   refuses : (n : ℕ) (next : Host) → 0 < n → machine.Refuses ready view n h.node mem area (given_of a) mem' area' → LineFollowsBy next (lines.Refusal n) h mem rows area r mem' rows area'
@@ -96,7 +96,7 @@ module _ (h : code.Host) (mem rows area mem' area' : List ℕ) (a : code-answere
     long_again l = rw l s
 
     takes : (x : Replica) (l : List Item) → machine.Takes ready view x l mem area (given_of a) mem' area'
-        → LineFollowsBy (record { node = some x; draft = (host_of h mem rows).draft }) (lines.Items l) h mem rows area r mem' rows area'
+        → LineFollowsBy (record { node = Some x; draft = (host_of h mem rows).draft }) (lines.Items l) h mem rows area r mem' rows area'
     takes x l t =
         rw e
         (record {
@@ -126,7 +126,7 @@ module _ (h : code.Host) (mem rows area mem' area' : List ℕ) (a : code-answere
       where
         go : (t : Bool) → ready h.node mem ≡ t
             → machine.Follows ready view (if t then step (view h.node mem) c (places area) else Refused 2) h.node mem area (given_of a) mem' area'
-            → LineFollows (if_none (if t then some (view h.node mem) else none) then first_line (host_of h mem rows) l else λ x. line_at (host_of h mem rows) x l) h mem rows area r mem' rows area'
+            → LineFollows (if_none (if t then Some (view h.node mem) else None) then first_line (host_of h mem rows) l else λ x. line_at (host_of h mem rows) x l) h mem rows area r mem' rows area'
         go true g k = rw (later (view h.node mem)) (follows _ _ refl (step_positive _ c items) (rw q at k))
         go false g k = rw (first (host_of h mem rows)) (refuses 2 (host_of h mem rows) (omega arith) k)
 
@@ -139,7 +139,7 @@ call_line h mem rows area mem' area' a r good c e s q f = acts h mem rows area m
 pub heard_line_lem : (h : code.Host) (mem rows area mem' area' : List ℕ) (a : code-answered.Answered) (r : LineDone) (good : Bool) (peer ballot : ℕ) (with : Bool) (commit exec snap : ℕ) → r ≡ ways.called h a
     → sound h.draft mem rows ≡ true → places area ≡ items
     → (holds_rows (length rows) h.draft.count ≡ true
-    → AnswersLine good (Heartbeat peer ballot (if with then some (edits-specs.view h.draft rows) else none) commit exec snap) h.node mem area a mem' area')
+    → AnswersLine good (Heartbeat peer ballot (if with then Some (edits-specs.view h.draft rows) else None) commit exec snap) h.node mem area a mem' area')
     → LineFollows (result_by (host_of h mem rows) (only good (HeardLine peer ballot with commit exec snap))) h mem rows area r mem' rows area'
 unfolding first_line line_at sound
 heard_line_lem h mem rows area mem' area' a r good peer ballot with commit exec snap e s q f =
@@ -156,11 +156,11 @@ unfolding edit_result
 answer_positive population c e = go (refusal (grounds population c e)) refl
   where
     go : (o : Option ℕ) → refusal (grounds population c e) ≡ o → Above0 (if_none o then answers.taken (edit c e) else answers.refused)
-    go none f = tt
-    go (some n) f = not_0 (grounds population c e) n (edit_positive population c e) f
+    go None f = tt
+    go (Some n) f = not_0 (grounds population c e) n (edit_positive population c e) f
 
-module _ (h : code.Host) (mem rows area rows' : List ℕ) (d : Edited) (r : LineDone) (e : r ≡ ways.edited h d) (s : sound h.draft mem rows ≡ true) (l : length rows' ≡ length rows) where
-  gives : (x : answers.EditResult) (d : Edited) → Above0 x → Gives x d rows rows' → (q : LineDone) → q ≡ ways.edited h d
+module _ (h : code.Host) (mem rows area rows' : List ℕ) (d : Result RespondersConf Refusal) (r : LineDone) (e : r ≡ ways.edited h d) (s : sound h.draft mem rows ≡ true) (l : length rows' ≡ length rows) where
+  gives : (x : answers.EditResult) (d : Result RespondersConf Refusal) → Above0 x → Gives x d rows rows' → (q : LineDone) → q ≡ ways.edited h d
       → LineFollows (lines.edited (host_of h mem rows) x) h mem rows area q mem rows' area
   unfolding sound encode
   gives (answers.refused n) (edits.Refused k) p g q f =
@@ -202,7 +202,7 @@ module _ (h : code.Host) (mem rows area rows' : List ℕ) (d : Edited) (r : Line
       whole = (and_both (leb size (length mem)) _ s).1
 
       go : (t : Bool) → ready h.node mem ≡ t → population ≡ (if t then h.node.population else 0) → Gives (due population h.draft rows x) d rows rows'
-          → LineFollows (if_none (if t then some (view h.node mem) else none) then first_line (host_of h mem rows) (EditLine x) else λ y. line_at (host_of h mem rows) y (EditLine x)) h mem rows area r mem rows'
+          → LineFollows (if_none (if t then Some (view h.node mem) else None) then first_line (host_of h mem rows) (EditLine x) else λ y. line_at (host_of h mem rows) y (EditLine x)) h mem rows area r mem rows'
           area
       go true g u k =
           let y = is_ready h.node mem true (sym g) refl in
@@ -220,7 +220,7 @@ show_length : (c : RespondersConf) (rows : List ℕ) → c.count ≤ 64 → leng
 unfolding show spans_of edits-specs.view
 show_length c rows l = simp (length-append, length-map, length_ranges) (omega arith)
 
-module _ (h : code.Host) (mem rows area area' : List ℕ) (d : Shown) (r : LineDone) (e : r ≡ ways.shown h d) (s : sound h.draft mem rows ≡ true) (q : places area ≡ items) where
+module _ (h : code.Host) (mem rows area area' : List ℕ) (d : Result ℕ Refusal) (r : LineDone) (e : r ≡ ways.shown h d) (s : sound h.draft mem rows ≡ true) (q : places area ≡ items) where
   shown_refused : (n : ℕ) → 0 < n → d ≡ shows.Refused n → area' ≡ area → LineFollowsBy (host_of h mem rows) (lines.Refusal n) h mem rows area r mem rows area'
   shown_refused n p f g = rw (e, f) (record { refused = p; number = refl; count = refl; same_host = refl; same_mem = refl; same_rows = refl; same_area = g })
 
@@ -255,7 +255,7 @@ module _ (h : code.Host) (mem rows area area' : List ℕ) (d : Shown) (r : LineD
   show_line true population p f = go (ready h.node mem) refl p
     where
       go : (t : Bool) → ready h.node mem ≡ t → population ≡ (if t then h.node.population else 0)
-          → LineFollows (if_none (if t then some (view h.node mem) else none) then first_line (host_of h mem rows) ShowLine else λ y. line_at (host_of h mem rows) y ShowLine) h mem rows area r mem rows area'
+          → LineFollows (if_none (if t then Some (view h.node mem) else None) then first_line (host_of h mem rows) ShowLine else λ y. line_at (host_of h mem rows) y ShowLine) h mem rows area r mem rows area'
       go true g u = lists (f.well refl (λ z. omega (arith, u, is_ready h.node mem true (sym g) refl)))
       go false g u = shown_refused 2 (omega arith) (f.unmade refl u).0 (f.unmade refl u).1
 
@@ -266,7 +266,7 @@ module _ (h : code.Host) (mem rows area mem' : List ℕ) (a : code-answered.Answ
   node_refused n p f = rw (e, f.answer) (record { refused = p; number = refl; count = refl; same_host = refl; same_mem = f.same_mem; same_rows = refl; same_area = refl })
 
   begins : (t : Bool) → BeginsBy t id population quorum h.node mem a mem'
-      → LineFollows (if t then record { host = record { node = some (fresh id population quorum); draft = (host_of h mem rows).draft }; outcome = lines.Items [] } else refused_line (host_of h mem rows) 2) h mem rows area r
+      → LineFollows (if t then record { host = record { node = Some (fresh id population quorum); draft = (host_of h mem rows).draft }; outcome = lines.Items [] } else refused_line (host_of h mem rows) 2) h mem rows area r
       mem' rows area
   unfolding encode
   begins true f =
@@ -290,7 +290,7 @@ module _ (h : code.Host) (mem rows area mem' : List ℕ) (a : code-answered.Answ
   node_line good f = by_fields good (f (leb-true node_words (length mem) (and_both (leb size (length mem)) _ s).0))
     where
       go : (t : Bool) → ready h.node mem ≡ t → BeginsLine true id population quorum h.node mem a mem'
-          → LineFollows (if_none (if t then some (view h.node mem) else none) then first_line (host_of h mem rows) (NodeLine id population quorum) else λ y. line_at (host_of h mem rows) y (NodeLine id population quorum)) h
+          → LineFollows (if_none (if t then Some (view h.node mem) else None) then first_line (host_of h mem rows) (NodeLine id population quorum) else λ y. line_at (host_of h mem rows) y (NodeLine id population quorum)) h
           mem rows area r mem' rows area
       go true g f = node_refused 2 (omega arith) (f.second refl g)
       go false g f = begins (inRangeOf id population quorum) (f.first refl g)
@@ -325,17 +325,17 @@ by_name h mem rows area mem' rows' area' s f k r l g e a =
 
 -- ---- the code's own tests
 
-pub edited_taken : (h : code.Host) (d : Edited) (c : RespondersConf) → d ≡ edits.Taken c → ◌≡◌ {A = LineDone} (record { number = 0; count = 0; host = record { node = h.node; draft = c } }) (ways.edited h d)
-edited_taken h d c e = sym (ap (λ (x : Edited). ways.edited h x) e)
+pub edited_taken : (h : code.Host) (d : Result RespondersConf Refusal) (c : RespondersConf) → d ≡ edits.Taken c → ◌≡◌ {A = LineDone} (record { number = 0; count = 0; host = record { node = h.node; draft = c } }) (ways.edited h d)
+edited_taken h d c e = sym (ap (λ (x : Result RespondersConf Refusal). ways.edited h x) e)
 
-pub edited_refused : (h : code.Host) (d : Edited) (n : ℕ) (r : LineDone) → d ≡ edits.Refused n → r ≡ ways.refused h n → r ≡ ways.edited h d
-edited_refused h d n r e f = f ∙ sym (ap (λ (x : Edited). ways.edited h x) e)
+pub edited_refused : (h : code.Host) (d : Result RespondersConf Refusal) (n : ℕ) (r : LineDone) → d ≡ edits.Refused n → r ≡ ways.refused h n → r ≡ ways.edited h d
+edited_refused h d n r e f = f ∙ sym (ap (λ (x : Result RespondersConf Refusal). ways.edited h x) e)
 
-pub shown_items : (h : code.Host) (d : Shown) (n : ℕ) → d ≡ shows.Items n → ◌≡◌ {A = LineDone} (record { number = 0; count = n; host = h }) (ways.shown h d)
-shown_items h d n e = sym (ap (λ (x : Shown). ways.shown h x) e)
+pub shown_items : (h : code.Host) (d : Result ℕ Refusal) (n : ℕ) → d ≡ shows.Items n → ◌≡◌ {A = LineDone} (record { number = 0; count = n; host = h }) (ways.shown h d)
+shown_items h d n e = sym (ap (λ (x : Result ℕ Refusal). ways.shown h x) e)
 
-pub shown_number : (h : code.Host) (d : Shown) (n : ℕ) (r : LineDone) → d ≡ shows.Refused n → r ≡ ways.refused h n → r ≡ ways.shown h d
-shown_number h d n r e f = f ∙ sym (ap (λ (x : Shown). ways.shown h x) e)
+pub shown_number : (h : code.Host) (d : Result ℕ Refusal) (n : ℕ) (r : LineDone) → d ≡ shows.Refused n → r ≡ ways.refused h n → r ≡ ways.shown h d
+shown_number h d n r e f = f ∙ sym (ap (λ (x : Result ℕ Refusal). ways.shown h x) e)
 
 pub population_made : (n : Node) (mem : List ℕ) (t : Bool) → t ≡ ready n mem → t ≡ true → n.population ≡ (if ready n mem then n.population else 0)
 population_made n mem t e f = rw (sym e ∙ f)
@@ -368,11 +368,11 @@ unfolding step refusal_of
 taken_fits r c p x l e = go (refusal_of r c p) refl e
   where
     go : (o : Option ℕ) → refusal_of r c p ≡ o → step_by o (effect r c) ≡ Taken x l → length l ≤ p
-    go none f g =
+    go None f g =
         let q : (effect r c).items ≡ l = cc in
         let b = ltb-false p (length (effect r c).items) (last_none (machine-grounds.grounds r c) _ (none_apply (all_grounds r c p) f)) in
         omega (arith, b, ap length q)
-    go (some k) f g = let z : ◌≡◌ {A = ℕ} 0 1 = cc in absurd (omega arith)
+    go (Some k) f g = let z : ◌≡◌ {A = ℕ} 0 1 = cc in absurd (omega arith)
 
 abbrev Few : lines.Outcome → Type 0
 Few (lines.Refusal n) = Unit {0}
@@ -408,12 +408,12 @@ module _ (H : Host) (s : length (show H.draft) ≤ 65) where
   few_first (CallLine c) = tt
 
   few_told : (o : Option Line) → Few (result_by H o).outcome
-  few_told none = tt
-  few_told (some l) = go H.node
+  few_told None = tt
+  few_told (Some l) = go H.node
     where
       go : (n : Option Replica) → Few (if_none n then first_line H l else λ r. line_at H r l).outcome
-      go none = few_first l
-      go (some r) = few_at r l
+      go None = few_first l
+      go (Some r) = few_at r l
 
 few_heard : (h : code.Host) (mem rows : List ℕ) (s : Bytes) → sound h.draft mem rows ≡ true → Few (answer_line (host_of h mem rows) s).outcome
 unfolding answer_line sound

@@ -12,9 +12,7 @@ ghost use Rattle.line_event.specs.Event.{whole, due_in, AnswersEvent};
 
 use line_host::{Host, LineDone};
 use line_kind::Kind;
-use node::{Answered, Node};
-use roster_conf::Edited;
-use roster_show::Shown;
+use node::{Taken, Node};
 
 // What a line did, and where its text ends.
 #[derive(Clone, Copy)]
@@ -35,7 +33,7 @@ fn refused(host: Host, number: u64) -> LineDone
     }
 }
 
-fn called(host: Host, a: Answered) -> LineDone
+fn called(host: Host, a: Result<Taken, Refusal>) -> LineDone
     ensures { result ≡ ways.called host a }
 {
     let node = a.node;
@@ -48,11 +46,11 @@ fn called(host: Host, a: Answered) -> LineDone
     }
 }
 
-fn edited(host: Host, e: Edited) -> LineDone
+fn edited(host: Host, e: Result<RespondersConf, Refusal>) -> LineDone
     ensures { result ≡ ways.edited host e }
 {
     match e {
-        Edited::Taken(draft) => {
+        Ok(draft) => {
             let node = host.node;
             let next = Host { node, draft };
             LineDone {
@@ -61,20 +59,20 @@ fn edited(host: Host, e: Edited) -> LineDone
                 host: next,
             }
         }
-        Edited::Refused(number) => refused(host, number),
+        Err(number) => refused(host, number),
     }
 }
 
-fn shown(host: Host, s: Shown) -> LineDone
+fn shown(host: Host, s: Result<usize, Refusal>) -> LineDone
     ensures { result ≡ ways.shown host s }
 {
     match s {
-        Shown::Items(count) => LineDone {
+        Ok(count) => LineDone {
             number: 0,
             count,
             host,
         },
-        Shown::Refused(number) => refused(host, number),
+        Err(number) => refused(host, number),
     }
 }
 

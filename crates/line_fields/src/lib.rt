@@ -138,7 +138,7 @@ pub fn number_at(line: &[u8], at: usize) -> NumberAt
     while i < line.len() {
         let c = line[i];
         if is_digit(c) {
-            let d = words::wide(c - b'0');
+            let d = u64::from(c - b'0');
             if in_word(acc, d) {
                 acc = acc * 10 + d;
                 i += 1;

@@ -1,30 +1,31 @@
 -- Trusted: what the code's host stands for, and what a line leaves in its buffers.
 use Rattle.std.specs.Prelude.{◌≡◌, Bool, true, false, ◌&&◌, List, ℕ, ◌*◌, ◌<◌, leb, ltb, length, if◌then◌else◌}
-use Rattle.std.proofs.Math.Option.{Option, none, some}
+use Rattle.std.specs.Prelude.{Option, None, Some}
 use Rattle.words.specs.Choice.{if_none◌then◌else◌}
 use Rattle.words.specs.Writes.{writes}
 use Rattle.words.specs.Part.{Untouched}
 use Rattle.layout.specs.Layout.{roster_words}
 use Rattle.items.specs.Item.{Item, encode}
 use Rattle.roster_conf.specs.declared.RespondersConf.{RespondersConf}
-use Rattle.roster_conf.specs.declared.Edited.{Edited}
 use Rattle.roster_conf.specs.Edit.{Edit, refused}
 use Rattle.roster_conf.specs.Edits.{view as roster_of, holds_rows, Gives, Edits}
 use Rattle.bodega.specs.Replica.{Call}
 use Rattle.bodega.specs.Answers.{Refuses, Answers}
 use Rattle.node.specs.declared.Node.{Node}
-use Rattle.node.specs.declared.Answered.{Answered}
 use Rattle.node.specs.View.{size, view, ready, given_of}
 use Rattle.line_host.specs.declared.Host as code
 use Rattle.line_host.specs.declared.LineDone.{LineDone}
 use Rattle.line_host.specs.Host.{Host, Outcome, Refusal, Items, LineResult, refused_line, at_host}
 use Rattle.line_host.specs.Line.{Line}
+use Rattle.std.specs.Prelude.{Result}
+use Rattle.ids.specs.declared.Refusal.{Refusal}
+use Rattle.node.specs.declared.Taken.{Taken}
 
 -- ---- the host: a struct, the node's buffer and the draft's rows
 
 -- there is a node where a call can have made it
 abbrev pub host_of : code.Host → List ℕ → List ℕ → Host
-host_of h mem rows = record { node = if ready h.node mem then some (view h.node mem) else none; draft = roster_of h.draft rows }
+host_of h mem rows = record { node = if ready h.node mem then Some (view h.node mem) else None; draft = roster_of h.draft rows }
 
 -- buffers that are long enough, and a draft that edits can have made
 unfoldable pub sound : RespondersConf → List ℕ → List ℕ → Bool
@@ -67,11 +68,11 @@ result_by h o = if_none o then refused_line h 1 else at_host h
 
 -- ---- the lines of calls, and of the draft's edits: where the fields are not well-formed it is refused 1, else it is that call or edit
 
-pub record AnswersLine (good : Bool) (c : Call) (node : Node) (mem area : List ℕ) (a : Answered) (mem' area' : List ℕ) : Type 0 where
+pub record AnswersLine (good : Bool) (c : Call) (node : Node) (mem area : List ℕ) (a : Result Taken Refusal) (mem' area' : List ℕ) : Type 0 where
   pub bad : good ≡ false → Refuses ready view 1 node mem area (given_of a) mem' area'
   pub well : good ≡ true → Answers ready view c node mem area (given_of a) mem' area'
 
-pub record EditsLine (good : Bool) (e : Edit) (population : ℕ) (c : RespondersConf) (rows : List ℕ) (r : Edited) (rows' : List ℕ) : Type 0 where
+pub record EditsLine (good : Bool) (e : Edit) (population : ℕ) (c : RespondersConf) (rows : List ℕ) (r : Result RespondersConf Refusal) (rows' : List ℕ) : Type 0 where
   pub bad : good ≡ false → Gives (refused 1) r rows rows'
   pub well : good ≡ true → Edits e population c rows r rows'
 

@@ -1,6 +1,6 @@
 -- Trusted: document 01, "The event program": the node, the draft, and what a line answers.
 use Rattle.std.specs.Prelude.{ℕ, ◌+◌, List, [], ◌∷◌, ◌++◌, if◌then◌else◌}
-use Rattle.std.proofs.Math.Option.{Option, none, some}
+use Rattle.std.specs.Prelude.{Option, None, Some}
 use Rattle.words.specs.Text.{Bytes}
 use Rattle.words.specs.Choice.{if_none◌then◌else◌}
 use Rattle.ids.specs.Limits.{items}
@@ -22,7 +22,7 @@ pub record Host : Type 0 where
 
 -- "The draft starts as the fresh node's roster"
 abbrev pub fresh_host : Host
-fresh_host = record { node = none; draft = empty }
+fresh_host = record { node = None; draft = empty }
 
 pub data Outcome : Type 0 where
   Refusal : ℕ → Outcome
@@ -39,7 +39,7 @@ refused_line h n = record { host = h; outcome = Refusal n }
 
 abbrev pub called : Host → Step → LineResult
 called h (Refused n) = refused_line h n
-called h (Taken r l) = record { host = record { node = some r; draft = h.draft }; outcome = Items l }
+called h (Taken r l) = record { host = record { node = Some r; draft = h.draft }; outcome = Items l }
 
 abbrev pub edited : Host → edits.EditResult → LineResult
 edited h (refused n) = refused_line h n
@@ -49,13 +49,13 @@ unfoldable pub line_at : Host → Replica → Line → LineResult
 line_at h r (NodeLine id population quorum) = refused_line h 2
 line_at h r (EditLine e) = edited h (edit_result r.me.population h.draft e)
 line_at h r ShowLine = record { host = h; outcome = Items (show h.draft) }
-line_at h r (HeardLine peer ballot with commit exec snap) = called h (step r (Heartbeat peer ballot (if with then some h.draft else none) commit exec snap) items)
+line_at h r (HeardLine peer ballot with commit exec snap) = called h (step r (Heartbeat peer ballot (if with then Some h.draft else None) commit exec snap) items)
 line_at h r (CallLine c) = called h (step r c items)
 
 -- refusal 2: "population, quorum or own number is outside its range, any other line precedes an accepted node line"
 unfoldable pub first_line : Host → Line → LineResult
 first_line h (NodeLine id population quorum) =
-    if in_range id population quorum then record { host = record { node = some (fresh id population quorum); draft = h.draft }; outcome = Items [] } else refused_line h 2
+    if in_range id population quorum then record { host = record { node = Some (fresh id population quorum); draft = h.draft }; outcome = Items [] } else refused_line h 2
 first_line h (EditLine e) = refused_line h 2
 first_line h ShowLine = refused_line h 2
 first_line h (HeardLine peer ballot with commit exec snap) = refused_line h 2

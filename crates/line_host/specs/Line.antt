@@ -1,6 +1,6 @@
 -- Trusted: document 01, "The event program": the seventeen kinds of lines, each with its fields.
 use Rattle.std.specs.Prelude.{ℕ, Bool, true, false, ◌&&◌, ◌||◌, not, List, [], ◌∷◌, eqb, ltb, leb, length, get_or, drop, if◌then◌else◌}
-use Rattle.std.proofs.Math.Option.{Option, none, some}
+use Rattle.std.specs.Prelude.{Option, None, Some}
 use Rattle.words.specs.Text.{Bytes}
 use Rattle.line_fields.specs.Split.{fields_of}
 use Rattle.line_kind.specs.Kind.{kind_of}
@@ -27,7 +27,7 @@ pub data Line : Type 0 where
 
 -- a line of well-formed fields, else none
 abbrev pub only : Bool → Line → Option Line
-only good l = if good then some l else none
+only good l = if good then Some l else None
 
 -- ---- the groups of four fields of a record line: CLIENT,REQUEST,KEY,VALUE, "empty VALUE meaning a Get"
 
@@ -123,12 +123,12 @@ line_by kinds.Show fs = only (numbers 0 fs) ShowLine
 line_by kinds.Heard fs = heard_line fs
 line_by kinds.Record fs = record_line fs
 line_by (kinds.Call k) fs = only (is_call k fs) (CallLine (call_of k fs))
-line_by kinds.Unknown fs = none
+line_by kinds.Unknown fs = None
 
 abbrev pub of_fields : List Bytes → Option Line
-of_fields [] = none
+of_fields [] = None
 of_fields (name ∷ fs) = line_by (kind_of name) fs
 
 -- "exceeds 1,024 bytes"
 unfoldable pub line_of : Bytes → Option Line
-line_of s = if ltb 1024 (length s) then none else of_fields (fields_of s)
+line_of s = if ltb 1024 (length s) then None else of_fields (fields_of s)

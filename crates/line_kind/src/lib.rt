@@ -46,7 +46,7 @@ fn word_of(name: &[u8]) -> u64
     let mut w: u64 = 0;
     let mut i = 0;
     while i < name.len() {
-        w = w * 256 + words::wide(name[i]);
+        w = w * 256 + u64::from(name[i]);
         i += 1;
     }
     w

@@ -31,13 +31,15 @@ use Rattle.inst_reqs.specs.Batch.{command_at}
 use Rattle.req_batch.specs.Given.{given_from, given_at, given}
 use Rattle.bodega.specs.Answers.{Answers}
 use Rattle.node.specs.declared.Node.{Node}
-use Rattle.node.specs.declared.Answered.{Answered}
 use Rattle.node.specs.View.{view, ready, given_of}
 use Rattle.line_host.specs.Line.{are_groups, command_of, batch_of, is_record}
 use Rattle.line_host.specs.Follows.{AnswersLine}
 use Rattle.line_record.specs.declared.Group.{Group}
 use Rattle.line_record.specs.declared.Groups.{Groups}
 use Rattle.line_record.specs.Groups.{request_in, row_of, ReadsGroup, ReadsGroups}
+use Rattle.std.specs.Prelude.{Result}
+use Rattle.ids.specs.declared.Refusal.{Refusal}
+use Rattle.node.specs.declared.Taken.{Taken}
 
 -- ---- a group
 
@@ -290,11 +292,11 @@ record_by (a ∷ b ∷ fs) = by_two (is_number a) (is_number b) refl refl
     by_two false y e f = rw (le-leb 2 (length (a ∷ b ∷ fs)) (omega arith), e)
 
 module _ (node : Node) (mem area : List ℕ) where
-  refused : (c : Call) (good : Bool) (r : Answered) → good ≡ false → r ≡ record { number = 1; count = 0; node = node } → AnswersLine good c node mem area r mem area
+  refused : (c : Call) (good : Bool) (r : Result Taken Refusal) → good ≡ false → r ≡ record { number = 1; count = 0; node = node } → AnswersLine good c node mem area r mem area
   refused c good r e k = rw k (record { bad = λ _. record { number = refl; count = refl; same_node = refl; same_mem = refl; same_area = refl }; well = λ z. absurd (true≢false (sym z ∙ e)) })
 
   module _ (s : Bytes) (at : ℕ) (out xs : List ℕ) (n : NumbersAt) (a : ReadsNumbersAt s at 2 out n xs) where
-    pub line_numbers : (c : Call) (r : Answered) → not n.good ≡ true → r ≡ record { number = 1; count = 0; node = node } → AnswersLine (is_record (fields_from s at)) c node mem area r mem area
+    pub line_numbers : (c : Call) (r : Result Taken Refusal) → not n.good ≡ true → r ≡ record { number = 1; count = 0; node = node } → AnswersLine (is_record (fields_from s at)) c node mem area r mem area
     line_numbers c r e k =
         let g : eqb (leading 2 (fields_from s at)) 2 ≡ false = sym a.good ∙ not-true n.good e in
         refused c (is_record (fields_from s at)) r (record_by (fields_from s at) ∙ rw g) k
@@ -312,10 +314,10 @@ module _ (node : Node) (mem area : List ℕ) where
       by_groups : is_record (fields_from s at) ≡ are_groups (fields_from s n.next)
       by_groups = record_by (fields_from s at) ∙ rw (numbers, after)
 
-      pub line_groups : (c : Call) (r : Answered) → not batch.good ≡ true → r ≡ record { number = 1; count = 0; node = node } → AnswersLine (is_record (fields_from s at)) c node mem area r mem area
+      pub line_groups : (c : Call) (r : Result Taken Refusal) → not batch.good ≡ true → r ≡ record { number = 1; count = 0; node = node } → AnswersLine (is_record (fields_from s at)) c node mem area r mem area
       line_groups c r g k = refused c (is_record (fields_from s at)) r (by_groups ∙ sym d.good ∙ not-true batch.good g) k
 
-      pub line_whole : (r : Answered) (mem' area' : List ℕ) → not batch.good ≡ false → Answers ready view (Record (get_or xs 0 0) (get_or xs 1 0) (given (take (batch.count * 6 - 0) rows) s)) node mem area (given_of r) mem' area'
+      pub line_whole : (r : Result Taken Refusal) (mem' area' : List ℕ) → not batch.good ≡ false → Answers ready view (Record (get_or xs 0 0) (get_or xs 1 0) (given (take (batch.count * 6 - 0) rows) s)) node mem area (given_of r) mem' area'
           → AnswersLine (is_record (fields_from s at)) (Record (number_at (fields_from s at) 0) (number_at (fields_from s at) 1) (batch_of (drop 2 (fields_from s at)))) node mem area r mem' area'
       line_whole r mem' area' g w =
           let t : batch.good ≡ true = not-false batch.good g in

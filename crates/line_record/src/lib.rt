@@ -9,8 +9,8 @@ ghost use Rattle.line_host.specs.Follows.{AnswersLine};
 ghost use Rattle.line_record.specs.Groups.{row_of, ReadsGroup, ReadsGroups};
 
 use call_apply::Call;
-use ids::{Ballot, Slot};
-use node::{Answered, Node};
+use ids::{Ballot, Refusal, Slot};
+use node::{Taken, Node};
 
 // CLIENT,REQUEST,KEY,VALUE, the key by its start and length in the line.
 #[derive(Clone, Copy)]
@@ -127,18 +127,18 @@ pub fn record_line(
     groups: &mut [u64],
     line: &[u8],
     at: usize,
-) -> Answered
+) -> Result<Taken, Refusal>
     requires { (length line.now ≤ 1024) × (1542 ≤ length groups.old) }
     ensures { AnswersLine (is_record (fields_from line.now at)) (record_of (fields_from line.now at)) node mem.old area.old result mem.new area.new }
 {
     let mut a = [0u64; 2];
     let n = line_reader::numbers_from(line, at, 2, &mut a);
     if !n.good {
-        return Answered::refused(node, 1);
+        return Err(Refusal::Malformed);
     }
     let batch = groups_at(line, n.next, groups);
     if !batch.good {
-        return Answered::refused(node, 1);
+        return Err(Refusal::Malformed);
     }
     let words = batch.count * 6;
     let to = Slot(a[0]);

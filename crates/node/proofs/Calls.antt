@@ -3,15 +3,13 @@ use Rattle.std.specs.Prelude.{if◌then◌else◌}
 use mathlib.Core.Path.{◌≡◌, refl, sym, ap, ◌∙◌}
 use mathlib.Core.Bool.{Bool, true, false, not, ◌&&◌}
 use mathlib.Core.List.{List, [], ◌∷◌, ◌++◌}
-use mathlib.Core.Option.{none, some}
+use Rattle.std.specs.Prelude.{None, Some}
 use Prim.Native.Nat.{ℕ, ◌+◌, ◌≤◌, ◌<◌}
 use native.Mathlib.Omega.{arith}
 use lib.Dec.{ltb, leb, eqb}
 use lib.ListN.{length}
 use borrow.Author.Tests.{lt-ltb, le-ltb, le-leb, lt-leb, ltb-true, leb-true, not-true, not-false}
 use Rattle.ids.specs.Leader.{leader_of}
-use Rattle.ids.specs.declared.Leader.{Leader}
-use Rattle.ids.specs.declared.Leader.TheVariants.{Some}
 use Rattle.ids.specs.declared.Replica.{Replica}
 use Rattle.items.specs.Item.{Item, places, encode}
 use Rattle.words.specs.Writes.{writes}
@@ -28,6 +26,7 @@ use Rattle.ids.specs.Limits.{replicas, window}
 use Rattle.layout.specs.Layout.{node_words}
 use Rattle.node.specs.declared.Node.{Node}
 use Rattle.node.specs.View.{size, view, in_range, bars_in_range, sound, ready, lowest, leads_it}
+use Rattle.std.specs.Prelude.{Option}
 
 -- ---- tests
 
@@ -71,8 +70,8 @@ module _ (len id population quorum count start exec commit slots : ℕ) (t : Boo
     pub sound_bars : (b : Bool) → count ≤ 64 → b ≡ bars_in_range start exec commit slots → b ≡ sound len id population quorum count start exec commit slots
     sound_bars b h g = begun b (simp (le-leb count 64 h) (sym g))
 
-pub leads_by : (l : Leader) (x id : Replica) → l ≡ Some x → eqb x.0 id.0 ≡ leads_it (leader_of l) id.0
-leads_by l x id e = sym (ap (λ (k : Leader). leads_it (leader_of k) id.0) e)
+pub leads_by : (l : Option Replica) (x id : Replica) → l ≡ Some x → eqb x.0 id.0 ≡ leads_it (leader_of l) id.0
+leads_by l x id e = sym (ap (λ (k : Option Replica). leads_it (leader_of k) id.0) e)
 
 -- ---- what is known of a ready node
 
@@ -142,17 +141,17 @@ module _ (c : machine.Call) (n : Node) (m area : List ℕ) (t : Bool) (e : t ≡
   gives_2 f = rw (sym e ∙ not-true t f) (record { number = refl; count = refl; same_node = refl; same_mem = refl; same_area = refl })
 
   module _ (f : not t ≡ false) where
-    pub refused : (k : ℕ) → refusal_of (view n m) c (places area) ≡ some k → Answers ready view c n m area (record { number = k; count = 0; node = n }) m area
+    pub refused : (k : ℕ) → refusal_of (view n m) c (places area) ≡ Some k → Answers ready view c n m area (record { number = k; count = 0; node = n }) m area
     unfolding due step
     refused k g = rw (sym e ∙ not-false t f, g) (record { number = refl; count = refl; same_node = refl; same_mem = refl; same_area = refl })
 
 -- ---- grounds by number
 
-some_lowest : (gs hs : List Ground) → (lowest gs ≡ 0 → ⊥) → refusal (gs ++ hs) ≡ some (lowest gs)
+some_lowest : (gs hs : List Ground) → (lowest gs ≡ 0 → ⊥) → refusal (gs ++ hs) ≡ Some (lowest gs)
 some_lowest [] hs h = absurd (h refl)
 some_lowest (g ∷ gs) hs h = go g.applies refl (some_lowest gs hs)
   where
-    go : (b : Bool) → g.applies ≡ b → ((lowest gs ≡ 0 → ⊥) → refusal (gs ++ hs) ≡ some (lowest gs)) → refusal (g ∷ (gs ++ hs)) ≡ some (lowest (g ∷ gs))
+    go : (b : Bool) → g.applies ≡ b → ((lowest gs ≡ 0 → ⊥) → refusal (gs ++ hs) ≡ Some (lowest gs)) → refusal (g ∷ (gs ++ hs)) ≡ Some (lowest (g ∷ gs))
     go true f ih = rw f
     go false f ih = rw f (ih (λ z. h (rw f z)))
 
@@ -178,15 +177,15 @@ module _ (c : machine.Call) (n : Node) (m : List ℕ) where
     unfolding refusal_of
     refused_by h =
         refused c n m area t e f k
-        (some_lowest (grounds (view n m) c) (20 when ltb (places area) (length (effect (view n m) c).items) or []) (λ z. h (g ∙ z)) ∙ ap some (sym g))
+        (some_lowest (grounds (view n m) c) (20 when ltb (places area) (length (effect (view n m) c).items) or []) (λ z. h (g ∙ z)) ∙ ap Some (sym g))
 
     module _ (z : k ≡ 0) where
-      last_ground : refusal_of (view n m) c (places area) ≡ (if ltb (places area) (length (effect (view n m) c).items) then some 20 else none)
+      last_ground : refusal_of (view n m) c (places area) ≡ (if ltb (places area) (length (effect (view n m) c).items) then Some 20 else None)
       unfolding refusal_of
       last_ground = none_refuse (grounds (view n m) c) (20 when ltb (places area) (length (effect (view n m) c).items) or []) (none_applies k g z)
 
       pub few_places : places area < length (effect (view n m) c).items → Answers ready view c n m area (record { number = 20; count = 0; node = n }) m area
-      few_places h = refused c n m area t e f 20 (last_ground ∙ ap (λ (x : Bool). if x then some 20 else none) (lt-ltb (places area) (length (effect (view n m) c).items) h))
+      few_places h = refused c n m area t e f 20 (last_ground ∙ ap (λ (x : Bool). if x then Some 20 else None) (lt-ltb (places area) (length (effect (view n m) c).items) h))
 
       pub taken_with : (r : machine.Replica) (l : List Item) (d : Node) (m' area' : List ℕ) → effect (view n m) c ≡ machine.done r l → length l ≤ places area → view d m' ≡ r
           → area' ≡ writes area 0 (encode l) → length m' ≡ length m → Untouched node_words m m' → ready d m' ≡ true

@@ -19,13 +19,13 @@ use Rattle.peer_accept_bar.specs.Pairs.{pairs_of}
 use Rattle.insts.specs.Slots.{insts_of}
 use Rattle.node.specs.Begins.{Reset, Gives}
 use Rattle.node.specs.declared.Node.{Node}
-use Rattle.node.specs.declared.Fresh.TheVariants.{Made, Refused}
 use Rattle.bodega.specs.Replica.{pair, fresh_pair, fresh}
 use Rattle.roster_conf.specs.Conf.{empty}
 use Rattle.roster_conf.specs.Edits.{view as roster_of}
 use Rattle.words.specs.Tab.{tab, words_from, tab_ext}
 use Rattle.words.proofs.Tests.{and_both}
 use Rattle.layout.specs.Layout.{replica_places, written_places, bars_at, written_row, written_words, roster_words, pair_words, execs_at, rows_at, written_at, node_words}
+use Rattle.std.specs.Prelude.{Ok, Err}
 
 -- ---- tests
 
@@ -179,7 +179,7 @@ fresh_execs : (n : ℕ) → n ≤ replicas → words_from n (replicate replica_p
 fresh_execs n h = tab_ext (λ i. get_or (replicate replica_places 0) i 0) (λ i. 0) 0 n (λ j a b. get_or-replicate {A = ℕ} replicas j 0 0 (omega arith)) ∙ tab_const 0 0 n
 
 module _ (id population quorum : ℕ) (s : List ℕ) (t : Bool) (e : t ≡ leb size (length s) && in_range id population quorum) where
-  pub not_begun : not t ≡ true → Gives (leb size (length s) && in_range id population quorum) id population quorum s (Refused 2) s
+  pub not_begun : not t ≡ true → Gives (leb size (length s) && in_range id population quorum) id population quorum s (Err 2) s
   not_begun f = rw (sym e ∙ not-true t f) (refl, refl)
 
   module _ (f : not t ≡ false) where
@@ -219,7 +219,7 @@ module _ (id population quorum : ℕ) (s : List ℕ) (t : Bool) (e : t ≡ leb s
         pub none : n.slots ≡ 0
 
       pub begun : (n : Node) → Zero n → ((rows : List ℕ) → roster_of n.bodega_conf rows ≡ empty) × (n.bodega_conf.count ≤ 64)
-          → Gives (leb size (length s) && in_range id population quorum) id population quorum s (Made n) s'
+          → Gives (leb size (length s) && in_range id population quorum) id population quorum s (Ok n) s'
       unfolding view fresh ready insts_of
       begun n z c = rw (sym e ∙ not-false t f) (record { replica = replica; readied = readied; beyond = r.rest })
         where

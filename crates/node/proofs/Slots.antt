@@ -2,7 +2,7 @@
 -- nothing.
 use mathlib.Core.Path.{◌≡◌, ap, ◌∙◌}
 use mathlib.Core.List.{List}
-use mathlib.Core.Option.{none, some}
+use Rattle.std.specs.Prelude.{None, Some}
 use Prim.Native.Nat.{ℕ, ◌+◌, ◌-◌, ◌%◌, ◌≤◌, ◌<◌}
 use native.Mathlib.Omega.{arith}
 use borrow.Author.Tests.{lt-ltb, le-ltb}
@@ -16,22 +16,22 @@ use Rattle.node.specs.declared.Node.{Node}
 use Rattle.node.specs.View.{view}
 
 module _ (n : Node) (m : List ℕ) (slot : ℕ) where
-  pub not_below : slot < n.start_slot.0 → machine.inst_at (view n m) slot ≡ none
+  pub not_below : slot < n.start_slot.0 → machine.inst_at (view n m) slot ≡ None
   unfolding view machine.inst_at
   not_below h = rw (lt-ltb slot n.start_slot.0 h)
 
   module _ (h : n.start_slot.0 ≤ slot) where
-    pub not_past : n.start_slot.0 + n.slots ≤ slot → machine.inst_at (view n m) slot ≡ none
+    pub not_past : n.start_slot.0 + n.slots ≤ slot → machine.inst_at (view n m) slot ≡ None
     unfolding view machine.inst_at
     not_past g = rw (le-ltb slot n.start_slot.0 h) (inst_none n.start_slot.0 n.slots (slot - n.start_slot.0) (part m slots_at slot_words) (omega arith))
 
     module _ (g : slot < n.start_slot.0 + n.slots) where
-      pub held_at_lem : machine.inst_at (view n m) slot ≡ some (inst_in (part m slots_at slot_words) (slot % slot_places))
+      pub held_at_lem : machine.inst_at (view n m) slot ≡ Some (inst_in (part m slots_at slot_words) (slot % slot_places))
       unfolding view machine.inst_at
       held_at_lem =
           let e : n.start_slot.0 + (slot - n.start_slot.0) ≡ slot = omega arith in
           rw (le-ltb slot n.start_slot.0 h) (inst_at_lem n.start_slot.0 n.slots (slot - n.start_slot.0) (part m slots_at slot_words) (omega arith)
-          ∙ ap (λ (j : ℕ). some (inst_in (part m slots_at slot_words) (j % slot_places))) e)
+          ∙ ap (λ (j : ℕ). Some (inst_in (part m slots_at slot_words) (j % slot_places))) e)
 
       pub set_at : {t : List ℕ} {x : Short} {a : List machine.Request} {l : List machine.ReadReq} → n.slots ≤ slot_places → Puts (part m slots_at slot_words) (slot % slot_places) x a l t
           → machine.with_insts (insts_of n.start_slot.0 n.slots t) (view n m) ≡ machine.set_inst slot (inst_of x a l) (view n m)

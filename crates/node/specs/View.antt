@@ -1,7 +1,7 @@
 -- Trusted: the replica that a node and its lent buffer stand for, on any words. The buffer: guard pairs, the peers'
 -- exec bars, the roster's rows, the slots, the written keys.
-use Rattle.std.specs.Prelude.{Bool, false, ◌&&◌, List, [], ◌∷◌, ℕ, ◌+◌, ltb, leb, eqb, length, if◌then◌else◌}
-use Rattle.std.proofs.Math.Option.{Option}
+use Rattle.std.specs.Prelude.{Bool, false, ◌&&◌, List, [], ◌∷◌, ℕ, ◌+◌, ltb, leb, eqb, length, if◌then◌else◌, Result, Ok, Err}
+use Rattle.std.specs.Prelude.{Option}
 use Rattle.words.specs.Choice.{if_none◌then◌else◌}
 use Rattle.words.specs.Tab.{words_from}
 use Rattle.words.specs.Part.{part}
@@ -15,7 +15,9 @@ use Rattle.peer_accept_bar.specs.Pairs.{pairs_of}
 use Rattle.insts.specs.Slots.{insts_of}
 use Rattle.highest_slot.specs.Written.{written_of}
 use Rattle.node.specs.declared.Node.{Node}
-use Rattle.node.specs.declared.Answered.{Answered}
+use Rattle.node.specs.declared.Taken.{Taken}
+use Rattle.ids.specs.declared.Refusal.{Refusal}
+use Rattle.ids.specs.Refusal.{number_of}
 
 abbrev pub size : ℕ
 size = node_words
@@ -53,8 +55,14 @@ unfoldable pub ready : Node → List ℕ → Bool
 ready n m =
     sound (length m) n.id.0 n.population n.quorum n.bodega_conf.count n.start_slot.0 n.exec_bar.0 n.commit_bar.0 n.slots
 
-abbrev pub given_of : Answered → Given Node
-given_of r = record { number = r.number; count = r.count; node = r.node }
+-- what a call gives that is taken
+abbrev pub taken_of : Taken → Given Node
+taken_of t = record { number = 0; count = t.count; node = t.node }
+
+-- what a call answers that was handed n: where it is refused, the number, no items, and n as it was
+abbrev pub given_of : Node → Result Taken Refusal → Given Node
+given_of n (Ok t) = taken_of t
+given_of n (Err r) = record { number = number_of r; count = 0; node = n }
 
 -- ---- what the code tests
 

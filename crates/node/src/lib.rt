@@ -9,7 +9,7 @@ ghost use Rattle.layout.specs.Layout.{node_words};
 ghost use Rattle.bodega.specs.Replica.{is_leader};
 ghost use Rattle.node.specs.Begins.{Reset, Begins};
 
-use ids::{Ballot, Leader, Replica, Slot};
+use ids::{Ballot, Refusal, Replica, Slot};
 use roster_conf::RespondersConf;
 
 #[derive(Clone, Copy)]
@@ -30,40 +30,12 @@ pub struct Node {
     pub slots: usize,
 }
 
-// 0: taken, with this many items; else the number of the refusal.
+// What a call gives that is taken: the node after it, and how many items it sends. A call that is refused leaves the node
+// as it was.
 #[derive(Clone, Copy)]
-pub struct Answered {
-    pub number: u64,
-    pub count: usize,
+pub struct Taken {
     pub node: Node,
-}
-
-impl Answered {
-    pub fn refused(node: Node, number: u64) -> Answered
-        ensures { result ≡ record { number = number; count = 0; node = node } }
-    {
-        Answered {
-            number,
-            count: 0,
-            node,
-        }
-    }
-
-    pub fn taken(node: Node, count: usize) -> Answered
-        ensures { result ≡ record { number = 0; count = count; node = node } }
-    {
-        Answered {
-            number: 0,
-            count,
-            node,
-        }
-    }
-}
-
-#[derive(Clone, Copy)]
-pub enum Fresh {
-    Made(Node),
-    Refused(u64),
+    pub count: usize,
 }
 
 fn in_range(id: Replica, population: u8, quorum: u8) -> bool
@@ -93,7 +65,7 @@ fn begins(len: usize, id: Replica, population: u8, quorum: u8) -> bool
 fn bars_in_range(start: Slot, exec: Slot, commit: Slot, slots: usize) -> bool
     ensures { result ≡ bars_in_range start.0 exec.0 commit.0 slots }
 {
-    if Slot::TOP < start.0 {
+    if Slot::TOP < start {
         return false;
     }
     if exec.0 < start.0 {
@@ -148,10 +120,10 @@ pub fn is_ready(node: Node, mem: &[u64]) -> bool
 }
 
 // Whether a roster's leader is this replica.
-pub fn leads(leader: Leader, id: Replica) -> bool
+pub fn leads(leader: Option<Replica>, id: Replica) -> bool
     ensures { result ≡ leads_it (leader_of leader) id.0 }
 {
-    let Leader::Some(l) = leader else {
+    let Some(l) = leader else {
         return false;
     };
     l.0 == id.0
@@ -201,18 +173,18 @@ impl Node {
     pub const KEYS: usize = highest_slot::KEYS;
 
     // The starting state: ballot 0, no leader, no slots.
-    pub fn fresh(mem: &mut [u64], id: Replica, population: u8, quorum: u8) -> Fresh
+    pub fn fresh(mem: &mut [u64], id: Replica, population: u8, quorum: u8) -> Result<Node, Refusal>
         ensures { Begins id.0 population quorum mem.old result mem.new }
     {
         if !begins(mem.len(), id, population, quorum) {
-            return Fresh::Refused(2);
+            return Err(Refusal::NotReady);
         }
         reset(mem);
         let bodega_conf = RespondersConf::empty();
         let none = Ballot(0);
         let zero = Slot(0);
-        let beyond = Slot(Slot::BEYOND);
-        Fresh::Made(Node {
+        let beyond = Slot::BEYOND;
+        Ok(Node {
             id,
             population,
             quorum,

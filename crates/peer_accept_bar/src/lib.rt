@@ -51,7 +51,7 @@ fn counted_bar(ballot: Ballot, number: Ballot, bar: Slot) -> Slot
     if number.0 == ballot.0 {
         return bar;
     }
-    Slot(Slot::BEYOND)
+    Slot::BEYOND
 }
 
 // `update_peer_accept_max`: the quorum-th smallest bar, counting only those on the ballot.

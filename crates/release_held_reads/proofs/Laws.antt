@@ -2,7 +2,7 @@
 use mathlib.Core.Path.{◌≡◌, refl, sym, ap, ◌∙◌}
 use mathlib.Core.Bool.{Bool, true, false, not}
 use mathlib.Core.List.{List, [], ◌∷◌, ◌++◌, map}
-use mathlib.Core.Option.{Option, none, some}
+use Rattle.std.specs.Prelude.{Option, None, Some}
 use Prim.Native.Nat.{ℕ, ◌+◌, ◌*◌, ◌≤◌, ◌<◌}
 use native.Mathlib.Nat.{zero-add}
 use native.Mathlib.Omega.{arith}
@@ -22,12 +22,8 @@ use Rattle.bodega.specs.Localread.{is_bound, last_put}
 use Rattle.inst_cell.specs.Cell.{Notices, Short, cell_of, book_of}
 use Rattle.inst_cell.specs.declared.Cell.{Cell}
 use Rattle.inst_cell.specs.declared.NoticeBook.{NoticeBook}
-use Rattle.inst_cell.specs.declared.ReplicaBk.{ReplicaBk}
-use Rattle.inst_cell.specs.declared.ReplicaBk.TheVariants as replica
 use Rattle.inst_cell.specs.declared.Status.TheVariants.{Null, Preparing, Accepting, Committed, Executed}
 use Rattle.inst_reqs.specs.Batch.{requests_of, value_in}
-use Rattle.inst_reqs.specs.declared.Latest.{Latest}
-use Rattle.inst_reqs.specs.declared.Latest.TheVariants as latest
 use Rattle.inst_holding.specs.Held.{read_at}
 use Rattle.inst_holding.proofs.Laws.{reads_are}
 use Rattle.insts.specs.Slots.{batch_start, reads_start, short_at, batch_at, reads_at, inst_of, inst_in, Puts}
@@ -35,7 +31,7 @@ use Rattle.release_held_reads.specs.Release.{answer_to, holding_of, answers_of, 
 
 -- ---- whether the write is bound to commit
 
-pub quorum_is : (bk : ReplicaBk) (b : NoticeBook) (q w n : ℕ) → bk ≡ replica.Some b → w ≡ q → n ≡ count b.notices
+pub quorum_is : (bk : Option NoticeBook) (b : NoticeBook) (q w n : ℕ) → bk ≡ Some b → w ≡ q → n ≡ count b.notices
     → leb w n ≡ (if_none book_of bk then false else λ x. leb q (count x.notices))
 quorum_is bk b q w n e f g = rw (e, f, g)
 
@@ -56,9 +52,9 @@ module _ (cell : Cell) (quorum : ℕ) (reqs : List machine.Request) (reads : Lis
   accepting_by_lem r e f = rw e (f ∙ go (book_of cell.replica_bk))
     where
       go : (o : Option Notices) → (if_none o then false else λ b. leb quorum (count b.notices))
-          ≡ (if_none (if_none o then none else λ b. some (record { bal = b.bal; notices = b.notices; holding = reads })) then false else λ (b : machine.Book). leb quorum (count b.notices))
-      go none = refl
-      go (some b) = refl
+          ≡ (if_none (if_none o then None else λ b. Some (record { bal = b.bal; notices = b.notices; holding = reads })) then false else λ (b : machine.Book). leb quorum (count b.notices))
+      go None = refl
+      go (Some b) = refl
 
   pub committed_bound : cell.status ≡ Committed → Bound true
   unfolding is_bound
@@ -74,11 +70,11 @@ module _ (bound : Bool) (leader : Option ℕ) (reqs : List machine.Request) (q :
   pub open_retry : not bound ≡ true → Retry q.client q.request leader ≡ answer_to bound leader reqs q
   open_retry h = rw h
 
-  module _ (h : not bound ≡ false) (o : Latest) (e : value_in o ≡ last_put q.key reqs) where
-    pub put_value : (v : ℕ) → o ≡ latest.Value v → Value q.client q.request v ≡ answer_to bound leader reqs q
+  module _ (h : not bound ≡ false) (o : Option ℕ) (e : value_in o ≡ last_put q.key reqs) where
+    pub put_value : (v : ℕ) → o ≡ Some v → Value q.client q.request v ≡ answer_to bound leader reqs q
     put_value v f = rw (h, ← e, f)
 
-    pub put_retry : o ≡ latest.Nothing → Retry q.client q.request leader ≡ answer_to bound leader reqs q
+    pub put_retry : o ≡ None → Retry q.client q.request leader ≡ answer_to bound leader reqs q
     put_retry f = rw (h, ← e, f)
 
 -- ---- items from a place on, one by one
@@ -113,18 +109,18 @@ module _ (s : List ℕ) (c : ℕ) (cell : Cell) (e : cell_of cell ≡ short_at s
   book_here : (short_at s c).replica_bk ≡ book_of cell.replica_bk
   book_here = sym (ap (λ (x : Short). x.replica_bk) e)
 
-  pub holds_none : cell.replica_bk ≡ replica.None → holding_of (inst_in s c) ≡ []
+  pub holds_none : cell.replica_bk ≡ None → holding_of (inst_in s c) ≡ []
   unfolding inst_in
   holds_none f = rw (book_here, f)
 
-  pub holds_some : (b : NoticeBook) → cell.replica_bk ≡ replica.Some b → holding_of (inst_in s c) ≡ reads_at s c
+  pub holds_some : (b : NoticeBook) → cell.replica_bk ≡ Some b → holding_of (inst_in s c) ≡ reads_at s c
   unfolding inst_in
   holds_some b f = rw (book_here, f)
 
-  pub holding_none : cell.replica_bk ≡ replica.None → (0 ≡ length (holding_of (inst_in s c))) × (0 ≤ held_places)
+  pub holding_none : cell.replica_bk ≡ None → (0 ≡ length (holding_of (inst_in s c))) × (0 ≤ held_places)
   holding_none f = (rw (holds_none f), omega arith)
 
-  pub holding_some : (b : NoticeBook) (n : ℕ) → cell.replica_bk ≡ replica.Some b → (n ≡ length (reads_at s c)) × (n ≤ held_places)
+  pub holding_some : (b : NoticeBook) (n : ℕ) → cell.replica_bk ≡ Some b → (n ≡ length (reads_at s c)) × (n ≤ held_places)
       → (n ≡ length (holding_of (inst_in s c))) × (n ≤ held_places)
   holding_some b n f h = (h.0 ∙ ap (λ (l : List machine.ReadReq). length l) (sym (holds_some b f)), h.1)
 
@@ -142,11 +138,11 @@ module _ (quorum : ℕ) (leader : Option ℕ) (s area : List ℕ) (c place n : �
   unfolding inst_in reads_at
   answers_are = ap (λ (x : Bool). map (answer_to x leader (batch_at s c)) (holding_of (inst_in s c))) bound_is ∙ go cell.replica_bk refl
     where
-      go : (bk : ReplicaBk) → cell.replica_bk ≡ bk → map (answer_to bound leader (batch_at s c)) (holding_of (inst_in s c)) ≡ tab answer_at 0 n
-      go replica.None f =
+      go : (bk : Option NoticeBook) → cell.replica_bk ≡ bk → map (answer_to bound leader (batch_at s c)) (holding_of (inst_in s c)) ≡ tab answer_at 0 n
+      go None f =
           let z : n ≡ 0 = h.0 ∙ ap (λ (l : List machine.ReadReq). length l) (holds_none s c cell e f) in
           ap (map (answer_to bound leader (batch_at s c))) (holds_none s c cell e f) ∙ ap (tab answer_at 0) (sym z)
-      go (replica.Some k) f =
+      go (Some k) f =
           let q = holds_some s c cell e k f in
           ap (map (answer_to bound leader (batch_at s c))) (q ∙ reads_are (part s (reads_start c) held_words) n (h.0 ∙ ap (λ (l : List machine.ReadReq). length l) q))
           ∙ map_tab (answer_to bound leader (batch_at s c)) (read_at (part s (reads_start c) held_words)) 0 n

@@ -1,7 +1,7 @@
 -- Bridge: `release_held_read_reqs` for one slot, over what it reads of the replica: quorum, leader and the slot's
 -- instance; tied to `release_held_read_reqs` by proofs/Machine.
 use Rattle.std.specs.Prelude.{◌≡◌, Bool, not, List, [], map, ℕ, ◌*◌, length, if◌then◌else◌}
-use Rattle.std.proofs.Math.Option.{Option}
+use Rattle.std.specs.Prelude.{Option}
 use Rattle.words.specs.Choice.{if_none◌then◌else◌}
 use Rattle.words.specs.Writes.{writes}
 use Rattle.items.specs.Item.{Item, Value, Retry, encode}

@@ -18,20 +18,18 @@ ghost use Rattle.inst_holding.specs.Held.{read_of, read_at};
 ghost use Rattle.insts.specs.Slots.{inst_of, inst_in};
 ghost use Rattle.release_held_reads.specs.Release.{answer_to, holding_of, Releases};
 
-use ids::Leader;
-use inst_cell::{Cell, ReplicaBk, Status};
+use inst_cell::{Cell, Status};
 use inst_holding::ReadReq;
-use inst_reqs::Latest;
 use items::Item;
 
 // Whether a quorum has sent notices.
-pub fn has_quorum(book: ReplicaBk, quorum: u8) -> bool
+pub fn has_quorum(book: Option<NoticeBook>, quorum: u8) -> bool
     ensures { result ≡ (if_none book_of book then false else λ b. leb quorum (count b.notices)) }
 {
-    let ReplicaBk::Some(b) = book else {
+    let Some(b) = book else {
         return false;
     };
-    words::wide(quorum) <= bitmap::count(b.notices)
+    u64::from(quorum) <= bitmap::count(b.notices)
 }
 
 // Committed or later, or Accepting with a quorum of notices.
@@ -50,7 +48,7 @@ pub fn is_bound(cell: Cell, quorum: u8) -> bool
 }
 
 // What a read gets that the slot of this batch held.
-fn answer_to(bound: bool, leader: Leader, batch: &[u64], read: ReadReq) -> Item
+fn answer_to(bound: bool, leader: Option<Replica>, batch: &[u64], read: ReadReq) -> Item
     requires { batch_words ≤ length batch.now }
     ensures { item_of result ≡ answer_to bound (leader_of leader) (requests_of batch.now) (read_of read) }
 {
@@ -64,12 +62,12 @@ fn answer_to(bound: bool, leader: Leader, batch: &[u64], read: ReadReq) -> Item
     let key = read.key;
     let put = inst_reqs::last_put(batch, key);
     match put {
-        Latest::Value(value) => Item::Value {
+        Some(value) => Item::Value {
             client: read.client,
             request: read.request,
             value,
         },
-        Latest::Nothing => Item::Retry {
+        None => Item::Retry {
             client: read.client,
             request: read.request,
             leader,
@@ -80,7 +78,7 @@ fn answer_to(bound: bool, leader: Leader, batch: &[u64], read: ReadReq) -> Item
 // The first n reads, in order, from a place of the area on.
 fn put_answers(
     bound: bool,
-    leader: Leader,
+    leader: Option<Replica>,
     batch: &[u64],
     reads: &[u64],
     n: usize,
@@ -106,7 +104,7 @@ pub fn holding(s: &[u64], c: usize) -> usize
 {
     let cell = insts::load(s, c);
     let book = cell.replica_bk;
-    let ReplicaBk::Some(_b) = book else {
+    let Some(_b) = book else {
         return 0;
     };
     insts::count_reads(s, c)
@@ -118,7 +116,7 @@ pub fn release(
     s: &mut [u64],
     c: usize,
     quorum: u8,
-    leader: Leader,
+    leader: Option<Replica>,
     area: &mut [u64],
     place: usize,
 ) -> usize

@@ -3,7 +3,7 @@
 use mathlib.Core.Path.{◌≡◌, refl, sym, ap, ◌∙◌}
 use mathlib.Core.Bool.{Bool, true, false, not, ◌&&◌, ◌||◌, and-false, and-true}
 use mathlib.Core.List.{List, ◌∷◌, []}
-use mathlib.Core.Option.{some}
+use Rattle.std.specs.Prelude.{Some}
 use Prim.Native.Nat.{ℕ, suc, ◌+◌, ◌*◌, ◌≤◌, ◌<◌}
 use native.Mathlib.Omega.{arith}
 use lib.Dec.{ltb, leb, eqb}
@@ -11,8 +11,6 @@ use lib.ListN.{length, take}
 use borrow.Author.Tests.{ltb-true, ltb-false, le-leb, lt-leb, not-true, not-false}
 use Rattle.words.specs.Writes.{writes}
 use Rattle.ids.specs.declared.Replica.{Replica}
-use Rattle.ids.specs.declared.Leader.{Leader}
-use Rattle.ids.specs.declared.Leader.TheVariants.{None, Some}
 use Rattle.ids.specs.Leader.{leader_of}
 use Rattle.layout.specs.Layout.{roster_row, roster_words}
 use Rattle.bitmap.specs.Bitmap.{fits}
@@ -24,14 +22,15 @@ use Rattle.roster_conf.specs.declared.RespondersConf.{RespondersConf}
 use Rattle.roster_conf.specs.Conf.{same, same_leader, same_range, same_ranges}
 use Rattle.roster_conf.specs.Edits.{view}
 use Rattle.bodega.specs.Grounds.{any, unformed, foreign_leader, foreign_mask}
+use Rattle.std.specs.Prelude.{Option, None}
 
 -- ---- the leaders
 
-pub leader_is : (l : Leader) (x : Replica) (k : ℕ) → l ≡ Some x → eqb k x.0 ≡ same_leader (some k) (leader_of l)
-leader_is l x k e = sym (ap (λ (y : Leader). same_leader (some k) (leader_of y)) e)
+pub leader_is : (l : Option Replica) (x : Replica) (k : ℕ) → l ≡ Some x → eqb k x.0 ≡ same_leader (Some k) (leader_of l)
+leader_is l x k e = sym (ap (λ (y : Option Replica). same_leader (Some k) (leader_of y)) e)
 
-pub leader_of_lem : (a b : Leader) (x : Replica) (t : Bool) → a ≡ Some x → t ≡ same_leader (some x.0) (leader_of b) → t ≡ same_leader (leader_of a) (leader_of b)
-leader_of_lem a b x t e f = f ∙ sym (ap (λ (y : Leader). same_leader (leader_of y) (leader_of b)) e)
+pub leader_of_lem : (a b : Option Replica) (x : Replica) (t : Bool) → a ≡ Some x → t ≡ same_leader (Some x.0) (leader_of b) → t ≡ same_leader (leader_of a) (leader_of b)
+leader_of_lem a b x t e f = f ∙ sym (ap (λ (y : Option Replica). same_leader (leader_of y) (leader_of b)) e)
 
 -- ---- two rows: p and q are what was read, x and y the ranges
 
@@ -143,17 +142,17 @@ module _ (s : List ℕ) (n i : ℕ) (m : Bool) where
   unfolding is_canon
   canon_end h g = sym (ap is_canon (from_none s i n h)) ∙ g
 
-pub unformed_is : (c : RespondersConf) (s : List ℕ) (t : Bool) → c.count ≤ 64 → t ≡ is_canon (ranges_of s c.count) → not t ≡ unformed (some (view c s))
+pub unformed_is : (c : RespondersConf) (s : List ℕ) (t : Bool) → c.count ≤ 64 → t ≡ is_canon (ranges_of s c.count) → not t ≡ unformed (Some (view c s))
 unfolding view
 unformed_is c s t h e = rw (length_ranges s c.count, le-leb c.count 64 h, ← e) (ap not (sym (and-true t)))
 
 -- ---- who is not there
 
-pub no_leader : (p : ℕ) (c : RespondersConf) → c.leader ≡ None → (rows : List ℕ) → false ≡ foreign_leader p (some (view c rows))
+pub no_leader : (p : ℕ) (c : RespondersConf) → c.leader ≡ None → (rows : List ℕ) → false ≡ foreign_leader p (Some (view c rows))
 unfolding view
 no_leader p c e rows = sym (rw e)
 
-pub a_leader : (p : ℕ) (c : RespondersConf) (x : Replica) → c.leader ≡ Some x → (rows : List ℕ) → leb p x.0 ≡ foreign_leader p (some (view c rows))
+pub a_leader : (p : ℕ) (c : RespondersConf) (x : Replica) → c.leader ≡ Some x → (rows : List ℕ) → leb p x.0 ≡ foreign_leader p (Some (view c rows))
 unfolding view
 a_leader p c x e rows = sym (rw e)
 
@@ -182,11 +181,11 @@ module _ (s : List ℕ) (n i p : ℕ) (m : Bool) where
   any_end h g = sym (rw (from_none s i n h)) ∙ g
 
 module _ (p : ℕ) (c : RespondersConf) (s : List ℕ) (t : Bool) (e : t ≡ any (misfit p) (ranges_of s c.count)) where
-  pub row_misfits : t ≡ true → true ≡ foreign_mask p (some (view c s))
+  pub row_misfits : t ≡ true → true ≡ foreign_mask p (Some (view c s))
   unfolding view
   row_misfits f = sym (simp (sym e ∙ f))
 
-  pub rows_fit : (u : Bool) → t ≡ false → u ≡ fits c.default p → not u ≡ foreign_mask p (some (view c s))
+  pub rows_fit : (u : Bool) → t ≡ false → u ≡ fits c.default p → not u ≡ foreign_mask p (Some (view c s))
   unfolding view
   rows_fit u f g = ap not g ∙ sym (simp (sym e ∙ f))
 

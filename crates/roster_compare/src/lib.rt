@@ -3,7 +3,7 @@
 #![tactic(auto)]
 
 ghost use Rattle.std.specs.Prelude.{◌≡◌, ◌&&◌, not, List, [], ◌∷◌, ℕ, ◌+◌, ◌*◌, ◌≤◌, ◌<◌, ltb, length, take};
-ghost use Rattle.std.proofs.Math.Option.{none, some};
+ghost use Rattle.std.specs.Prelude.{None, Some};
 ghost use Rattle.words.specs.Writes.{writes};
 ghost use Rattle.ids.specs.Leader.{leader_of};
 ghost use Rattle.layout.specs.Layout.{roster_row, roster_words};
@@ -16,32 +16,32 @@ ghost use Rattle.roster_conf.specs.Edits.{view as roster_of};
 ghost use Rattle.bodega.specs.Grounds.{any, unformed, foreign_leader, foreign_mask};
 ghost use Rattle.bodega.specs.Heartbeat.{from_proposer};
 
-use ids::{Ballot, Leader, Replica};
+use ids::{Ballot, Replica};
 use roster_conf::RespondersConf;
 use roster_map::Row;
 
-fn is_none(leader: Leader) -> bool
-    ensures { result ≡ same_leader none (leader_of leader) }
+fn is_none(leader: Option<Replica>) -> bool
+    ensures { result ≡ same_leader None (leader_of leader) }
 {
-    let Leader::Some(_) = leader else {
+    let Some(_) = leader else {
         return true;
     };
     false
 }
 
-fn is_replica(leader: Leader, id: Replica) -> bool
-    ensures { result ≡ same_leader (some id.0) (leader_of leader) }
+fn is_replica(leader: Option<Replica>, id: Replica) -> bool
+    ensures { result ≡ same_leader (Some id.0) (leader_of leader) }
 {
-    let Leader::Some(l) = leader else {
+    let Some(l) = leader else {
         return false;
     };
     id.0 == l.0
 }
 
-fn same_leader(a: Leader, b: Leader) -> bool
+fn same_leader(a: Option<Replica>, b: Option<Replica>) -> bool
     ensures { result ≡ same_leader (leader_of a) (leader_of b) }
 {
-    let Leader::Some(l) = a else {
+    let Some(l) = a else {
         return is_none(b);
     };
     is_replica(b, l)
@@ -53,10 +53,10 @@ fn same_row(crows: &[u64], drows: &[u64], i: usize) -> bool
 {
     let x = roster_map::get_row(crows, i);
     let y = roster_map::get_row(drows, i);
-    if !inty::eq(x.start, y.start) {
+    if x.start != y.start {
         return false;
     }
-    if !inty::eq(x.end, y.end) {
+    if x.end != y.end {
         return false;
     }
     x.mask == y.mask
@@ -99,7 +99,7 @@ pub fn same(c: RespondersConf, crows: &[u64], d: RespondersConf, drows: &[u64]) 
 fn is_apart(x: Row, y: Row) -> bool
     ensures { result ≡ ltb (range_of x).to (range_of y).from && not (goes_on (range_of x) (range_of y)) }
 {
-    if !inty::lt(x.end, y.start) {
+    if x.end >= y.start {
         return false;
     }
     !roster_map::goes_on(x, y)
@@ -111,7 +111,7 @@ fn heads(rows: &[u64], i: usize, n: usize) -> bool
     ensures { (n ≤ i + 1 → result ≡ heads (range_at rows.now (i * roster_row)) []) × (i + 1 < n → result ≡ heads (range_at rows.now (i * roster_row)) (range_at rows.now ((i + 1) * roster_row) ∷ [])) }
 {
     let row = roster_map::get_row(rows, i);
-    if inty::lt(row.end, row.start) {
+    if row.end < row.start {
         return false;
     }
     let next = i + 1;
@@ -138,17 +138,17 @@ fn is_canon(rows: &[u64], n: usize) -> bool
 // Whether no edits make such rows.
 pub fn is_unformed(c: RespondersConf, rows: &[u64]) -> bool
     requires { (c.count ≤ 64) × (roster_words ≤ length rows.now) }
-    ensures { result ≡ unformed (some (roster_of c rows.now)) }
+    ensures { result ≡ unformed (Some (roster_of c rows.now)) }
 {
     !is_canon(rows, c.count)
 }
 
 // The leader is not below the population.
 pub fn foreign_leader(population: u8, c: RespondersConf) -> bool
-    ensures { (rows : List ℕ) → result ≡ foreign_leader population (some (roster_of c rows)) }
+    ensures { (rows : List ℕ) → result ≡ foreign_leader population (Some (roster_of c rows)) }
 {
     let leader = c.leader;
-    let Leader::Some(l) = leader else {
+    let Some(l) = leader else {
         return false;
     };
     population <= l.0
@@ -179,7 +179,7 @@ fn foreign_rows(population: u8, rows: &[u64], n: usize) -> bool
 // A mask has a bit at or above the population.
 pub fn foreign_mask(population: u8, c: RespondersConf, rows: &[u64]) -> bool
     requires { c.count * roster_row ≤ length rows.now }
-    ensures { result ≡ foreign_mask population (some (roster_of c rows.now)) }
+    ensures { result ≡ foreign_mask population (Some (roster_of c rows.now)) }
 {
     if foreign_rows(population, rows, c.count) {
         return true;
@@ -199,5 +199,5 @@ pub fn copy(c: RespondersConf, from: &[u64], to: &mut [u64])
 pub fn from_proposer(peer: Replica, ballot: Ballot) -> bool
     ensures { result ≡ from_proposer peer.0 ballot.0 }
 {
-    ballot.0 % 256 == words::wide(peer.0) + 1
+    ballot.0 % 256 == u64::from(peer.0) + 1
 }

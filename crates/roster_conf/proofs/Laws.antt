@@ -4,7 +4,7 @@ use Rattle.std.specs.Prelude.{if◌then◌else◌}
 use mathlib.Core.Path.{◌≡◌, refl, sym, ap, ◌∙◌}
 use mathlib.Core.Bool.{Bool, true, false, not, ◌&&◌}
 use mathlib.Core.List.{List}
-use mathlib.Core.Option.{Option, none, some}
+use Rattle.std.specs.Prelude.{Option, None, Some}
 use Prim.Native.Nat.{ℕ, ◌*◌, ◌≤◌, ◌<◌}
 use native.Mathlib.Omega.{arith}
 use lib.Dec.{ltb, leb}
@@ -13,33 +13,24 @@ use borrow.Author.Tests.{lt-ltb, le-ltb, le-leb, lt-leb, leb-true, leb-false, eq
 use Rattle.words.specs.Choice.{if_none◌then◌else◌}
 use Rattle.words.proofs.Tests.{and_both}
 use Rattle.ids.specs.declared.Replica.{Replica}
-use Rattle.ids.specs.declared.Leader.{Leader}
-use Rattle.ids.specs.declared.Leader.TheVariants.{None, Some}
 use Rattle.ids.specs.Leader.{leader_of}
 use Rattle.layout.specs.Layout.{roster_row, roster_words}
 use Rattle.inty.specs.declared.Inty.{Inty}
 use Rattle.inty.specs.Value.{value_of}
 use Rattle.bitmap.specs.Bitmap.{fits, set_to}
-use Rattle.keys.specs.declared.KeyRead.{KeyRead}
-use Rattle.keys.specs.declared.KeyRead.TheVariants.{Number, Unread}
 use Rattle.keys.specs.Read.{read_key}
 use Rattle.keys.specs.Shown.{shown}
 use Rattle.roster_ranges.specs.Range.{Range, mask_at, overwrite, remasked}
-use Rattle.roster_map.specs.declared.Stored.{Stored}
-use Rattle.roster_map.specs.declared.Stored.TheVariants.{Rows, Full}
 use Rattle.roster_map.specs.declared.Row.{Row}
 use Rattle.roster_map.specs.Rows.{range_of, ranges_of, capped, Stores}
 use Rattle.roster_conf.specs.declared.RespondersConf.{RespondersConf}
-use Rattle.roster_conf.specs.declared.Edited.{Edited}
-use Rattle.roster_conf.specs.declared.Edited.TheVariants.{Taken, Refused}
-use Rattle.roster_conf.specs.declared.Asked.{Asked}
-use Rattle.roster_conf.specs.declared.Asked.TheVariants.{Store, Refused as No}
-use Rattle.roster_conf.specs.declared.Responders.TheVariants.{Mask, NoRoster, Refused as Short}
 use Rattle.roster_conf.specs.Conf.{Conf, get_responders_by_key, leader_without, set_responders, into_filtered}
 use Rattle.roster_conf.specs.Ground.{refusal}
 use Rattle.roster_conf.specs.Edit.{Edit, SetLeader, SetResponders, SetFull, IntoFiltered, ResetFull, edit, grounds, too_many, refused, taken, edit_result}
 use Rattle.roster_conf.specs.Edits.{view, holds_rows, in_range, due, Leaves, Gives, lookup}
 use Rattle.roster_conf.specs.Asks.{stored, storing, Asks}
+use Rattle.std.specs.Prelude.{Result, Ok, Err}
+use Rattle.ids.specs.declared.Refusal.{Refusal}
 
 -- ---- tests
 
@@ -91,7 +82,7 @@ module _ (len count : ℕ) where
 -- ---- what is due
 
 module _ (p : ℕ) (c : RespondersConf) (s : List ℕ) (e : Edit) (t : Bool) (r : t ≡ holds_rows (length s) c.count && in_range p) where
-  pub unready : not t ≡ true → Gives (due p c s e) (Refused 2) s s
+  pub unready : not t ≡ true → Gives (due p c s e) (Err 2) s s
   unfolding due
   unready f = rw (sym r ∙ not-true t f) (refl, refl)
 
@@ -100,59 +91,59 @@ module _ (p : ℕ) (c : RespondersConf) (s : List ℕ) (e : Edit) (t : Bool) (r 
     unfolding due
     due_answer = ap (λ (b : Bool). if b then edit_result p (view c s) e else refused 2) (sym r ∙ not-false t f)
 
-    refuses : (n : ℕ) → refusal (grounds p (view c s) e) ≡ some n → Gives (due p c s e) (Refused n) s s
+    refuses : (n : ℕ) → refusal (grounds p (view c s) e) ≡ Some n → Gives (due p c s e) (Err n) s s
     unfolding edit_result
     refuses n g = rw (due_answer ∙ ap (λ (o : Option ℕ). if_none o then taken (edit (view c s) e) else refused) g) (refl, refl)
 
-    takes : (d : RespondersConf) (after : List ℕ) → refusal (grounds p (view c s) e) ≡ none → Leaves (edit (view c s) e) s d after → Gives (due p c s e) (Taken d) s after
+    takes : (d : RespondersConf) (after : List ℕ) → refusal (grounds p (view c s) e) ≡ None → Leaves (edit (view c s) e) s d after → Gives (due p c s e) (Ok d) s after
     unfolding edit_result
     takes d after g l = rw (due_answer ∙ ap (λ (o : Option ℕ). if_none o then taken (edit (view c s) e) else refused) g) l
 
 -- the words are the same, and so is the number of rows or there is none
 module _ (p : ℕ) (c : RespondersConf) (s : List ℕ) (t : Bool) (r : t ≡ holds_rows (length s) c.count && in_range p) (f : not t ≡ false) where
-  pub leader_3 : (l : ℕ) → p ≤ l → Gives (due p c s (SetLeader l)) (Refused 3) s s
+  pub leader_3 : (l : ℕ) → p ≤ l → Gives (due p c s (SetLeader l)) (Err 3) s s
   unfolding grounds
   leader_3 l h = refuses p c s (SetLeader l) t r f 3 (simp (le-leb p l h))
 
-  pub leader_set : (l : Replica) → l.0 < p → Gives (due p c s (SetLeader l.0)) (Taken (record { leader = Some l; count = c.count; default = c.default })) s s
+  pub leader_set : (l : Replica) → l.0 < p → Gives (due p c s (SetLeader l.0)) (Ok (record { leader = Some l; count = c.count; default = c.default })) s s
   unfolding grounds edit view
   leader_set l h =
       takes p c s (SetLeader l.0) t r f _ s (simp (lt-leb p l.0 h)) (record { roster = refl; few = ready_few (length s) c.count t p r f; beyond = λ j k. refl })
 
-  pub reset : Gives (due p c s ResetFull) (Taken (record { leader = None; count = 0; default = c.default })) s s
+  pub reset : Gives (due p c s ResetFull) (Ok (record { leader = None; count = 0; default = c.default })) s s
   unfolding grounds edit view ranges_of
   reset = takes p c s ResetFull t r f _ s refl (record { roster = refl; few = omega arith; beyond = λ j k. refl })
 
 -- ---- what is stored
 
-capped_none : (l : List Range) → none ≡ capped l → ltb 64 (length l) ≡ true
+capped_none : (l : List Range) → None ≡ capped l → ltb 64 (length l) ≡ true
 capped_none l e = go (leb (length l) 64) refl
   where
     go : (b : Bool) → leb (length l) 64 ≡ b → ltb 64 (length l) ≡ true
-    go true h = let k : none ≡ some l = e ∙ simp h in let z : ◌≡◌ {A = ℕ} 0 1 = cc in absurd (omega arith)
+    go true h = let k : None ≡ Some l = e ∙ simp h in let z : ◌≡◌ {A = ℕ} 0 1 = cc in absurd (omega arith)
     go false h = lt-ltb 64 (length l) (leb-false (length l) 64 h)
 
-capped_some : (l x : List Range) → some x ≡ capped l → (ltb 64 (length l) ≡ false) × (x ≡ l)
+capped_some : (l x : List Range) → Some x ≡ capped l → (ltb 64 (length l) ≡ false) × (x ≡ l)
 capped_some l x e = go (leb (length l) 64) refl
   where
     go : (b : Bool) → leb (length l) 64 ≡ b → (ltb 64 (length l) ≡ false) × (x ≡ l)
-    go true h = let k : some x ≡ some l = e ∙ simp h in (le-ltb 64 (length l) (leb-true (length l) 64 h), cc)
-    go false h = let k : some x ≡ none = e ∙ simp h in let z : ◌≡◌ {A = ℕ} 0 1 = cc in absurd (omega arith)
+    go true h = let k : Some x ≡ Some l = e ∙ simp h in (le-ltb 64 (length l) (leb-true (length l) 64 h), cc)
+    go false h = let k : Some x ≡ None = e ∙ simp h in let z : ◌≡◌ {A = ℕ} 0 1 = cc in absurd (omega arith)
 
-module _ (l : List Range) (s after : List ℕ) (r : Stored) (w : Stores l s after r) where
-  stored_none : r ≡ Full → (ltb 64 (length l) ≡ true) × (after ≡ s)
+module _ (l : List Range) (s after : List ℕ) (r : Option ℕ) (w : Stores l s after r) where
+  stored_none : r ≡ None → (ltb 64 (length l) ≡ true) × (after ≡ s)
   stored_none e = (capped_none l (rw e at w.outcome), w.refused e)
 
-  stored_some : (n : ℕ) → r ≡ Rows n → (ltb 64 (length l) ≡ false) × (ranges_of after n ≡ l) × (n ≤ 64)
+  stored_some : (n : ℕ) → r ≡ Some n → (ltb 64 (length l) ≡ false) × (ranges_of after n ≡ l) × (n ≤ 64)
   stored_some n e =
       let k = capped_some l (ranges_of after n) (rw e at w.outcome) in
       (k.0, k.1, rw e at w.few)
 
 -- a roster whose ranges are the l that was stored
 module _ (p : ℕ) (c : RespondersConf) (s : List ℕ) (e : Edit) (t : Bool) (r : t ≡ holds_rows (length s) c.count && in_range p) (f : not t ≡ false)
-    (l : List Range) (after : List ℕ) (st : Stored) (w : Stores l s after st) where
-  rows : (n : ℕ) (d : Leader) (m : ℕ) → st ≡ Rows n → (ltb 64 (length l) ≡ false → refusal (grounds p (view c s) e) ≡ none)
-      → edit (view c s) e ≡ record { leader = leader_of d; ranges = l; default = m } → Gives (due p c s e) (Taken (record { leader = d; count = n; default = m })) s after
+    (l : List Range) (after : List ℕ) (st : Option ℕ) (w : Stores l s after st) where
+  rows : (n : ℕ) (d : Option Replica) (m : ℕ) → st ≡ Some n → (ltb 64 (length l) ≡ false → refusal (grounds p (view c s) e) ≡ None)
+      → edit (view c s) e ≡ record { leader = leader_of d; ranges = l; default = m } → Gives (due p c s e) (Ok (record { leader = d; count = n; default = m })) s after
   unfolding view
   rows n d m g h k =
       let q = stored_some l s after st w n g in
@@ -161,14 +152,14 @@ module _ (p : ℕ) (c : RespondersConf) (s : List ℕ) (e : Edit) (t : Bool) (r 
 
 -- ---- a range: what is asked for, and what is stored
 
-module _ (c : RespondersConf) (s : List ℕ) (w : Row) (after : List ℕ) (st : Stored) (x : Stores (overwrite (ranges_of s c.count) (range_of w)) s after st) where
-  pub store_17 : st ≡ Full → Gives (storing (stored (view c s) w)) (Refused 17) s after
+module _ (c : RespondersConf) (s : List ℕ) (w : Row) (after : List ℕ) (st : Option ℕ) (x : Stores (overwrite (ranges_of s c.count) (range_of w)) s after st) where
+  pub store_17 : st ≡ None → Gives (storing (stored (view c s) w)) (Err 17) s after
   unfolding set_responders view
   store_17 e =
       let k = stored_none _ s after st x e in
       rw k.0 (refl, k.1)
 
-  pub store_taken : (n : ℕ) → st ≡ Rows n → Gives (storing (stored (view c s) w)) (Taken (record { leader = c.leader; count = n; default = c.default })) s after
+  pub store_taken : (n : ℕ) → st ≡ Some n → Gives (storing (stored (view c s) w)) (Ok (record { leader = c.leader; count = n; default = c.default })) s after
   unfolding set_responders view
   store_taken n e =
       let k = stored_some _ s after st x n e in
@@ -177,40 +168,40 @@ module _ (c : RespondersConf) (s : List ℕ) (w : Row) (after : List ℕ) (st : 
 
 -- an answer that no roster changes, or the row stored
 module _ (p : ℕ) (c : RespondersConf) (s : List ℕ) (e : Edit) (t : Bool) (r : t ≡ holds_rows (length s) c.count && in_range p) (f : not t ≡ false) where
-  pub asked_refused : (n : ℕ) → ((d : Conf) → edit_result p d e ≡ refused n) → Gives (due p c s e) (Refused n) s s
+  pub asked_refused : (n : ℕ) → ((d : Conf) → edit_result p d e ≡ refused n) → Gives (due p c s e) (Err n) s s
   asked_refused n h = rw (due_answer p c s e t r f ∙ h (view c s)) (refl, refl)
 
-  pub asked_stored : (w : Row) (d : Edited) (after : List ℕ) → ((x : Conf) → edit_result p x e ≡ storing (stored x w)) → Gives (storing (stored (view c s) w)) d s after
+  pub asked_stored : (w : Row) (d : Result RespondersConf Refusal) (after : List ℕ) → ((x : Conf) → edit_result p x e ≡ storing (stored x w)) → Gives (storing (stored (view c s) w)) d s after
       → Gives (due p c s e) d s after
   asked_stored w d after h g = rw (due_answer p c s e t r f ∙ h (view c s)) g
 
-module _ (p : ℕ) (c : RespondersConf) (s start end : List ℕ) (mask : ℕ) (t : Bool) (r : t ≡ holds_rows (length s) c.count && in_range p) (f : not t ≡ false) (k : Asked) (a : Asks p start end mask k) where
-  pub range_refused : (n : ℕ) → k ≡ No n → Gives (due p c s (SetResponders start end mask)) (Refused n) s s
+module _ (p : ℕ) (c : RespondersConf) (s start end : List ℕ) (mask : ℕ) (t : Bool) (r : t ≡ holds_rows (length s) c.count && in_range p) (f : not t ≡ false) (k : Result Row Refusal) (a : Asks p start end mask k) where
+  pub range_refused : (n : ℕ) → k ≡ Err n → Gives (due p c s (SetResponders start end mask)) (Err n) s s
   range_refused n e = asked_refused p c s (SetResponders start end mask) t r f n (rw e at a)
 
-  pub range_stored : (w : Row) → k ≡ Store w → (d : Edited) (after : List ℕ) → Gives (storing (stored (view c s) w)) d s after → Gives (due p c s (SetResponders start end mask)) d s after
+  pub range_stored : (w : Row) → k ≡ Ok w → (d : Result RespondersConf Refusal) (after : List ℕ) → Gives (storing (stored (view c s) w)) d s after → Gives (due p c s (SetResponders start end mask)) d s after
   range_stored w e d after g = asked_stored p c s (SetResponders start end mask) t r f w d after (rw e at a) g
 
 -- the grounds up to 17 do not apply
-only_17 : (p : ℕ) (c : Conf) (e : Edit) → refusal (grounds p c e) ≡ (if too_many (edit c e) then some 17 else none) → edit_result p c e ≡ storing (edit c e)
+only_17 : (p : ℕ) (c : Conf) (e : Edit) → refusal (grounds p c e) ≡ (if too_many (edit c e) then Some 17 else None) → edit_result p c e ≡ storing (edit c e)
 unfolding edit_result
 only_17 p c e h = ap (λ (o : Option ℕ). if_none o then taken (edit c e) else refused) h ∙ go (too_many (edit c e))
   where
-    go : (b : Bool) → (if_none (if b then some 17 else none) then taken (edit c e) else refused) ≡ (if b then refused 17 else taken (edit c e))
+    go : (b : Bool) → (if_none (if b then Some 17 else None) then taken (edit c e) else refused) ≡ (if b then refused 17 else taken (edit c e))
     go true = refl
     go false = refl
 
-turned_away : (p : ℕ) (c : Conf) (e : Edit) (n : ℕ) → refusal (grounds p c e) ≡ some n → edit_result p c e ≡ refused n
+turned_away : (p : ℕ) (c : Conf) (e : Edit) (n : ℕ) → refusal (grounds p c e) ≡ Some n → edit_result p c e ≡ refused n
 unfolding edit_result
 turned_away p c e n h = ap (λ (o : Option ℕ). if_none o then taken (edit c e) else refused) h
 
 module _ (p mask : ℕ) (t4 : Bool) (e4 : t4 ≡ fits mask p) where
   pub full_4 : (c : RespondersConf) (s : List ℕ) (t : Bool) → t ≡ holds_rows (length s) c.count && in_range p → not t ≡ false → not t4 ≡ true
-      → Gives (due p c s (SetFull mask)) (Refused 4) s s
+      → Gives (due p c s (SetFull mask)) (Err 4) s s
   unfolding grounds
   full_4 c s t r f g = refuses p c s (SetFull mask) t r f 4 (simp (sym e4 ∙ not-true t4 g))
 
-  pub range_4 : (start end : List ℕ) → not t4 ≡ true → Asks p start end mask (No 4)
+  pub range_4 : (start end : List ℕ) → not t4 ≡ true → Asks p start end mask (Err 4)
   unfolding grounds
   range_4 start end g c = turned_away p c (SetResponders start end mask) 4 (simp (sym e4 ∙ not-true t4 g))
 
@@ -218,7 +209,7 @@ module _ (p mask : ℕ) (t4 : Bool) (e4 : t4 ≡ fits mask p) where
     ok4 : fits mask p ≡ true
     ok4 = sym e4 ∙ not-false t4 f4
 
-    pub full_stored : (c : RespondersConf) (s : List ℕ) (t : Bool) → t ≡ holds_rows (length s) c.count && in_range p → not t ≡ false → (d : Edited) (after : List ℕ)
+    pub full_stored : (c : RespondersConf) (s : List ℕ) (t : Bool) → t ≡ holds_rows (length s) c.count && in_range p → not t ≡ false → (d : Result RespondersConf Refusal) (after : List ℕ)
         → Gives (storing (stored (view c s) (record { start = record { hi = 0; lo = 0 }; end = record { hi = 18446744073709551615; lo = 18446744073709551615 }; mask = mask }))) d s after
         → Gives (due p c s (SetFull mask)) d s after
     unfolding grounds edit
@@ -227,41 +218,41 @@ module _ (p mask : ℕ) (t4 : Bool) (e4 : t4 ≡ fits mask p) where
         (λ x. only_17 p x (SetFull mask) (simp ok4)) g
 
     module _ (start end : List ℕ) where
-      pub range_5 : 48 < length start → Asks p start end mask (No 5)
+      pub range_5 : 48 < length start → Asks p start end mask (Err 5)
       unfolding grounds
       range_5 g c = turned_away p c (SetResponders start end mask) 5 (simp (ok4, lt-ltb 48 (length start) g))
 
       module _ (g : length start ≤ 48) where
-        pub range_5_end : 48 < length end → Asks p start end mask (No 5)
+        pub range_5_end : 48 < length end → Asks p start end mask (Err 5)
         unfolding grounds
         range_5_end h c = turned_away p c (SetResponders start end mask) 5 (simp (ok4, le-ltb 48 (length start) g, lt-ltb 48 (length end) h))
 
-        module _ (h : length end ≤ 48) (ka : KeyRead) (ea : shown ka ≡ read_key start) where
-          pub range_6 : ka ≡ Unread → Asks p start end mask (No 6)
+        module _ (h : length end ≤ 48) (ka : Option Inty) (ea : shown ka ≡ read_key start) where
+          pub range_6 : ka ≡ None → Asks p start end mask (Err 6)
           unfolding grounds
           range_6 k c =
-              let q : read_key start ≡ none = sym ea ∙ ap shown k in
+              let q : read_key start ≡ None = sym ea ∙ ap shown k in
               turned_away p c (SetResponders start end mask) 6 (simp (ok4, le-ltb 48 (length start) g, le-ltb 48 (length end) h, q))
 
-          module _ (a : Inty) (fa : ka ≡ Number a) (kb : KeyRead) (eb : shown kb ≡ read_key end) where
-            start_is : read_key start ≡ some (value_of a)
+          module _ (a : Inty) (fa : ka ≡ Some a) (kb : Option Inty) (eb : shown kb ≡ read_key end) where
+            start_is : read_key start ≡ Some (value_of a)
             start_is = sym ea ∙ ap shown fa
 
-            pub range_6_end : kb ≡ Unread → Asks p start end mask (No 6)
+            pub range_6_end : kb ≡ None → Asks p start end mask (Err 6)
             unfolding grounds
             range_6_end k c =
-                let q : read_key end ≡ none = sym eb ∙ ap shown k in
+                let q : read_key end ≡ None = sym eb ∙ ap shown k in
                 turned_away p c (SetResponders start end mask) 6 (simp (ok4, le-ltb 48 (length start) g, le-ltb 48 (length end) h, start_is, q))
 
-            module _ (b : Inty) (fb : kb ≡ Number b) (t7 : Bool) (e7 : t7 ≡ ltb (value_of b) (value_of a)) where
-              end_is : read_key end ≡ some (value_of b)
+            module _ (b : Inty) (fb : kb ≡ Some b) (t7 : Bool) (e7 : t7 ≡ ltb (value_of b) (value_of a)) where
+              end_is : read_key end ≡ Some (value_of b)
               end_is = sym eb ∙ ap shown fb
 
-              pub range_7 : t7 ≡ true → Asks p start end mask (No 7)
+              pub range_7 : t7 ≡ true → Asks p start end mask (Err 7)
               unfolding grounds
               range_7 k c = turned_away p c (SetResponders start end mask) 7 (simp (ok4, le-ltb 48 (length start) g, le-ltb 48 (length end) h, start_is, end_is, sym e7 ∙ k))
 
-              pub range_asked : t7 ≡ false → Asks p start end mask (Store (record { start = a; end = b; mask = mask }))
+              pub range_asked : t7 ≡ false → Asks p start end mask (Ok (record { start = a; end = b; mask = mask }))
               unfolding grounds edit
               range_asked k c =
                   let q : edit c (SetResponders start end mask) ≡ stored c (record { start = a; end = b; mask = mask }) = simp (start_is, end_is) in
@@ -269,40 +260,40 @@ module _ (p mask : ℕ) (t4 : Bool) (e4 : t4 ≡ fits mask p) where
 
 -- ---- the filter
 
-pub leader_goes : (l : Leader) (x id : Replica) → l ≡ Some x → x.0 ≡ id.0 → none ≡ leader_without id.0 (leader_of l)
-leader_goes l x id e f = sym (ap (λ (k : Leader). leader_without id.0 (leader_of k)) e ∙ simp (eq-eqb x.0 id.0 f))
+pub leader_goes : (l : Option Replica) (x id : Replica) → l ≡ Some x → x.0 ≡ id.0 → None ≡ leader_without id.0 (leader_of l)
+leader_goes l x id e f = sym (ap (λ (k : Option Replica). leader_without id.0 (leader_of k)) e ∙ simp (eq-eqb x.0 id.0 f))
 
-pub leader_stays : (l : Leader) (x id : Replica) → l ≡ Some x → (x.0 ≡ id.0 → ⊥) → some x.0 ≡ leader_without id.0 (leader_of l)
-leader_stays l x id e f = sym (ap (λ (k : Leader). leader_without id.0 (leader_of k)) e ∙ simp (ne_eqb x.0 id.0 f))
+pub leader_stays : (l : Option Replica) (x id : Replica) → l ≡ Some x → (x.0 ≡ id.0 → ⊥) → Some x.0 ≡ leader_without id.0 (leader_of l)
+leader_stays l x id e f = sym (ap (λ (k : Option Replica). leader_without id.0 (leader_of k)) e ∙ simp (ne_eqb x.0 id.0 f))
 
 module _ (p : ℕ) (c : RespondersConf) (s : List ℕ) (t : Bool) (r : t ≡ holds_rows (length s) c.count && in_range p) (f : not t ≡ false) (id : Replica) where
-  pub filter_3 : p ≤ id.0 → Gives (due p c s (IntoFiltered id.0)) (Refused 3) s s
+  pub filter_3 : p ≤ id.0 → Gives (due p c s (IntoFiltered id.0)) (Err 3) s s
   unfolding grounds
   filter_3 h = refuses p c s (IntoFiltered id.0) t r f 3 (simp (le-leb p id.0 h))
 
-  pub filter_set : (n m : ℕ) (d : Leader) (after : List ℕ) → id.0 < p → Stores (remasked (λ k. set_to k id.0 false) (ranges_of s c.count)) s after (Rows n)
+  pub filter_set : (n m : ℕ) (d : Option Replica) (after : List ℕ) → id.0 < p → Stores (remasked (λ k. set_to k id.0 false) (ranges_of s c.count)) s after (Some n)
       → leader_of d ≡ leader_without id.0 (leader_of c.leader) → m ≡ set_to c.default id.0 false
-      → Gives (due p c s (IntoFiltered id.0)) (Taken (record { leader = d; count = n; default = m })) s after
+      → Gives (due p c s (IntoFiltered id.0)) (Ok (record { leader = d; count = n; default = m })) s after
   unfolding grounds edit into_filtered view
   filter_set n m d after h w e g =
       let l = remasked (λ k. set_to k id.0 false) (ranges_of s c.count) in
-      rows p c s (IntoFiltered id.0) t r f l after (Rows n) w n d m refl (λ k. simp (lt-leb p id.0 h))
+      rows p c s (IntoFiltered id.0) t r f l after (Some n) w n d m refl (λ k. simp (lt-leb p id.0 h))
       (λ i. record { leader = sym e i; ranges = l; default = sym g i })
 
 -- ---- lookup
 
 module _ (c : RespondersConf) (s key : List ℕ) (t : Bool) (e : t ≡ holds_rows (length s) c.count) where
-  pub lookup_2 : not t ≡ true → Short 2 ≡ lookup c s key
+  pub lookup_2 : not t ≡ true → Err 2 ≡ lookup c s key
   unfolding lookup
   lookup_2 f = sym (simp (sym e ∙ not-true t f))
 
-  module _ (f : not t ≡ false) (k : KeyRead) (g : shown k ≡ read_key key) where
-    pub lookup_none : k ≡ Unread → NoRoster ≡ lookup c s key
+  module _ (f : not t ≡ false) (k : Option Inty) (g : shown k ≡ read_key key) where
+    pub lookup_none : k ≡ None → Ok None ≡ lookup c s key
     unfolding lookup get_responders_by_key
-    lookup_none h = let q : read_key key ≡ none = sym g ∙ ap shown h in sym (simp (sym e ∙ not-false t f, q))
+    lookup_none h = let q : read_key key ≡ None = sym g ∙ ap shown h in sym (simp (sym e ∙ not-false t f, q))
 
-    pub lookup_mask : (n : Inty) (m : ℕ) → k ≡ Number n → m ≡ mask_at c.default (ranges_of s c.count) (value_of n) → Mask m ≡ lookup c s key
+    pub lookup_mask : (n : Inty) (m : ℕ) → k ≡ Some n → m ≡ mask_at c.default (ranges_of s c.count) (value_of n) → Ok (Some m ≡ lookup c s key
     unfolding lookup get_responders_by_key view
     lookup_mask n m h w =
-        let q : read_key key ≡ some (value_of n) = sym g ∙ ap shown h in
-        ap Mask w ∙ sym (simp (sym e ∙ not-false t f, q))
+        let q : read_key key ≡ Some (value_of n) = sym g ∙ ap shown h in
+        ap Ok (Some w ∙ sym (simp (sym e ∙ not-false t f, q))

@@ -2,7 +2,7 @@
 use mathlib.Core.Path.{◌≡◌, refl, sym, ◌∙◌}
 use mathlib.Core.Bool.{true, false}
 use mathlib.Core.List.{List, ◌∷◌, []}
-use mathlib.Core.Option.{Option, none, some}
+use Rattle.std.specs.Prelude.{Option, None, Some}
 use Prim.Native.Nat.{ℕ, ◌≤◌, ◌<◌}
 use native.Mathlib.Nat.{le_trans}
 use native.Mathlib.Omega.{arith}
@@ -33,31 +33,31 @@ ascends p c ResetFull = tt
 
 -- ---- an edit that is taken
 
-answer_taken : (p : ℕ) (c d : Conf) (e : Edit) → edit_result p c e ≡ taken d → (refusal (grounds p c e) ≡ none) × (edit c e ≡ d)
+answer_taken : (p : ℕ) (c d : Conf) (e : Edit) → edit_result p c e ≡ taken d → (refusal (grounds p c e) ≡ None) × (edit c e ≡ d)
 unfolding edit_result
 answer_taken p c d e h = go (refusal (grounds p c e)) refl
   where
-    go : (o : Option ℕ) → refusal (grounds p c e) ≡ o → (refusal (grounds p c e) ≡ none) × (edit c e ≡ d)
-    go none f = let q : taken (edit c e) ≡ taken d = sym (simp f) ∙ h in (f, cc)
-    go (some n) f = let q : refused n ≡ taken d = sym (simp f) ∙ h in let z : ◌≡◌ {A = ℕ} 0 1 = cc in absurd (zero_one z)
+    go : (o : Option ℕ) → refusal (grounds p c e) ≡ o → (refusal (grounds p c e) ≡ None) × (edit c e ≡ d)
+    go None f = let q : taken (edit c e) ≡ taken d = sym (simp f) ∙ h in (f, cc)
+    go (Some n) f = let q : refused n ≡ taken d = sym (simp f) ∙ h in let z : ◌≡◌ {A = ℕ} 0 1 = cc in absurd (zero_one z)
 
 abbrev range : ℕ → ℕ → ℕ → Range
 range a b mask = record { from = a; to = b; mask = mask }
 
 -- of the grounds of a range edit, 7 and 17
-range_clear : (p mask : ℕ) (c : Conf) (start end : List ℕ) → refusal (grounds p c (SetResponders start end mask)) ≡ none
+range_clear : (p mask : ℕ) (c : Conf) (start end : List ℕ) → refusal (grounds p c (SetResponders start end mask)) ≡ None
     → (crossed (read_key start) (read_key end) ≡ false) × (too_many (edit c (SetResponders start end mask)) ≡ false)
 unfolding grounds
 range_clear p mask c start end e =
     let k = none_apply (grounds p c (SetResponders start end mask)) e in
     (k.1.1.1.0, k.1.1.1.1.0)
 
-full_clear : (p mask : ℕ) (c : Conf) → refusal (grounds p c (SetFull mask)) ≡ none → too_many (edit c (SetFull mask)) ≡ false
+full_clear : (p mask : ℕ) (c : Conf) → refusal (grounds p c (SetFull mask)) ≡ None → too_many (edit c (SetFull mask)) ≡ false
 unfolding grounds
 full_clear p mask c e = (none_apply (grounds p c (SetFull mask)) e).1.0
 
 -- the keys that a range edit covers
-module _ (c : Conf) (start end : List ℕ) (mask a b : ℕ) (f : read_key start ≡ some a) (g : read_key end ≡ some b) where
+module _ (c : Conf) (start end : List ℕ) (mask a b : ℕ) (f : read_key start ≡ Some a) (g : read_key end ≡ Some b) where
   range_is : (edit c (SetResponders start end mask)).ranges ≡ overwrite c.ranges (range a b mask)
   unfolding edit set_responders
   range_is = simp (f, g)
@@ -89,26 +89,26 @@ unfolding into_filtered
 good_filtered r c h =
     (remasked_canon (λ m. set_to m r false) c.ranges (canon_sorted c.ranges h.0), le_trans (remasked_length (λ m. set_to m r false) c.ranges) h.1)
 
-good_range : (p mask : ℕ) (c : Conf) (start end : List ℕ) → Good c → refusal (grounds p c (SetResponders start end mask)) ≡ none → Good (edit c (SetResponders start end mask))
+good_range : (p mask : ℕ) (c : Conf) (start end : List ℕ) → Good c → refusal (grounds p c (SetResponders start end mask)) ≡ None → Good (edit c (SetResponders start end mask))
 unfolding edit
 good_range p mask c start end h e =
     let k = range_clear p mask c start end e in
     (go (read_key start) (read_key end) refl refl k.0, ltb-false 64 (length (edit c (SetResponders start end mask)).ranges) k.1)
   where
-    unread_start : read_key start ≡ none → c ≡ edit c (SetResponders start end mask)
+    unread_start : read_key start ≡ None → c ≡ edit c (SetResponders start end mask)
     unread_start f = sym (simp f)
 
-    unread_end : (a : ℕ) → read_key start ≡ some a → read_key end ≡ none → c ≡ edit c (SetResponders start end mask)
+    unread_end : (a : ℕ) → read_key start ≡ Some a → read_key end ≡ None → c ≡ edit c (SetResponders start end mask)
     unread_end a f g = sym (simp (f, g))
 
     go : (ka kb : Option ℕ) → read_key start ≡ ka → read_key end ≡ kb → crossed (read_key start) (read_key end) ≡ false → Canon (edit c (SetResponders start end mask)).ranges
-    go none kb f g x = rw (← unread_start f) h.0
-    go (some a) none f g x = rw (← unread_end a f g) h.0
-    go (some a) (some b) f g x =
+    go None kb f g x = rw (← unread_start f) h.0
+    go (Some a) None f g x = rw (← unread_end a f g) h.0
+    go (Some a) (Some b) f g x =
         let q : ltb b a ≡ false = sym (simp (f, g)) ∙ x in
         range_canon c start end mask a b f g h.0 (ltb-false b a q)
 
-good_edit : (p : ℕ) (c : Conf) (e : Edit) → Good c → refusal (grounds p c e) ≡ none → Good (edit c e)
+good_edit : (p : ℕ) (c : Conf) (e : Edit) → Good c → refusal (grounds p c e) ≡ None → Good (edit c e)
 unfolding edit set_responders
 good_edit p c (SetLeader r) h e = h
 good_edit p c (SetResponders start end mask) h e = good_range p mask c start end h e

@@ -1,6 +1,6 @@
 -- Trusted: the edits of a roster (document 01's draft lines), and why one is refused.
 use Rattle.std.specs.Prelude.{ℕ, Bool, true, false, ◌||◌, not, List, [], ltb, leb, length, if◌then◌else◌}
-use Rattle.std.proofs.Math.Option.{Option}
+use Rattle.std.specs.Prelude.{Option}
 use Rattle.words.specs.Choice.{if_none◌then◌else◌}
 use Rattle.ids.specs.Limits.{key_bytes, ranges}
 use Rattle.bitmap.specs.Bitmap.{fits}

@@ -1,16 +1,15 @@
 -- Trusted: the one statement that every public edit meets: a roster is the struct and its lent words, 64 rows of five.
-use Rattle.std.specs.Prelude.{ℕ, ◌*◌, ◌≤◌, ◌≡◌, Bool, ◌&&◌, List, leb, length, if◌then◌else◌}
-use Rattle.std.proofs.Math.Option.{Option, none, some}
+use Rattle.std.specs.Prelude.{ℕ, ◌*◌, ◌≤◌, ◌≡◌, Bool, ◌&&◌, List, leb, length, if◌then◌else◌, Result, Ok, Err}
+use Rattle.std.specs.Prelude.{Option, None, Some}
 use Rattle.ids.specs.Leader.{leader_of}
 use Rattle.ids.specs.Limits.{ranges, replicas}
 use Rattle.words.specs.Part.{Untouched}
 use Rattle.layout.specs.Layout.{roster_words}
 use Rattle.roster_map.specs.Rows.{ranges_of}
 use Rattle.roster_conf.specs.declared.RespondersConf.{RespondersConf}
-use Rattle.roster_conf.specs.declared.Edited.{Edited}
-use Rattle.roster_conf.specs.declared.Edited.TheVariants.{Taken, Refused}
-use Rattle.roster_conf.specs.declared.Responders.{Responders}
-use Rattle.roster_conf.specs.declared.Responders.TheVariants.{Mask, NoRoster, Refused as Short}
+use Rattle.ids.specs.declared.Refusal.{Refusal}
+use Rattle.ids.specs.declared.Refusal.TheVariants.{NotReady}
+use Rattle.ids.specs.Refusal.{number_of}
 use Rattle.roster_conf.specs.Conf.{Conf, get_responders_by_key}
 use Rattle.roster_conf.specs.Edit.{Edit, EditResult, refused, taken, edit_result}
 
@@ -36,18 +35,15 @@ pub record Leaves (c : Conf) (before : List ℕ) (d : RespondersConf) (after : L
   pub beyond : Untouched roster_words before after
 
 -- a refusal gives the number, and the words stay as they were
-abbrev pub Gives : EditResult → Edited → List ℕ → List ℕ → Type 0
-Gives (refused n) (Refused k) before after = (k ≡ n) × (after ≡ before)
-Gives (refused n) (Taken d) before after = ⊥
-Gives (taken c) (Refused k) before after = ⊥
-Gives (taken c) (Taken d) before after = Leaves c before d after
+abbrev pub Gives : EditResult → Result RespondersConf Refusal → List ℕ → List ℕ → Type 0
+Gives (refused n) (Err r) before after = (number_of r ≡ n) × (after ≡ before)
+Gives (refused n) (Ok d) before after = ⊥
+Gives (taken c) (Err r) before after = ⊥
+Gives (taken c) (Ok d) before after = Leaves c before d after
 
-abbrev pub Edits : Edit → ℕ → RespondersConf → List ℕ → Edited → List ℕ → Type 0
+abbrev pub Edits : Edit → ℕ → RespondersConf → List ℕ → Result RespondersConf Refusal → List ℕ → Type 0
 Edits e population c before r after = Gives (due population c before e) r before after
 
-abbrev pub roster_of : Option ℕ → Responders
-roster_of none = NoRoster
-roster_of (some m) = Mask m
-
-unfoldable pub lookup : RespondersConf → List ℕ → List ℕ → Responders
-lookup c rows key = if holds_rows (length rows) c.count then roster_of (get_responders_by_key (view c rows) key) else Short 2
+-- the mask of a key, where it has a roster; refused where the rows are not whole
+unfoldable pub lookup : RespondersConf → List ℕ → List ℕ → Result (Option ℕ) Refusal
+lookup c rows key = if holds_rows (length rows) c.count then Ok (get_responders_by_key (view c rows) key) else Err NotReady

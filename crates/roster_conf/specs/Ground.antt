@@ -1,6 +1,6 @@
 -- Trusted: document 01, "Why a call is turned away": grounds by number, ascending, and the first that applies.
 use Rattle.std.specs.Prelude.{ℕ, ◌<◌, Bool, true, List, ◌∷◌, [], ◌≡◌, ◌⊎◌, if◌then◌else◌}
-use Rattle.std.proofs.Math.Option.{Option, none, some}
+use Rattle.std.specs.Prelude.{Option, None, Some}
 
 pub record Ground : Type 0 where
   pub number : ℕ
@@ -12,8 +12,8 @@ n when t or gs = record { number = n; applies = t } ∷ gs
 
 -- the refusal, if there is one
 abbrev pub refusal : List Ground → Option ℕ
-refusal [] = none
-refusal (g ∷ gs) = if g.applies then some g.number else refusal gs
+refusal [] = None
+refusal (g ∷ gs) = if g.applies then Some g.number else refusal gs
 
 abbrev pub Above : ℕ → List Ground → Type 0
 Above n [] = Unit {0}

@@ -9,37 +9,15 @@ ghost use Rattle.roster_conf.specs.Edit.{SetLeader, SetResponders, SetFull, Into
 ghost use Rattle.roster_conf.specs.Edits.{view, holds_rows, in_range, Gives, Edits, lookup};
 ghost use Rattle.roster_conf.specs.Asks.{stored, storing, Asks};
 
-use ids::{Leader, Replica};
+use ids::{Refusal, Replica};
 use inty::Inty;
-use keys::KeyRead;
-use roster_map::{Row, Stored};
+use roster_map::Row;
 
 #[derive(Clone, Copy)]
 pub struct RespondersConf {
-    pub leader: Leader,
+    pub leader: Option<Replica>,
     pub count: usize,
     pub default: u64,
-}
-
-// A refused edit leaves the roster as it was.
-#[derive(Clone, Copy)]
-pub enum Edited {
-    Taken(RespondersConf),
-    Refused(u64),
-}
-
-#[derive(Clone, Copy)]
-pub enum Responders {
-    Mask(u64),
-    NoRoster,
-    Refused(u64),
-}
-
-// The row that a range asks for, or why it is turned away.
-#[derive(Clone, Copy)]
-enum Asked {
-    Store(Row),
-    Refused(u64),
 }
 
 // Whether the words hold 64 rows, and no more are counted.
@@ -65,28 +43,28 @@ fn is_ready(len: usize, count: usize, population: u8) -> bool
 }
 
 // 4, 5, 6, 7: whether a range can be stored in some roster.
-fn ask(population: u8, start: &[u8], end: &[u8], mask: u64) -> Asked
+fn ask(population: u8, start: &[u8], end: &[u8], mask: u64) -> Result<Row, Refusal>
     ensures { Asks population start.now end.now mask result }
 {
     if !bitmap::fits(mask, population) {
-        return Asked::Refused(4);
+        return Err(Refusal::MaskTooWide);
     }
     if keys::KEY_BYTES < start.len() {
-        return Asked::Refused(5);
+        return Err(Refusal::KeyTooLong);
     }
     if keys::KEY_BYTES < end.len() {
-        return Asked::Refused(5);
+        return Err(Refusal::KeyTooLong);
     }
-    let KeyRead::Number(a) = keys::key_to_inty(start) else {
-        return Asked::Refused(6);
+    let Some(a) = keys::key_to_inty(start) else {
+        return Err(Refusal::UnreadBound);
     };
-    let KeyRead::Number(b) = keys::key_to_inty(end) else {
-        return Asked::Refused(6);
+    let Some(b) = keys::key_to_inty(end) else {
+        return Err(Refusal::UnreadBound);
     };
-    if inty::lt(b, a) {
-        return Asked::Refused(7);
+    if b < a {
+        return Err(Refusal::RangeReversed);
     }
-    Asked::Store(Row {
+    Ok(Row {
         start: a,
         end: b,
         mask,
@@ -94,15 +72,15 @@ fn ask(population: u8, start: &[u8], end: &[u8], mask: u64) -> Asked
 }
 
 // 17: the row over those of a roster, where they stay 64 or fewer.
-fn store(conf: RespondersConf, rows: &mut [u64], w: Row) -> Edited
+fn store(conf: RespondersConf, rows: &mut [u64], w: Row) -> Result<RespondersConf, Refusal>
     requires { (conf.count ≤ 64) × (roster_words ≤ length rows.old) }
     ensures { Gives (storing (stored (view conf rows.old) w)) result rows.old rows.new }
 {
-    let Stored::Rows(n) = roster_map::set(rows, conf.count, w) else {
-        return Edited::Refused(17);
+    let Some(n) = roster_map::set(rows, conf.count, w) else {
+        return Err(Refusal::TooManyRanges);
     };
     let leader = conf.leader;
-    Edited::Taken(RespondersConf {
+    Ok(RespondersConf {
         leader,
         count: n,
         default: conf.default,
@@ -110,16 +88,16 @@ fn store(conf: RespondersConf, rows: &mut [u64], w: Row) -> Edited
 }
 
 // No leader where id is it.
-fn leader_without(leader: Leader, id: Replica) -> Leader
+fn leader_without(leader: Option<Replica>, id: Replica) -> Option<Replica>
     ensures { leader_of result ≡ leader_without id.0 (leader_of leader) }
 {
-    let Leader::Some(l) = leader else {
-        return Leader::None;
+    let Some(l) = leader else {
+        return None;
     };
     if l.0 == id.0 {
-        return Leader::None;
+        return None;
     }
-    Leader::Some(l)
+    Some(l)
 }
 
 impl RespondersConf {
@@ -132,23 +110,23 @@ impl RespondersConf {
         ensures { ((rows : List ℕ) → view result rows ≡ empty) × (result.count ≤ 64) }
     {
         RespondersConf {
-            leader: Leader::None,
+            leader: None,
             count: 0,
             default: 0,
         }
     }
 
-    pub fn set_leader(self, rows: &[u64], population: u8, leader: Replica) -> Edited
+    pub fn set_leader(self, rows: &[u64], population: u8, leader: Replica) -> Result<RespondersConf, Refusal>
         ensures { Edits (SetLeader leader.0) population self rows.now result rows.now }
     {
         if !is_ready(rows.len(), self.count, population) {
-            return Edited::Refused(2);
+            return Err(Refusal::NotReady);
         }
         if population <= leader.0 {
-            return Edited::Refused(3);
+            return Err(Refusal::NoSuchReplica);
         }
-        Edited::Taken(RespondersConf {
-            leader: Leader::Some(leader),
+        Ok(RespondersConf {
+            leader: Some(leader),
             count: self.count,
             default: self.default,
         })
@@ -162,27 +140,25 @@ impl RespondersConf {
         start: &[u8],
         end: &[u8],
         mask: u64,
-    ) -> Edited
+    ) -> Result<RespondersConf, Refusal>
         ensures { Edits (SetResponders start.now end.now mask) population self rows.old result rows.new }
     {
         if !is_ready(rows.len(), self.count, population) {
-            return Edited::Refused(2);
+            return Err(Refusal::NotReady);
         }
-        match ask(population, start, end, mask) {
-            Asked::Store(w) => store(self, rows, w),
-            Asked::Refused(number) => Edited::Refused(number),
-        }
+        let w = ask(population, start, end, mask)?;
+        store(self, rows, w)
     }
 
     // For all keys.
-    pub fn set_full(self, rows: &mut [u64], population: u8, mask: u64) -> Edited
+    pub fn set_full(self, rows: &mut [u64], population: u8, mask: u64) -> Result<RespondersConf, Refusal>
         ensures { Edits (SetFull mask) population self rows.old result rows.new }
     {
         if !is_ready(rows.len(), self.count, population) {
-            return Edited::Refused(2);
+            return Err(Refusal::NotReady);
         }
         if !bitmap::fits(mask, population) {
-            return Edited::Refused(4);
+            return Err(Refusal::MaskTooWide);
         }
         let a = Inty { hi: 0, lo: 0 };
         let b = Inty {
@@ -197,46 +173,46 @@ impl RespondersConf {
         store(self, rows, w)
     }
 
-    pub fn into_filtered(self, rows: &mut [u64], population: u8, id: Replica) -> Edited
+    pub fn into_filtered(self, rows: &mut [u64], population: u8, id: Replica) -> Result<RespondersConf, Refusal>
         ensures { Edits (IntoFiltered id.0) population self rows.old result rows.new }
     {
         if !is_ready(rows.len(), self.count, population) {
-            return Edited::Refused(2);
+            return Err(Refusal::NotReady);
         }
         if population <= id.0 {
-            return Edited::Refused(3);
+            return Err(Refusal::NoSuchReplica);
         }
         let n = roster_map::filter(rows, self.count, id);
         let leader = self.leader;
-        Edited::Taken(RespondersConf {
+        Ok(RespondersConf {
             leader: leader_without(leader, id),
             count: n,
             default: bitmap::set(self.default, id, false),
         })
     }
 
-    pub fn reset_full(self, rows: &[u64], population: u8) -> Edited
+    pub fn reset_full(self, rows: &[u64], population: u8) -> Result<RespondersConf, Refusal>
         ensures { Edits ResetFull population self rows.now result rows.now }
     {
         if !is_ready(rows.len(), self.count, population) {
-            return Edited::Refused(2);
+            return Err(Refusal::NotReady);
         }
-        Edited::Taken(RespondersConf {
-            leader: Leader::None,
+        Ok(RespondersConf {
+            leader: None,
             count: 0,
             default: self.default,
         })
     }
 
-    pub fn get_responders_by_key(self, rows: &[u64], key: &[u8]) -> Responders
+    pub fn get_responders_by_key(self, rows: &[u64], key: &[u8]) -> Result<Option<u64>, Refusal>
         ensures { result ≡ lookup self rows.now key.now }
     {
         if !is_whole(rows.len(), self.count) {
-            return Responders::Refused(2);
+            return Err(Refusal::NotReady);
         }
-        let KeyRead::Number(n) = keys::key_to_inty(key) else {
-            return Responders::NoRoster;
+        let Some(n) = keys::key_to_inty(key) else {
+            return Ok(None);
         };
-        Responders::Mask(roster_map::get(rows, self.count, self.default, n))
+        Ok(Some(roster_map::get(rows, self.count, self.default, n)))
     }
 }

@@ -4,7 +4,7 @@ use mathlib.Core.Path.{◌≡◌, refl, sym, ap, ◌∙◌}
 use mathlib.Core.Bool.{Bool, true, false, ◌&&◌}
 use mathlib.Core.Logic.{inl, inr}
 use mathlib.Core.List.{List, ◌∷◌, ◌++◌, []}
-use mathlib.Core.Option.{Option, none, some}
+use Rattle.std.specs.Prelude.{Option, None, Some}
 use Prim.Native.Nat.{ℕ, zero, suc, ◌+◌, ◌-◌, ◌*◌, ◌^◌, ◌≤◌, ◌<◌}
 use native.Mathlib.Numerals.{add-one}
 use native.Mathlib.Nat.{lt_of_le_of_lt, lt_of_lt_of_le, lt_irrefl}
@@ -21,17 +21,11 @@ use Rattle.layout.specs.Layout.{roster_row, roster_words}
 use Rattle.bitmap.specs.Bitmap.{set_to}
 use Rattle.inty.specs.Value.{value_of, checked, bounded}
 use Rattle.inty.specs.declared.Inty.{Inty}
-use Rattle.inty.specs.declared.Checked.{Checked}
-use Rattle.inty.specs.declared.Checked.TheVariants.{Number, Overflow}
 use Rattle.inty.proofs.Laws.{was_in, was_out, below_top}
 use Rattle.roster_ranges.specs.Range.{Range, inside, at, mask_at, goes_on, joined, push, push_all, cut_below, cut_above, below, above, each, overwrite, remask, remasked}
 use Rattle.roster_map.specs.declared.Row.{Row}
 use Rattle.roster_map.specs.declared.Cut.{Cut}
 use Rattle.roster_map.specs.declared.Cut.TheVariants.{Below, Above, Without}
-use Rattle.roster_map.specs.declared.Stored.{Stored}
-use Rattle.roster_map.specs.declared.Stored.TheVariants.{Rows, Full}
-use Rattle.roster_map.specs.declared.Lookup.{Lookup}
-use Rattle.roster_map.specs.declared.Lookup.TheVariants.{Mask, Nothing}
 use Rattle.roster_map.specs.Rows.{range_of, row_words, range_at, ranges_of, mask_in, extends_last, kept, Stores}
 
 -- ---- rows
@@ -123,26 +117,26 @@ pub from_start : (s : List ℕ) (n v : ℕ) → at (rows_from s 0 n) v ≡ at (r
 from_start s n v = ap (λ (l : List Range). at l v) (from_all s n)
 
 module _ (s : List ℕ) (n v i : ℕ) (o : Option ℕ) where
-  pub found : (t : Bool) (k : ℕ) → i < n → t ≡ inside (range_at s (i * roster_row)) v → t ≡ true → k ≡ (range_at s (i * roster_row)).mask → at (rows_from s i n) v ≡ o → some k ≡ o
+  pub found : (t : Bool) (k : ℕ) → i < n → t ≡ inside (range_at s (i * roster_row)) v → t ≡ true → k ≡ (range_at s (i * roster_row)).mask → at (rows_from s i n) v ≡ o → Some k ≡ o
   found t k h e f q g =
-      ap some q ∙ sym (ap (λ (b : Bool). if b then some (range_at s (i * roster_row)).mask else at (rows_from s (i + 1) n) v) (sym e ∙ f))
+      ap Some q ∙ sym (ap (λ (b : Bool). if b then Some (range_at s (i * roster_row)).mask else at (rows_from s (i + 1) n) v) (sym e ∙ f))
       ∙ sym (ap (λ (l : List Range). at l v) (from_first s i n h)) ∙ g
 
   pub passed : (t : Bool) → i < n → t ≡ inside (range_at s (i * roster_row)) v → t ≡ false → at (rows_from s i n) v ≡ o → at (rows_from s (i + 1) n) v ≡ o
   passed t h e f g =
-      sym (ap (λ (b : Bool). if b then some (range_at s (i * roster_row)).mask else at (rows_from s (i + 1) n) v) (sym e ∙ f))
+      sym (ap (λ (b : Bool). if b then Some (range_at s (i * roster_row)).mask else at (rows_from s (i + 1) n) v) (sym e ∙ f))
       ∙ sym (ap (λ (l : List Range). at l v) (from_first s i n h)) ∙ g
 
-  pub lost : n ≤ i → at (rows_from s i n) v ≡ o → none ≡ o
+  pub lost : n ≤ i → at (rows_from s i n) v ≡ o → None ≡ o
   lost h g = sym (ap (λ (l : List Range). at l v) (from_none s i n h)) ∙ g
 
 -- the mask where one is stored, and the default where none is
-module _ (d v : ℕ) (l : List Range) (r : Lookup) (e : mask_in r ≡ at l v) where
-  pub mask_found : (m : ℕ) → r ≡ Mask m → m ≡ mask_at d l v
-  mask_found m f = ap (λ (x : Lookup). if_none mask_in x then d else λ k. k) (sym f) ∙ ap (λ (o : Option ℕ). if_none o then d else λ k. k) e
+module _ (d v : ℕ) (l : List Range) (r : Option ℕ) (e : mask_in r ≡ at l v) where
+  pub mask_found : (m : ℕ) → r ≡ Some m → m ≡ mask_at d l v
+  mask_found m f = ap (λ (x : Option ℕ). if_none mask_in x then d else λ k. k) (sym f) ∙ ap (λ (o : Option ℕ). if_none o then d else λ k. k) e
 
-  pub mask_default : r ≡ Nothing → d ≡ mask_at d l v
-  mask_default f = ap (λ (x : Lookup). if_none mask_in x then d else λ k. k) (sym f) ∙ ap (λ (o : Option ℕ). if_none o then d else λ k. k) e
+  pub mask_default : r ≡ None → d ≡ mask_at d l v
+  mask_default f = ap (λ (x : Option ℕ). if_none mask_in x then d else λ k. k) (sym f) ∙ ap (λ (o : Option ℕ). if_none o then d else λ k. k) e
 
 -- ---- a push
 
@@ -215,14 +209,14 @@ part_below a f u m k t e p g = simp (sym e ∙ p) (ap (λ (x : ℕ). record { fr
 pub whole_above : (b : ℕ) (r : Range) (t : Bool) → t ≡ ltb b r.from → t ≡ true → r ≡ cut_above b r
 whole_above b r t e f = simp (sym e ∙ f)
 
-pub part_above : (b f u m : ℕ) (t : Bool) (c : Checked) (y : Inty) → t ≡ ltb b f → t ≡ false → checked c ≡ bounded (b + 1) → c ≡ Number y
+pub part_above : (b f u m : ℕ) (t : Bool) (c : Option Inty) (y : Inty) → t ≡ ltb b f → t ≡ false → checked c ≡ bounded (b + 1) → c ≡ Some y
     → ◌≡◌ {A = Range} (record { from = value_of y; to = u; mask = m }) (cut_above b (record { from = f; to = u; mask = m }))
 part_above b f u m t c y e p g k =
     let n : value_of y ≡ b + 1 = was_in (value_of y) (b + 1) (ap checked (sym k) ∙ g) in
     simp (sym e ∙ p) (ap (λ (x : ℕ). record { from = x; to = u; mask = m }) n)
 
 -- what lies below a two-half number has a successor
-pub has_next : (x y : Range) (b : ℕ) (c : Checked) (h l : ℕ) → checked c ≡ bounded (b + 1) → c ≡ Overflow → b < h * 18446744073709551616 + l → h < 2 ^ 64 → l < 2 ^ 64 → x ≡ y
+pub has_next : (x y : Range) (b : ℕ) (c : Option Inty) (h l : ℕ) → checked c ≡ bounded (b + 1) → c ≡ None → b < h * 18446744073709551616 + l → h < 2 ^ 64 → l < 2 ^ 64 → x ≡ y
 has_next x y b c h l e f g p q = absurd (not_below (b + 1) (was_out (b + 1) (ap checked (sym f) ∙ e)) (lt_of_le_of_lt (rw add-one g) (below_top h l p q)))
   where
     not_below : (k : ℕ) → 2 ^ 128 ≤ k → k < 2 ^ 128 → ⊥
@@ -296,7 +290,7 @@ pub length_ranges : (s : List ℕ) (n : ℕ) → length (ranges_of s n) ≡ n
 unfolding ranges_of
 length_ranges s n = length_tab (λ i. range_at s (i * roster_row)) 0 n
 
-pub stores_full : (s out : List ℕ) (n : ℕ) → 64 < n → Stores (ranges_of out n) s s Full
+pub stores_full : (s out : List ℕ) (n : ℕ) → 64 < n → Stores (ranges_of out n) s s None
 stores_full s out n h =
     let over : 64 < length (ranges_of out n) = rw length_ranges h in
     record { outcome = sym (simp (lt-leb (length (ranges_of out n)) 64 over)); refused = λ e. refl; few = omega arith; beyond = λ j f. refl }
@@ -326,22 +320,22 @@ module _ (s out : List ℕ) (n : ℕ) (h : n ≤ 64) (k : n * roster_row ≤ len
         word_same (j * roster_row + 1 + 1 + 1 + 1) (omega arith),
       ))
 
-  pub stores_rows : (t : List ℕ) → t ≡ written → Stores (ranges_of out n) s t (Rows n)
+  pub stores_rows : (t : List ℕ) → t ≡ written → Stores (ranges_of out n) s t (Some n)
   stores_rows t e =
       let few : length (ranges_of out n) ≤ 64 = rw length_ranges h in
       record {
-        outcome = ap some (ap (λ (x : List ℕ). ranges_of x n) e ∙ rows_same) ∙ sym (simp (le-leb (length (ranges_of out n)) 64 few));
+        outcome = ap Some (ap (λ (x : List ℕ). ranges_of x n) e ∙ rows_same) ∙ sym (simp (le-leb (length (ranges_of out n)) 64 few));
         refused = λ f. never t f;
         few = h;
         beyond = λ j f. ap (λ (x : List ℕ). get_or x j 0) e ∙ writes_other s 0 (take (n * roster_row) out) j (inr (omega (arith, taken)));
       }
     where
-      never : (t : List ℕ) → Rows n ≡ Full → t ≡ s
+      never : (t : List ℕ) → Some n ≡ None → t ≡ s
       never t f = let z : ◌≡◌ {A = ℕ} 0 1 = cc in absurd (omega arith)
 
-pub stores_of : (l m : List Range) (s t : List ℕ) (r : Stored) → l ≡ m → Stores l s t r → Stores m s t r
+pub stores_of : (l m : List Range) (s t : List ℕ) (r : Option ℕ) → l ≡ m → Stores l s t r → Stores m s t r
 stores_of l m s t r e f = rw e at f
 
 pub stores_filtered : (m : List Range) (s out t : List ℕ) (n c : ℕ) → ranges_of out n ≡ m → n ≤ c → c ≤ 64 → length out ≡ roster_words → roster_words ≤ length s → t ≡ writes s 0 (take (n * roster_row) out)
-    → Stores m s t (Rows n)
-stores_filtered m s out t n c e f g h k w = stores_of (ranges_of out n) m s t (Rows n) e (stores_rows s out n (omega arith) (omega arith) k t w)
+    → Stores m s t (Some n)
+stores_filtered m s out t n c e f g h k w = stores_of (ranges_of out n) m s t (Some n) e (stores_rows s out n (omega arith) (omega arith) k t w)

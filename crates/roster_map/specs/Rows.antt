@@ -1,7 +1,7 @@
 -- Trusted: the table of ranges that lent words stand for, five to a row: start high and low, end high and low, mask.
 -- What storing a list leaves is a bridge, tied by roster_conf/proofs/Laws.
 use Rattle.std.specs.Prelude.{ℕ, ◌+◌, ◌*◌, ◌^◌, ◌≤◌, Bool, false, List, ◌∷◌, [], ◌≡◌, get_or, length, leb, if◌then◌else◌}
-use Rattle.std.proofs.Math.Option.{Option, none, some}
+use Rattle.std.specs.Prelude.{Option, None, Some}
 use Rattle.words.specs.Tab.{tab}
 use Rattle.words.specs.Part.{Untouched}
 use Rattle.ids.specs.Limits.{ranges}
@@ -12,10 +12,6 @@ use Rattle.roster_ranges.specs.Range.{Range, goes_on, below, above, remask}
 use Rattle.roster_map.specs.declared.Row.{Row}
 use Rattle.roster_map.specs.declared.Cut.{Cut}
 use Rattle.roster_map.specs.declared.Cut.TheVariants.{Below, Above, Without}
-use Rattle.roster_map.specs.declared.Stored.{Stored}
-use Rattle.roster_map.specs.declared.Stored.TheVariants.{Rows, Full}
-use Rattle.roster_map.specs.declared.Lookup.{Lookup}
-use Rattle.roster_map.specs.declared.Lookup.TheVariants.{Mask, Nothing}
 
 abbrev pub range_of : Row → Range
 range_of r = record { from = value_of r.start; to = value_of r.end; mask = r.mask }
@@ -36,9 +32,9 @@ range_at s p =
 unfoldable pub ranges_of : List ℕ → ℕ → List Range
 ranges_of s n = tab (λ i. range_at s (i * roster_row)) 0 n
 
-abbrev pub mask_in : Lookup → Option ℕ
-mask_in (Mask m) = some m
-mask_in Nothing = none
+abbrev pub mask_in : Option ℕ → Option ℕ
+mask_in (Some m) = Some m
+mask_in None = None
 
 -- whether r goes on from the last range
 abbrev pub extends_last : List Range → Range → Bool
@@ -53,19 +49,19 @@ kept (Above b) r = above (value_of b) r
 kept (Without id) r = remask (λ m. set_to m id.0 false) r ∷ []
 
 abbrev pub capped : List Range → Option (List Range)
-capped l = if leb (length l) ranges then some l else none
+capped l = if leb (length l) ranges then Some l else None
 
-abbrev pub shown : Stored → List ℕ → Option (List Range)
-shown (Rows n) s = some (ranges_of s n)
-shown Full s = none
+abbrev pub shown : Option ℕ → List ℕ → Option (List Range)
+shown (Some n) s = Some (ranges_of s n)
+shown None s = None
 
-abbrev pub size : Stored → ℕ
-size (Rows n) = n
-size Full = 0
+abbrev pub size : Option ℕ → ℕ
+size (Some n) = n
+size None = 0
 
 -- what storing l in the words s leaves: the words t, and how many rows they are, where there are not too many
-pub record Stores (l : List Range) (s t : List ℕ) (r : Stored) : Type 0 where
+pub record Stores (l : List Range) (s t : List ℕ) (r : Option ℕ) : Type 0 where
   pub outcome : shown r t ≡ capped l
-  pub refused : r ≡ Full → t ≡ s
+  pub refused : r ≡ None → t ≡ s
   pub few : size r ≤ ranges
   pub beyond : Untouched roster_words s t

@@ -10,7 +10,7 @@ ghost use Rattle.bitmap.specs.Bitmap.{set_to};
 ghost use Rattle.roster_map.specs.Rows.{range_of, row_words, range_at, ranges_of, mask_in, extends_last, kept, Stores};
 
 use ids::Replica;
-use inty::{Checked, Inty};
+use inty::Inty;
 
 #[derive(Clone, Copy)]
 pub struct Row {
@@ -29,20 +29,6 @@ pub enum Cut {
 
 // Rows stored at most.
 pub const RANGES: usize = layout::ROSTER_PLACES;
-
-// How many rows are stored, or that they would be more than 64.
-#[derive(Clone, Copy)]
-pub enum Stored {
-    Rows(usize),
-    Full,
-}
-
-// The mask that is stored at a key, where one is.
-#[derive(Clone, Copy)]
-pub enum Lookup {
-    Mask(u64),
-    Nothing,
-}
 
 pub fn get_row(rows: &[u64], i: usize) -> Row
     requires { i * roster_row + roster_row ≤ length rows.now }
@@ -89,10 +75,10 @@ fn holds(rows: &[u64], i: usize, n: Inty) -> bool
     ensures { result ≡ inside (range_at rows.now (i * roster_row)) (value_of n) }
 {
     let row = get_row(rows, i);
-    if inty::lt(row.end, n) {
+    if row.end < n {
         return false;
     }
-    if inty::lt(n, row.start) {
+    if n < row.start {
         return false;
     }
     true
@@ -111,18 +97,18 @@ fn mask_of(rows: &[u64], i: usize) -> u64
 }
 
 // The mask stored at n.
-pub fn at(rows: &[u64], count: usize, n: Inty) -> Lookup
+pub fn at(rows: &[u64], count: usize, n: Inty) -> Option<u64>
     requires { count * roster_row ≤ length rows.now }
     ensures { mask_in result ≡ at (ranges_of rows.now count) (value_of n) }
 {
     let mut i = 0;
     while i < count {
         if holds(rows, i, n) {
-            return Lookup::Mask(mask_of(rows, i));
+            return Some(mask_of(rows, i));
         }
         i += 1;
     }
-    Lookup::Nothing
+    None
 }
 
 // The mask at n, the default where none is stored.
@@ -130,7 +116,7 @@ pub fn get(rows: &[u64], count: usize, default: u64, n: Inty) -> u64
     requires { count * roster_row ≤ length rows.now }
     ensures { result ≡ mask_at default (ranges_of rows.now count) (value_of n) }
 {
-    let Lookup::Mask(mask) = at(rows, count, n) else {
+    let Some(mask) = at(rows, count, n) else {
         return default;
     };
     mask
@@ -141,7 +127,7 @@ pub fn goes_on(x: Row, r: Row) -> bool
     ensures { result ≡ goes_on (range_of x) (range_of r) }
 {
     if x.mask == r.mask {
-        return inty::is_next(x.end, r.start);
+        return x.end.is_next(r.start);
     }
     false
 }
@@ -186,11 +172,11 @@ fn push(rows: &mut [u64], n: usize, row: Row) -> usize
 fn cut_below(row: Row, a: Inty) -> Row
     ensures { range_of result ≡ cut_below (value_of a) (range_of row) }
 {
-    if inty::lt(row.end, a) {
+    if row.end < a {
         return row;
     }
     let start = row.start;
-    let end = inty::pred(a);
+    let end = a.pred();
     Row {
         start,
         end,
@@ -202,11 +188,11 @@ fn cut_above(row: Row, b: Inty) -> Row
     requires { value_of b < value_of row.end }
     ensures { range_of result ≡ cut_above (value_of b) (range_of row) }
 {
-    if inty::lt(b, row.start) {
+    if b < row.start {
         return row;
     }
-    let next = inty::succ(b);
-    let Checked::Number(start) = next else {
+    let next = b.succ();
+    let Some(start) = next else {
         return row;
     };
     let end = row.end;
@@ -221,7 +207,7 @@ fn push_below(out: &mut [u64], n: usize, row: Row, a: Inty) -> usize
     requires { n * roster_row + roster_row ≤ length out.old }
     ensures { (ranges_of out.new result ≡ push_all (ranges_of out.old n) (below (value_of a) (range_of row))) × (result ≤ n + 1) }
 {
-    if inty::lt(row.start, a) {
+    if row.start < a {
         return push(out, n, cut_below(row, a));
     }
     n
@@ -231,7 +217,7 @@ fn push_above(out: &mut [u64], n: usize, row: Row, b: Inty) -> usize
     requires { n * roster_row + roster_row ≤ length out.old }
     ensures { (ranges_of out.new result ≡ push_all (ranges_of out.old n) (above (value_of b) (range_of row))) × (result ≤ n + 1) }
 {
-    if inty::lt(b, row.end) {
+    if b < row.end {
         return push(out, n, cut_above(row, b));
     }
     n
@@ -294,19 +280,19 @@ fn filtered(out: &mut [u64], rows: &[u64], count: usize, id: Replica) -> usize
     pass(out, 0, rows, count, Cut::Without(id))
 }
 
-fn store(rows: &mut [u64], out: &[u64], n: usize) -> Stored
+fn store(rows: &mut [u64], out: &[u64], n: usize) -> Option<usize>
     requires { (n * roster_row ≤ length out.now) × (roster_words ≤ length rows.old) }
     ensures { Stores (ranges_of out.now n) rows.old rows.new result }
 {
     if RANGES < n {
-        return Stored::Full;
+        return None;
     }
     words::copy_words(rows, out, n * layout::ROSTER_ROW);
-    Stored::Rows(n)
+    Some(n)
 }
 
 // `set`: w over the rows.
-pub fn set(rows: &mut [u64], count: usize, w: Row) -> Stored
+pub fn set(rows: &mut [u64], count: usize, w: Row) -> Option<usize>
     requires { (count ≤ 64) × (roster_words ≤ length rows.old) }
     ensures { Stores (overwrite (ranges_of rows.old count) (range_of w)) rows.old rows.new result }
 {

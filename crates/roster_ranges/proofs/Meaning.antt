@@ -3,7 +3,7 @@
 use Rattle.std.specs.Prelude.{if◌then◌else◌}
 use mathlib.Core.Path.{◌≡◌, refl, sym, ap, ◌∙◌}
 use mathlib.Core.Bool.{Bool, true, false, ◌&&◌, not}
-use mathlib.Core.Option.{Option, none, some}
+use Rattle.std.specs.Prelude.{Option, None, Some}
 use Rattle.words.proofs.Tests.{and_both}
 use mathlib.Core.List.{List, [], ◌∷◌, ◌++◌, append-nil, append_assoc}
 use Prim.Native.Nat.{ℕ, suc, ◌+◌, ◌≤◌, ◌<◌}
@@ -41,14 +41,14 @@ module _ (r : Range) (n : ℕ) where
 
 -- what a table says of a number that is in its first range, and of one that is not
 module _ (r : Range) (l : List Range) (n : ℕ) where
-  at_here : r.from ≤ n → n ≤ r.to → at (r ∷ l) n ≡ some r.mask
-  at_here f g = ap (λ (b : Bool). if◌then◌else◌ b (some r.mask) (at l n)) (in_yes r n f g)
+  at_here : r.from ≤ n → n ≤ r.to → at (r ∷ l) n ≡ Some r.mask
+  at_here f g = ap (λ (b : Bool). if◌then◌else◌ b (Some r.mask) (at l n)) (in_yes r n f g)
 
   at_low : n < r.from → at (r ∷ l) n ≡ at l n
-  at_low f = ap (λ (b : Bool). if◌then◌else◌ b (some r.mask) (at l n)) (in_low r n f)
+  at_low f = ap (λ (b : Bool). if◌then◌else◌ b (Some r.mask) (at l n)) (in_low r n f)
 
   at_high : r.to < n → at (r ∷ l) n ≡ at l n
-  at_high f = ap (λ (b : Bool). if◌then◌else◌ b (some r.mask) (at l n)) (in_high r n f)
+  at_high f = ap (λ (b : Bool). if◌then◌else◌ b (Some r.mask) (at l n)) (in_high r n f)
 
 -- by cases: below the range, in it, above it
 by_range : {A : Type 0} (r : Range) (n : ℕ) → (n < r.from → A) → (r.from ≤ n → n ≤ r.to → A) → (r.to < n → A) → A
@@ -61,7 +61,7 @@ starts_le [] h s = tt
 starts_le (r ∷ l) h s = le_trans h s
 
 -- a sorted table that starts at k says nothing below k
-at_before : (l : List Range) (k n : ℕ) → Sorted l → Starts l k → n < k → at l n ≡ none
+at_before : (l : List Range) (k n : ℕ) → Sorted l → Starts l k → n < k → at l n ≡ None
 at_before [] k n s p h = refl
 at_before (r ∷ l) k n s p h = at_low r l n (omega arith) ∙ at_before l (r.to + 1) n s.2 s.1 (omega (arith, s.0))
 
@@ -136,8 +136,8 @@ at_push (x ∷ []) r n s h = go (goes_on x r) refl
         (λ f g. at_here (joined x r) [] n f (omega arith) ∙ sym (at_here x (r ∷ []) n f g))
         (λ f. by_lt r.to n
         (λ g. at_high (joined x r) [] n g ∙ sym (at_high x (r ∷ []) n f ∙ at_high r [] n g))
-        (λ g. at_here (joined x r) [] n (omega (arith, s.0)) g ∙ ap some m ∙ sym (at_high x (r ∷ []) n f ∙ at_here r [] n (omega arith) g)))
-at_push (x ∷ y ∷ l) r n s h = ap (λ (a : Option ℕ). if◌then◌else◌ (inside x n) (some x.mask) a) (at_push (y ∷ l) r n s.2 h)
+        (λ g. at_here (joined x r) [] n (omega (arith, s.0)) g ∙ ap Some m ∙ sym (at_high x (r ∷ []) n f ∙ at_here r [] n (omega arith) g)))
+at_push (x ∷ y ∷ l) r n s h = ap (λ (a : Option ℕ). if◌then◌else◌ (inside x n) (Some x.mask) a) (at_push (y ∷ l) r n s.2 h)
 
 -- ---- many pushes
 
@@ -158,14 +158,14 @@ canon_all [] l c s m = c
 canon_all (r ∷ rs) l c s m = canon_all rs (push l r) (canon_push l r c s.0 m) s.2 (meets_push l r rs s.1)
 
 abbrev or_else : Option ℕ → Option ℕ → Option ℕ
-or_else (some m) h = some m
-or_else none h = h
+or_else (Some m) h = Some m
+or_else None h = h
 
 at_append : (l m : List Range) (n : ℕ) → at (l ++ m) n ≡ or_else (at l n) (at m n)
 at_append [] m n = refl
 at_append (r ∷ l) m n = go (at_append l m n) (inside r n)
   where
-    go : at (l ++ m) n ≡ or_else (at l n) (at m n) → (b : Bool) → if◌then◌else◌ b (some r.mask) (at (l ++ m) n) ≡ or_else (if◌then◌else◌ b (some r.mask) (at l n)) (at m n)
+    go : at (l ++ m) n ≡ or_else (at l n) (at m n) → (b : Bool) → if◌then◌else◌ b (Some r.mask) (at (l ++ m) n) ≡ or_else (if◌then◌else◌ b (Some r.mask) (at l n)) (at m n)
     go e true = refl
     go e false = e
 
@@ -216,12 +216,12 @@ sorted_below a (r ∷ l) m s t q =
     (cut_in a r r.from h s.0, starts_below a l m ((cut_below a r).to + 1) s.2 (starts_le l (omega (arith, cut_le a r)) s.1) (starts_le m (omega arith) q), rest))
     (λ h. rest)
 
-at_below : (a : ℕ) (l m : List Range) (n : ℕ) → n < a → at m n ≡ none → at (each (below a) l ++ m) n ≡ at l n
+at_below : (a : ℕ) (l m : List Range) (n : ℕ) → n < a → at m n ≡ None → at (each (below a) l ++ m) n ≡ at l n
 at_below a [] m n h e = e
 at_below a (r ∷ l) m n h e =
     let rest = at_below a l m n h e in
     below_cases a r (λ x. at ((x ++ each (below a) l) ++ m) n ≡ at (r ∷ l) n)
-    (λ f. ap (λ (b : Bool). if◌then◌else◌ b (some r.mask) (at (each (below a) l ++ m) n)) (inside_cut a r n h) ∙ ap (λ (x : Option ℕ). if◌then◌else◌ (inside r n) (some r.mask) x) rest)
+    (λ f. ap (λ (b : Bool). if◌then◌else◌ b (Some r.mask) (at (each (below a) l ++ m) n)) (inside_cut a r n h) ∙ ap (λ (x : Option ℕ). if◌then◌else◌ (inside r n) (Some r.mask) x) rest)
     (λ f. rest ∙ sym (at_low r l n (omega arith)))
 
 past_below : (a : ℕ) (l m : List Range) (n : ℕ) → a ≤ n → at (each (below a) l ++ m) n ≡ at m n
@@ -277,14 +277,14 @@ at_above b [] n h = refl
 at_above b (r ∷ l) n h =
     let rest = at_above b l n h in
     above_cases b r (λ x. at (x ++ each (above b) l) n ≡ at (r ∷ l) n)
-    (λ f. ap (λ (t : Bool). if◌then◌else◌ t (some r.mask) (at (each (above b) l) n)) (inside_above b r n h) ∙ ap (λ (x : Option ℕ). if◌then◌else◌ (inside r n) (some r.mask) x) rest)
+    (λ f. ap (λ (t : Bool). if◌then◌else◌ t (Some r.mask) (at (each (above b) l) n)) (inside_above b r n h) ∙ ap (λ (x : Option ℕ). if◌then◌else◌ (inside r n) (Some r.mask) x) rest)
     (λ f. rest ∙ sym (at_high r l n (omega arith)))
 
-before_above : (b : ℕ) (l : List Range) (n : ℕ) → n ≤ b → at (each (above b) l) n ≡ none
+before_above : (b : ℕ) (l : List Range) (n : ℕ) → n ≤ b → at (each (above b) l) n ≡ None
 before_above b [] n h = refl
 before_above b (r ∷ l) n h =
     let rest = before_above b l n h in
-    above_cases b r (λ x. at (x ++ each (above b) l) n ≡ none)
+    above_cases b r (λ x. at (x ++ each (above b) l) n ≡ None)
     (λ f. at_low (cut_above b r) (each (above b) l) n (omega (arith, cut_high b r)) ∙ rest)
     (λ f. rest)
 
@@ -299,7 +299,7 @@ module _ (l : List Range) (w : Range) (c : Canon l) (h : w.from ≤ w.to) where
   unfolding overwrite
   overwrite_canon = canon_all (pieces l w) [] tt sorted_pieces (meets_nil (pieces l w))
 
-  at_pieces : (n : ℕ) → at (pieces l w) n ≡ if◌then◌else◌ (inside w n) (some w.mask) (at l n)
+  at_pieces : (n : ℕ) → at (pieces l w) n ≡ if◌then◌else◌ (inside w n) (Some w.mask) (at l n)
   at_pieces n =
       let m = each (above w.to) l in
       by_range w n
@@ -314,23 +314,23 @@ module _ (l : List Range) (w : Range) (c : Canon l) (h : w.from ≤ w.to) where
 
 -- ---- a canonical table is the only one that says what it says
 
-held_free : (m : ℕ) → some m ≡ none → ⊥
+held_free : (m : ℕ) → Some m ≡ None → ⊥
 held_free m e = let z : ◌≡◌ {A = ℕ} 0 1 = cc in omega arith
 
 true_false : true ≡ false → ⊥
 true_false e = let z : ◌≡◌ {A = ℕ} 0 1 = cc in omega arith
 
-same_held : (a b : ℕ) → some a ≡ some b → a ≡ b
+same_held : (a b : ℕ) → Some a ≡ Some b → a ≡ b
 same_held a b e = cc
 
 -- after a range of a canonical table, the next number is not some at its mask
-next_differs : (r : Range) (l : List Range) → Sorted l → Starts l (r.to + 1) → Apart r l → at l (r.to + 1) ≡ some r.mask → ⊥
+next_differs : (r : Range) (l : List Range) → Sorted l → Starts l (r.to + 1) → Apart r l → at l (r.to + 1) ≡ Some r.mask → ⊥
 next_differs r [] s p a e = held_free r.mask (sym e)
 next_differs r (t ∷ l) s p a e =
     by_lt (r.to + 1) t.from
     (λ f. held_free r.mask (sym e ∙ at_before (t ∷ l) t.from (r.to + 1) s (le_refl t.from) f))
     (λ f.
-    let here : some t.mask ≡ some r.mask = sym (at_here t l (r.to + 1) f (omega (arith, s.0))) ∙ e in
+    let here : Some t.mask ≡ Some r.mask = sym (at_here t l (r.to + 1) f (omega (arith, s.0))) ∙ e in
     let mask : r.mask ≡ t.mask = sym (same_held t.mask r.mask here) in
     let next : r.to + 1 ≡ t.from = omega arith in
     let on : goes_on r t ≡ true = simp (eq-eqb _ _ mask, eq-eqb _ _ next) in
@@ -350,7 +350,7 @@ module _ (r s : Range) (l m : List Range) (c : Canon (r ∷ l)) (d : Canon (s �
   to_le p =
       by_lt r.to s.to
       (λ f. absurd (next_differs r l (canon_sorted l c.3) c.1 c.2
-      (sym (at_high r l (r.to + 1) (omega arith)) ∙ e (r.to + 1) ∙ at_here s m (r.to + 1) (omega (arith, c.0)) (omega arith) ∙ ap some (sym (mask_is p)))))
+      (sym (at_high r l (r.to + 1) (omega arith)) ∙ e (r.to + 1) ∙ at_here s m (r.to + 1) (omega (arith, c.0)) (omega arith) ∙ ap Some (sym (mask_is p)))))
       (λ f. f)
 
   tails : r.to ≡ s.to → (n : ℕ) → at l n ≡ at m n
@@ -419,7 +419,7 @@ module _ (g : ℕ → ℕ) where
   at_changed [] n = refl
   at_changed (r ∷ l) n = go (at_changed l n) (inside r n)
     where
-      go : at (changed l) n ≡ mapped g (at l n) → (b : Bool) → if◌then◌else◌ b (some (g r.mask)) (at (changed l) n) ≡ mapped g (if◌then◌else◌ b (some r.mask) (at l n))
+      go : at (changed l) n ≡ mapped g (at l n) → (b : Bool) → if◌then◌else◌ b (Some (g r.mask)) (at (changed l) n) ≡ mapped g (if◌then◌else◌ b (Some r.mask) (at l n))
       go e true = refl
       go e false = e
 

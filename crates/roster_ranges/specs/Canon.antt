@@ -1,7 +1,7 @@
 -- Trusted: when a table is the one list for what it stores: ascending, disjoint, and touching ranges with equal masks
 -- are one.
 use Rattle.std.specs.Prelude.{ℕ, ◌+◌, ◌≤◌, ◌≡◌, Bool, true, false, ◌&&◌, not, List, [], ◌∷◌, ltb, leb, if◌then◌else◌}
-use Rattle.std.proofs.Math.Option.{Option, none, some}
+use Rattle.std.specs.Prelude.{Option, None, Some}
 use Rattle.words.specs.Choice.{if_none◌then◌else◌}
 use Rattle.roster_ranges.specs.Range.{Range, inside, at, goes_on}
 
@@ -42,8 +42,8 @@ Same l m = (n : ℕ) → at m n ≡ at l n
 
 -- m stores w's mask in w, and elsewhere what l does
 abbrev pub StoredOver : List Range → Range → List Range → Type 0
-StoredOver l w m = (n : ℕ) → at m n ≡ (if inside w n then some w.mask else at l n)
+StoredOver l w m = (n : ℕ) → at m n ≡ (if inside w n then Some w.mask else at l n)
 
 -- a stored mask changed by g
 abbrev pub mapped : (ℕ → ℕ) → Option ℕ → Option ℕ
-mapped g o = if_none o then none else λ m. some (g m)
+mapped g o = if_none o then None else λ m. Some (g m)

@@ -1,7 +1,7 @@
 -- Trusted: tables of key ranges, each with a mask: what the crate rangemap's documentation says of
 -- `RangeInclusiveMap`.
 use Rattle.std.specs.Prelude.{ℕ, ◌+◌, ◌-◌, Bool, ◌&&◌, List, [], ◌∷◌, ◌++◌, ltb, leb, eqb, if◌then◌else◌}
-use Rattle.std.proofs.Math.Option.{Option, none, some}
+use Rattle.std.specs.Prelude.{Option, None, Some}
 use Rattle.words.specs.Choice.{if_none◌then◌else◌}
 
 -- the keys from `from` to `to`, both among them
@@ -15,8 +15,8 @@ inside r n = leb r.from n && leb n r.to
 
 -- `get`: the mask that is stored at n, if one is
 abbrev pub at : List Range → ℕ → Option ℕ
-at [] n = none
-at (r ∷ l) n = if inside r n then some r.mask else at l n
+at [] n = None
+at (r ∷ l) n = if inside r n then Some r.mask else at l n
 
 -- document 01: "Outside stored ranges the default holds"
 abbrev pub mask_at : ℕ → List Range → ℕ → ℕ

@@ -15,9 +15,9 @@ use Rattle.roster_ranges.specs.Range.{Range}
 use Rattle.roster_map.specs.Rows.{range_at, ranges_of}
 use Rattle.roster_map.proofs.Laws.{more_is, length_ranges}
 use Rattle.roster_conf.specs.declared.RespondersConf.{RespondersConf}
-use Rattle.roster_show.specs.declared.Shown.TheVariants.{Items, Refused}
 use Rattle.roster_conf.specs.Edits.{view, holds_rows}
 use Rattle.roster_show.specs.Show.{span_of, spans_of, show, Listing, listing}
+use Rattle.std.specs.Prelude.{Ok, Err}
 
 pub span_is : (r x : Range) → r ≡ x → span_of r ≡ span_of x
 span_is r x e = ap span_of e
@@ -69,12 +69,12 @@ module _ (c : RespondersConf) (rows area : List ℕ) (t : Bool) (e : t ≡ holds
       length-append (spans_of (ranges_of rows c.count)) (Rest c.default ∷ [])
       ∙ ap (λ (k : ℕ). k + 1) (length_spans (ranges_of rows c.count) ∙ length_ranges rows c.count)
 
-  pub show_2 : not t ≡ true → ◌≡◌ {A = Listing} (record { answer = Refused 2; area = area }) (listing c rows area)
+  pub show_2 : not t ≡ true → ◌≡◌ {A = Listing} (record { answer = Err 2; area = area }) (listing c rows area)
   unfolding listing
   show_2 f = sym (simp (sym e ∙ not-true t f))
 
   module _ (f : not t ≡ false) where
-    pub show_20 : length area / 6 ≤ c.count → ◌≡◌ {A = Listing} (record { answer = Refused 20; area = area }) (listing c rows area)
+    pub show_20 : length area / 6 ≤ c.count → ◌≡◌ {A = Listing} (record { answer = Err 20; area = area }) (listing c rows area)
     unfolding listing
     show_20 h =
         let few : places area < length items = rw length_show (omega arith) in
@@ -82,11 +82,11 @@ module _ (c : RespondersConf) (rows area : List ℕ) (t : Bool) (e : t ≡ holds
 
     pub show_all : (s after : List ℕ) (b : Bool) → c.count < length area / 6 → s ≡ writes area 0 (encode (spans_of (ranges_of rows c.count)))
         → ◌≡◌ {A = Put} (record { taken = b; area = after }) (put_item s c.count (Rest c.default))
-        → ◌≡◌ {A = Listing} (record { answer = Items (c.count + 1); area = after }) (listing c rows area)
+        → ◌≡◌ {A = Listing} (record { answer = Ok (c.count + 1); area = after }) (listing c rows area)
     unfolding listing show view
     show_all s after b h w p =
         let all : after ≡ writes area 0 (encode items) = put_next rows area s after c.count 0 b (Rest c.default) p w h in
         let room : length items ≤ places area = rw length_show (omega arith) in
-        ap (λ (q : List ℕ). record { answer = Items (c.count + 1); area = q }) all
-        ∙ ap (λ (k : ℕ). record { answer = Items k; area = writes area 0 (encode items) }) (sym length_show)
+        ap (λ (q : List ℕ). record { answer = Ok (c.count + 1); area = q }) all
+        ∙ ap (λ (k : ℕ). record { answer = Ok k; area = writes area 0 (encode items) }) (sym length_show)
         ∙ sym (simp (sym e ∙ not-false t f, le-ltb (places area) (length items) room))

@@ -1,11 +1,11 @@
 -- Trusted: document 01, "For `show`, spans ascend, `rest` is last".
-use Rattle.std.specs.Prelude.{ℕ, List, ◌∷◌, ◌++◌, map, [], ltb, length, if◌then◌else◌}
+use Rattle.std.specs.Prelude.{ℕ, List, ◌∷◌, ◌++◌, map, [], ltb, length, if◌then◌else◌, Result, Ok, Err}
 use Rattle.words.specs.Writes.{writes}
 use Rattle.items.specs.Item.{Item, Span, Rest, encode, places}
 use Rattle.roster_ranges.specs.Range.{Range}
 use Rattle.roster_conf.specs.declared.RespondersConf.{RespondersConf}
-use Rattle.roster_show.specs.declared.Shown.{Shown}
-use Rattle.roster_show.specs.declared.Shown.TheVariants.{Items, Refused}
+use Rattle.ids.specs.declared.Refusal.{Refusal}
+use Rattle.ids.specs.declared.Refusal.TheVariants.{NotReady, AreaTooSmall}
 use Rattle.roster_conf.specs.Conf.{Conf}
 use Rattle.roster_conf.specs.Edits.{view, holds_rows}
 
@@ -20,7 +20,7 @@ show c = spans_of c.ranges ++ (Rest c.default ∷ [])
 
 -- the answer, and the area after it
 pub record Listing : Type 0 where
-  pub answer : Shown
+  pub answer : Result ℕ Refusal
   pub area : List ℕ
 
 -- refusals 2 and 20 leave the area as it was
@@ -28,6 +28,6 @@ unfoldable pub listing : RespondersConf → List ℕ → List ℕ → Listing
 listing c rows area =
     let items = show (view c rows) in
     if holds_rows (length rows) c.count then
-    if ltb (places area) (length items) then record { answer = Refused 20; area = area }
-    else record { answer = Items (length items); area = writes area 0 (encode items) }
-    else record { answer = Refused 2; area = area }
+    if ltb (places area) (length items) then record { answer = Err AreaTooSmall; area = area }
+    else record { answer = Ok (length items); area = writes area 0 (encode items) }
+    else record { answer = Err NotReady; area = area }

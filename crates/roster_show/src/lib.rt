@@ -8,14 +8,9 @@ ghost use Rattle.items.specs.Item.{item_of, encode, places};
 ghost use Rattle.roster_map.specs.Rows.{range_at, ranges_of};
 ghost use Rattle.roster_show.specs.Show.{span_of, spans_of, Listing, listing};
 
+use ids::Refusal;
 use items::Item;
 use roster_conf::RespondersConf;
-
-#[derive(Clone, Copy)]
-pub enum Shown {
-    Items(usize),
-    Refused(u64),
-}
 
 fn span(rows: &[u64], i: usize) -> Item
     requires { i * roster_row + roster_row ≤ length rows.now }
@@ -43,16 +38,16 @@ fn put_spans(rows: &[u64], count: usize, area: &mut [u64])
 }
 
 // 2, 20, or the number of the items.
-pub fn show(conf: RespondersConf, rows: &[u64], area: &mut [u64]) -> Shown
+pub fn show(conf: RespondersConf, rows: &[u64], area: &mut [u64]) -> Result<usize, Refusal>
     ensures { ◌≡◌ {A = Listing} (record { answer = result; area = area.new }) (listing conf rows.now area.old) }
 {
     if !roster_conf::is_whole(rows.len(), conf.count) {
-        return Shown::Refused(2);
+        return Err(Refusal::NotReady);
     }
     if area.len() / 6 <= conf.count {
-        return Shown::Refused(20);
+        return Err(Refusal::AreaTooSmall);
     }
     put_spans(rows, conf.count, area);
     items::put_item(area, conf.count, Item::Rest(conf.default));
-    Shown::Items(conf.count + 1)
+    Ok(conf.count + 1)
 }

@@ -3,7 +3,7 @@ use Rattle.std.specs.Prelude.{if◌then◌else◌}
 use mathlib.Core.Path.{◌≡◌, refl, sym, ap, ◌∙◌}
 use mathlib.Core.Bool.{Bool, true, false, ◌||◌, true≢false}
 use mathlib.Core.List.{List, [], ◌∷◌, ◌++◌}
-use mathlib.Core.Option.{Option, none, some}
+use Rattle.std.specs.Prelude.{Option, None, Some}
 use Prim.Native.Nat.{ℕ, ◌+◌, ◌-◌, ◌*◌, ◌^◌, ◌≤◌, ◌<◌}
 use native.Mathlib.Nat.{zero-add, suc-add}
 use native.Mathlib.Omega.{arith}
@@ -81,7 +81,7 @@ unfolding line_at
 at_stays h r (NodeLine id population quorum) n e = refl
 at_stays h r (EditLine x) n e = edited_stays h (edits.edit_result r.me.population h.draft x) n e
 at_stays h r ShowLine n e = never _ n e
-at_stays h r (HeardLine peer ballot with commit exec snap) n e = called_stays h (step r (Heartbeat peer ballot (if with then some h.draft else none) commit exec snap) items) n e
+at_stays h r (HeardLine peer ballot with commit exec snap) n e = called_stays h (step r (Heartbeat peer ballot (if with then Some h.draft else None) commit exec snap) items) n e
 at_stays h r (CallLine c) n e = called_stays h (step r c items) n e
 
 first_stays : (h : Host) (l : Line) → Stays h (first_line h l)
@@ -100,16 +100,16 @@ taking_stays : (h : Host) (l : Line) → Stays h (at_host h l)
 taking_stays h l = go h.node refl
   where
     go : (o : Option Replica) → h.node ≡ o → Stays h (at_host h l)
-    go none p n e = simp p (first_stays h l n (simp p at e))
-    go (some r) p n e = simp p (at_stays h r l n (simp p at e))
+    go None p n e = simp p (first_stays h l n (simp p at e))
+    go (Some r) p n e = simp p (at_stays h r l n (simp p at e))
 
 heard_stays : (h : Host) (s : Bytes) → Stays h (answer_line h s)
 unfolding answer_line
 heard_stays h s = go (line_of s) refl
   where
     go : (o : Option Line) → line_of s ≡ o → Stays h (answer_line h s)
-    go none p n e = simp p
-    go (some l) p n e = simp p (taking_stays h l n (simp p at e))
+    go None p n e = simp p
+    go (Some l) p n e = simp p (taking_stays h l n (simp p at e))
 
 -- ---- a line in the code's buffers
 module _ (h : code.Host) (mem rows area groups : List ℕ) (n : ℕ) (line out : Bytes) (lent : Lent h mem rows area groups) (room : 65536 ≤ length out) where

@@ -7,9 +7,8 @@ ghost use Rattle.std.specs.Prelude.{◌≡◌, ◌≤◌, length, IfOk};
 use ids::Slot;
 use line_host::Host;
 use line_kind::{CallKind, EditKind, Kind};
-use node::{Answered, Node};
-use roster_conf::{Edited, RespondersConf};
-use roster_show::Shown;
+use node::{Taken, Node};
+use roster_conf::RespondersConf;
 use std::io;
 use std::io::{ErrorKind, Read, Stdin, Stdout};
 
@@ -43,7 +42,7 @@ fn ends(state: State, number: u64, count: usize) -> Done {
     }
 }
 
-fn called(from: State, a: Answered) -> Done {
+fn called(from: State, a: Result<Taken, Refusal>) -> Done {
     let mut state = from;
     let node = a.node;
     state.node = node;
@@ -69,20 +68,20 @@ fn begin(from: State, mem: &mut [u64], line: &[u8], at: usize) -> Done {
 fn edit(from: State, kind: EditKind, rows: &mut [u64], line: &[u8], at: usize) -> Done {
     let e = line_draft::edit_line(kind, from.draft, rows, from.population, line, at);
     match e {
-        Edited::Taken(draft) => {
+        Ok(draft) => {
             let mut state = from;
             state.draft = draft;
             ends(state, 0, 0)
         }
-        Edited::Refused(number) => ends(from, number, 0),
+        Err(number) => ends(from, number, 0),
     }
 }
 
 fn show(state: State, rows: &[u64], area: &mut [u64], line: &[u8], at: usize) -> Done {
     let s = line_draft::show_line(state.draft, rows, area, state.population, line, at);
     match s {
-        Shown::Items(count) => ends(state, 0, count),
-        Shown::Refused(number) => ends(state, number, 0),
+        Ok(count) => ends(state, 0, count),
+        Err(number) => ends(state, number, 0),
     }
 }
 

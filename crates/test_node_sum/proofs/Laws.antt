@@ -9,8 +9,6 @@ use mir.Syntax.{w64}
 use mir.Val.{Fits}
 use borrow.Author.Tests.{eq-eqb, ne_eqb}
 use Rattle.words.specs.Tab.{words_from}
-use Rattle.ids.specs.declared.Leader.{Leader}
-use Rattle.ids.specs.declared.Leader.TheVariants.{Some}
 use Rattle.ids.specs.declared.Replica.{Replica}
 use Rattle.layout.specs.Layout.{request_places, written_places, bars_at, cell_row, request_row, held_row, written_row, roster_row, slot_places, held_places, batch_words, held_words, batches_from, reads_from, execs_at, rows_at, slots_at, written_at}
 use Rattle.decimal.specs.Digits.{decimal}
@@ -19,6 +17,7 @@ use Rattle.roster_conf.specs.declared.RespondersConf.{RespondersConf}
 use Rattle.node.specs.declared.Node.{Node}
 use Rattle.test_node_sum.specs.Sum.{plus_byte, plus_bytes, plus_number, plus_numbers, sum_of}
 use Rattle.test_node_sum.specs.Numbers.{leader_number, rows_of, roster_numbers, table_of, if_any, cell_of, reads_of, slot_of, slots_of, short_of, peers_of, node_numbers}
+use Rattle.std.specs.Prelude.{Option, Some}
 
 bytes_append : (sum : ℕ) (xs ys : List ℕ) → plus_bytes sum (xs ++ ys) ≡ plus_bytes (plus_bytes sum xs) ys
 unfolding plus_bytes
@@ -169,7 +168,7 @@ any_some has v e = rw (ne_eqb has 0 e)
 
 -- ---- a roster
 
-pub leads : (l : Leader) (r : Replica) (w : ℕ) → l ≡ Some r → w ≡ r.0 → w + 1 ≡ leader_number l
+pub leads : (l : Option Replica) (r : Replica) (w : ℕ) → l ≡ Some r → w ≡ r.0 → w + 1 ≡ leader_number l
 leads l r w e f = rw (e, f)
 
 pub roster : (r s l n : ℕ) (c : RespondersConf) (rows : List ℕ) → l ≡ leader_number c.leader → s ≡ plus_numbers 0 (l ∷ c.count ∷ c.default ∷ [])

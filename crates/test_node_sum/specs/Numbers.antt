@@ -2,17 +2,17 @@
 -- word past the end is 0.
 use Rattle.std.specs.Prelude.{ℕ, zero, suc, ◌+◌, ◌-◌, ◌*◌, ◌%◌, min, List, [], ◌∷◌, ◌++◌, eqb, get_or, if◌then◌else◌}
 use Rattle.words.specs.Tab.{words_from}
-use Rattle.ids.specs.declared.Leader.{Leader}
-use Rattle.ids.specs.declared.Leader.TheVariants.{None, Some}
 use Rattle.ids.specs.Limits.{ranges}
 use Rattle.layout.specs.Layout.{request_places, written_places, bars_at, cell_row, request_row, held_row, written_row, roster_row, slot_places, held_places, batch_words, held_words, batches_from, reads_from, execs_at, rows_at, slots_at, written_at}
 use Rattle.roster_conf.specs.declared.RespondersConf.{RespondersConf}
 use Rattle.node.specs.declared.Node.{Node}
+use Rattle.std.specs.Prelude.{Option, Some, None}
+use Rattle.ids.specs.declared.Replica.{Replica}
 
 -- ---- a roster
 
 -- the leader's number and one more; 0 where there is none
-abbrev pub leader_number : Leader → ℕ
+abbrev pub leader_number : Option Replica → ℕ
 leader_number None = 0
 leader_number (Some r) = r.0 + 1
 

@@ -8,7 +8,7 @@ ghost use Rattle.decimal.specs.Digits.{decimal};
 ghost use Rattle.test_node_sum.specs.Sum.{plus_byte, plus_bytes, plus_number, plus_numbers, sum_of};
 ghost use Rattle.test_node_sum.specs.Numbers.{leader_number, roster_numbers, table_of, if_any, cell_of, reads_of, slot_of, slots_of, short_of, peers_of, node_numbers};
 
-use ids::{Leader, Replica, Slot};
+use ids::{Replica, Slot};
 use node::Node;
 use roster_conf::RespondersConf;
 
@@ -89,12 +89,12 @@ fn plus_table(sum: u32, m: &[u64], at: usize, w: usize, most: usize) -> u32
 
 // ---- a roster
 
-fn leader_number(leader: Leader) -> u64
+fn leader_number(leader: Option<Replica>) -> u64
     ensures { result ≡ leader_number leader }
 {
     match leader {
-        Leader::None => 0,
-        Leader::Some(l) => words::wide(l.0) + 1,
+        None => 0,
+        Some(l) => u64::from(l.0) + 1,
     }
 }
 
@@ -195,9 +195,9 @@ fn of_short(node: Node) -> u32
     let conf = node.bodega_conf;
     let leader = conf.leader;
     let short = [
-        words::wide(node.id.0),
-        words::wide(node.population),
-        words::wide(node.quorum),
+        u64::from(node.id.0),
+        u64::from(node.population),
+        u64::from(node.quorum),
         leader_number(leader),
         conf.count as u64,
         conf.default,

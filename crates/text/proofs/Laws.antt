@@ -11,13 +11,12 @@ use Rattle.words.specs.Text.{Bytes}
 use Rattle.words.specs.Writes.{writes, writes_append, writes_take}
 use Rattle.decimal.specs.Digits.{decimal}
 use Rattle.decimal.specs.Placed.{placed}
-use Rattle.decimal.specs.declared.Written.{Written}
-use Rattle.decimal.specs.declared.Written.TheVariants.{End, Short}
 use Rattle.decimal.proofs.Laws.{one_digit, more_digits, short_64, short_128, has_room}
 use Rattle.inty.specs.Value.{value_of}
 use Rattle.inty.specs.declared.Inty.{Inty}
 use Rattle.inty.proofs.Laws.{below_top}
 use Rattle.text.specs.Wrote.{Wrote}
+use Rattle.std.specs.Prelude.{Option, Some, None}
 
 -- ---- text after text
 
@@ -140,21 +139,21 @@ module _ (s l : Bytes) (at : ℕ) (src : Bytes) (i : ℕ) (w : l ≡ writes s at
 
 -- ---- a number of 128 bits
 
-module _ (s l : Bytes) (at : ℕ) (x : Inty) (w : Written) (h : x.hi < 2 ^ 64) (k : x.lo < 2 ^ 64) (room : at + 39 ≤ length s)
+module _ (s l : Bytes) (at : ℕ) (x : Inty) (w : Option ℕ) (h : x.hi < 2 ^ 64) (k : x.lo < 2 ^ 64) (room : at + 39 ≤ length s)
     (p : record { answer = w; bytes = l } ≡ placed s at (decimal (value_of x))) where
   brief : length (decimal (value_of x)) ≤ 39
   brief = short_128 (value_of x) (below_top x.hi x.lo h k)
 
-  wide : (w ≡ End (at + length (decimal (value_of x)))) × (l ≡ writes s at (decimal (value_of x)))
+  wide : (w ≡ Some (at + length (decimal (value_of x)))) × (l ≡ writes s at (decimal (value_of x)))
   wide = has_room s at (decimal (value_of x)) w l (fit (length (decimal (value_of x))) brief) p
     where
       fit : (n : ℕ) → n ≤ 39 → at + n ≤ length s
       fit n b = omega arith
 
-  pub wide_put : (n : ℕ) → w ≡ End n → Wrote s at (decimal (value_of x)) 39 n l
+  pub wide_put : (n : ℕ) → w ≡ Some n → Wrote s at (decimal (value_of x)) 39 n l
   wide_put n e = record { end = let f = wide.0 in cc; bytes = wide.1; short = brief }
 
-  pub wide_never : (r : ℕ) → w ≡ Short → Wrote s at (decimal (value_of x)) 39 r l
+  pub wide_never : (r : ℕ) → w ≡ None → Wrote s at (decimal (value_of x)) 39 r l
   wide_never r e = let f = wide.0 in let z : ◌≡◌ {A = ℕ} 0 1 = cc in absurd (zero_one z)
     where
       zero_one : ◌≡◌ {A = ℕ} 0 1 → ⊥

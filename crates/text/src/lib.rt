@@ -6,7 +6,6 @@ ghost use Rattle.decimal.specs.Digits.{decimal};
 ghost use Rattle.inty.specs.Value.{value_of};
 ghost use Rattle.text.specs.Wrote.{Wrote};
 
-use decimal::Written;
 use inty::Inty;
 
 // ---- numbers
@@ -86,7 +85,7 @@ pub fn put_wide(out: &mut [u8], at: usize, x: Inty) -> usize
     requires { at + 39 ≤ length out.old }
     ensures { Wrote out.old at (decimal (value_of x)) 39 result out.new }
 {
-    let Written::End(end) = decimal::write(out, at, x) else {
+    let Some(end) = decimal::write(out, at, x) else {
         return at;
     };
     end

@@ -7,7 +7,7 @@ use Rattle.release_held_reads.proofs.Laws.{length_answers}
 use Rattle.become_a_leader.proofs.Lists.{never, answers_at}
 use mathlib.Core.Path.{refl, sym, ◌∙◌}
 use mathlib.Core.Bool.{false}
-use mathlib.Core.Option.{none}
+use Rattle.std.specs.Prelude.{None}
 use Prim.Native.Nat.{◌+◌, ◌%◌}
 use native.Mathlib.Omega.{arith}
 use Rattle.become_a_leader.proofs.count_held.Goals as goal
@@ -21,8 +21,8 @@ overflow_add-count c = omega (arith, c.holding-count.ensures.1)
 
 pub loop-k-preserved : goal.loop-k-preserved
 loop-k-preserved c =
-    let a = c.args in let l = c.loop-k in (omega arith, omega (arith, c.holding-count.ensures.1), pass.count_step never emptied (answers_at 0 none) _ _ a.to l.k l.count _ _ l.invariant.2 (omega arith) false refl refl _ (c.holding-count.ensures.0 ∙ sym (length_answers 0 none (inst_in a.s.now ((a.start.0 + l.k) % slot_places)))))
+    let a = c.args in let l = c.loop-k in (omega arith, omega (arith, c.holding-count.ensures.1), pass.count_step never emptied (answers_at 0 None) _ _ a.to l.k l.count _ _ l.invariant.2 (omega arith) false refl refl _ (c.holding-count.ensures.0 ∙ sym (length_answers 0 None (inst_in a.s.now ((a.start.0 + l.k) % slot_places)))))
 
 pub returns : goal.returns
 returns c =
-    let a = c.args in let l = c.loop-k in (pass.count_end never emptied (answers_at 0 none) _ _ a.to l.k l.count _ _ l.invariant.2 (omega arith), omega arith)
+    let a = c.args in let l = c.loop-k in (pass.count_end never emptied (answers_at 0 None) _ _ a.to l.k l.count _ _ l.invariant.2 (omega arith), omega arith)

@@ -6,14 +6,15 @@ use mathlib.Core.Bool.{Bool}
 use mathlib.Core.List.{List}
 use Prim.Native.Nat.{ℕ}
 use Rattle.ids.specs.Leader.{leader_of}
-use Rattle.ids.specs.declared.Leader.{Leader}
 use Rattle.items.specs.Item.{Item}
 use Rattle.inst_reqs.specs.Batch.{requests_of}
 use Rattle.inst_holding.specs.Held.{read_at}
 use Rattle.release_held_reads.specs.Release.{answer_to}
 use Rattle.release_held_reads.proofs.put_answers.Goals as goal
+use Rattle.std.specs.Prelude.{Option}
+use Rattle.ids.specs.declared.Replica.{Replica}
 
-abbrev answer_at : Bool → Leader → List ℕ → List ℕ → ℕ → Item
+abbrev answer_at : Bool → Option Replica → List ℕ → List ℕ → ℕ → Item
 answer_at bound leader batch reads i = answer_to bound (leader_of leader) (requests_of batch) (read_at reads i)
 
 pub loop-i-init : goal.loop-i-init

@@ -6,14 +6,15 @@ use lib.ListN.{length}
 use Rattle.words.specs.Tab.{tab}
 use Rattle.words.specs.Writes.{writes}
 use Rattle.ids.specs.Leader.{leader_of}
-use Rattle.ids.specs.declared.Leader.{Leader}
 use Rattle.items.specs.Item.{Item, encode}
 use Rattle.inst_reqs.specs.Batch.{requests_of}
 use Rattle.inst_holding.specs.Held.{read_at}
 use Rattle.release_held_reads.specs.Release.{answer_to}
 use Rattle.release_held_reads.proofs.put_answers.Given as goal
+use Rattle.std.specs.Prelude.{Option}
+use Rattle.ids.specs.declared.Replica.{Replica}
 
-abbrev answer_at : Bool → Leader → List ℕ → List ℕ → ℕ → Item
+abbrev answer_at : Bool → Option Replica → List ℕ → List ℕ → ℕ → Item
 answer_at bound leader batch reads i = answer_to bound (leader_of leader) (requests_of batch) (read_at reads i)
 
 abbrev pub invariant-loop-i : goal.invariant-loop-i
