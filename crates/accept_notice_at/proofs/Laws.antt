@@ -16,7 +16,7 @@ use Rattle.bitmap.specs.Bitmap.{count}
 use Rattle.items.specs.Item.{Item, encode, places}
 use Rattle.bodega.specs.Replica as machine
 use Rattle.bodega.specs.Messages.{take_notice}
-use Rattle.inst_cell.specs.Cell.{Notices, Short, cell_of, book_of, status_of, acks_of}
+use Rattle.inst_cell.specs.Cell.{Notices, Short, cell_of, book_of, status_of}
 use Rattle.inst_cell.specs.declared.Cell.{Cell}
 use Rattle.inst_cell.specs.declared.NoticeBook.{NoticeBook}
 use Rattle.accept_notices.specs.Book.{book_with, fresh_book, Takes}
@@ -115,7 +115,7 @@ module _ (s : List ℕ) (c : ℕ) (cell : Cell) (e : cell_of cell ≡ short_at s
         let k : seen_reads (short_at s c).replica_bk (reads_at s c) ≡ seen_reads (book_of cell.replica_bk) (reads_at s c) =
         ap (λ (x : Short). seen_reads x.replica_bk (reads_at s c)) (sym e) in
         sets_by noted (short_after (rw k at p) q)
-        (ap (λ (k : machine.Book). record { bal = cell.bal.0; status = status_of cell.status; reqs = batch_at s c; leader_bk = acks_of cell.leader_bk; replica_bk = Some k }) book_is
+        (ap (λ (k : machine.Book). record { bal = cell.bal.0; status = status_of cell.status; reqs = batch_at s c; leader_bk = cell.leader_bk; replica_bk = Some k }) book_is
         ∙ ap (λ (x : Short). record { bal = x.bal; status = x.status; reqs = batch_at s c; leader_bk = x.leader_bk; replica_bk = Some (noticed_book peer ballot here.replica_bk) }) e)
 
     quorum_of : (quorum : ℕ) (u : Bool) → u ≡ (if_none book_of (Some book) then false else λ x. leb quorum (count x.notices)) → quorate quorum noted ≡ u

@@ -11,6 +11,7 @@ ghost use Rattle.bodega.specs.Answers.{Answers};
 ghost use Rattle.insts.specs.Slots.{insts_of};
 ghost use Rattle.node.specs.View.{view, ready, given_of};
 ghost use Rattle.call_bars.specs.Moves.{any_far, lowered, in_order, broken, bars_refusal, Executes};
+ghost use Rattle.ids.specs.Refusal.{refused_by};
 
 use ids::{Refusal, Slot};
 use inst_cell::Status;

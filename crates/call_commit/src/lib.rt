@@ -6,6 +6,7 @@ ghost use Rattle.bodega.specs.Replica.{CommitNotice};
 ghost use Rattle.bodega.specs.Answers.{Answers};
 ghost use Rattle.node.specs.View.{view, ready, given_of};
 ghost use Rattle.call_commit.specs.Commit.{commit_refusal};
+ghost use Rattle.ids.specs.Refusal.{refused_by};
 
 use ids::{Ballot, Refusal, Replica, Slot};
 use node::{Taken, Node};

@@ -12,6 +12,7 @@ ghost use Rattle.bodega.specs.Grounds.{far, unformed, foreign_leader, foreign_ma
 ghost use Rattle.node.specs.View.{view, ready, given_of, lowest};
 ghost use Rattle.heard_new_conf.specs.Does.{Does, whole};
 ghost use Rattle.call_heartbeat.specs.Heartbeat.{fitting, carried, lacks_roster, early, appending, conf_by, heard_by, Installable};
+ghost use Rattle.ids.specs.Refusal.{refused_by};
 
 use ids::{Ballot, Refusal, Replica, Slot};
 use node::{Taken, Node};

@@ -11,6 +11,7 @@ ghost use Rattle.bodega.specs.Replica.{Notice};
 ghost use Rattle.bodega.specs.Answers.{Answers};
 ghost use Rattle.node.specs.View.{view, ready, given_of, leads_it};
 ghost use Rattle.call_notice.specs.Notice.{notice_refusal, step_down, StepsDown};
+ghost use Rattle.ids.specs.Refusal.{refused_by};
 
 use ids::{Ballot, Refusal, Replica, Slot};
 use items::Item;

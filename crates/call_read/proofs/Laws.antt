@@ -1,6 +1,6 @@
 -- A read at the replica that a node and its buffer stand for: its grounds, its item, and the read at the end of a
 -- slot's queue.
-use Rattle.std.specs.Prelude.{if◌then◌else◌}
+use Rattle.std.specs.Prelude.{if◌then◌else◌, option_map}
 use mathlib.Core.Path.{◌≡◌, refl, sym, ap, ◌∙◌}
 use mathlib.Core.Bool.{Bool, true, false, not}
 use mathlib.Core.List.{List, [], ◌∷◌, ◌++◌}
@@ -16,7 +16,7 @@ use Rattle.words.specs.Part.{part, splice, Untouched, length_part}
 use Rattle.layout.specs.Layout.{node_words, slot_places, slot_words, slots_at}
 use Rattle.words.specs.Writes.{writes}
 use Rattle.ids.specs.declared.Slot.{Slot}
-use Rattle.key_words.specs.Key.{bytes_of, key_in, at_most_48}
+use Rattle.key_words.specs.Key.{bytes_of, at_most_48}
 use Rattle.key_words.specs.declared.Key.{Key}
 use Rattle.items.specs.Item.{Item, item_of, encode, encode_snoc, places}
 use Rattle.items.specs.Area.{Put, put_item}
@@ -171,17 +171,17 @@ module _ (n : Node) (m area : List ℕ) (client request leases : ℕ) (key : Lis
   abbrev call : machine.Call
   call = machine.Read leases q
 
-  module _ (p : Option Key) (g : key_in p ≡ at_most_48 key) where
+  module _ (p : Option Key) (g : option_map bytes_of p ≡ at_most_48 key) where
     number_5 : p ≡ None → 5 ≡ lowest (grounds (view n m) call)
     unfolding grounds
-    number_5 h = rw (long_key_lem key (ap key_in (sym h) ∙ g))
+    number_5 h = rw (long_key_lem key (ap (option_map bytes_of) (sym h) ∙ g))
 
     pub long_5 : p ≡ None → Answers ready view call n m area (record { number = 5; count = 0; node = n }) m area
     long_5 h = refused_by call n m area t e f 5 (number_5 h) (λ z. absurd (omega arith))
 
     module _ (k : Key) (h : p ≡ Some k) where
       short : (bytes_of k ≡ key) × (ltb 48 (length key) ≡ false)
-      short = short_key (bytes_of k) key (ap key_in (sym h) ∙ g)
+      short = short_key (bytes_of k) key (ap (option_map bytes_of) (sym h) ∙ g)
 
       pub bytes_are : bytes_of k ≡ key
       bytes_are = short.0

@@ -7,12 +7,13 @@ ghost use Rattle.ids.specs.Limits.{top};
 ghost use Rattle.layout.specs.Layout.{slot_places, batch_words, slot_words};
 ghost use Rattle.bodega.specs.Replica.{Record};
 ghost use Rattle.bodega.specs.Answers.{Answers};
-ghost use Rattle.inst_cell.specs.Cell.{book_of, acks_of};
+ghost use Rattle.inst_cell.specs.Cell.{book_of};
 ghost use Rattle.inst_reqs.specs.Batch.{requests_of};
 ghost use Rattle.req_batch.specs.Given.{given};
 ghost use Rattle.insts.specs.Slots.{short_at, reads_at, seen_reads, insts_of, Puts};
 ghost use Rattle.node.specs.View.{view, ready, given_of};
 ghost use Rattle.call_record.specs.Records.{fresh_acks, batch_refusal, slot_refusal, late_refusal, ended, kept_book, accepting_short, Pads, Records, Recorded};
+ghost use Rattle.ids.specs.Refusal.{refused_by};
 
 use ids::{Ballot, Refusal, Slot};
 use inst_cell::{Cell, Status};
@@ -105,7 +106,7 @@ fn padded(s: &mut [u64], start: Slot, n: usize, k: usize) -> usize
 
 // Fresh empty acks for a leader.
 fn fresh_acks(leader: bool) -> Option<u64>
-    ensures { acks_of result ≡ fresh_acks leader }
+    ensures { result ≡ fresh_acks leader }
 {
     if leader {
         return Some(0);

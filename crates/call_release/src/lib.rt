@@ -6,6 +6,7 @@ ghost use Rattle.bodega.specs.Replica.{Release};
 ghost use Rattle.bodega.specs.Answers.{Answers};
 ghost use Rattle.node.specs.View.{view, ready, given_of};
 ghost use Rattle.call_release.specs.Release.{release_refusal};
+ghost use Rattle.ids.specs.Refusal.{refused_by};
 
 use ids::{Refusal, Slot};
 use node::{Taken, Node};

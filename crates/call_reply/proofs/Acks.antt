@@ -18,7 +18,7 @@ use Rattle.bodega.specs.Replica.{Request, ReadReq, Committed, is_accepting}
 use Rattle.bodega.specs.Localread.{commit_condition}
 use Rattle.inst_reqs.specs.Batch.{requests_of}
 use Rattle.inst_cell.specs.declared.Cell.{Cell}
-use Rattle.inst_cell.specs.Cell.{Short, status_of, acks_of, cell_of, with_status}
+use Rattle.inst_cell.specs.Cell.{Short, status_of, cell_of, with_status}
 use Rattle.insts.specs.Slots.{batch_start, short_at, batch_at, reads_at, Puts}
 use Rattle.insts.proofs.Laws.{short_after}
 use Rattle.call_reply.specs.declared.Ack.{Ack}
@@ -58,10 +58,10 @@ module _ (x : Short) (peer ballot : ℕ) (k : Cell) (e : cell_of k ≡ x) (t : B
 
 -- ---- what it does
 
-module _ (s : List ℕ) (c peer ballot quorum : ℕ) (conf : Conf) (r : Option ℕ) (e : acks_of r ≡ acks_with (short_at s c) peer ballot) where
+module _ (s : List ℕ) (c peer ballot quorum : ℕ) (conf : Conf) (r : Option ℕ) (e : r ≡ acks_with (short_at s c) peer ballot) where
   pub ignored : r ≡ None → Ignored ≡ ack_of (short_at s c) (batch_at s c) peer ballot quorum conf
   unfolding ack_of
-  ignored f = sym (rw (sym e ∙ ap acks_of f))
+  ignored f = sym (rw (sym e ∙ ap f))
 
   module _ (acks : ℕ) (f : r ≡ Some acks) (from k : ℕ) (h : from ≡ batch_start c) (w : k ≡ batch_words) (t : Bool)
       (g : t ≡ commit_condition acks (requests_of (take k (drop from s))) quorum conf) where
@@ -71,11 +71,11 @@ module _ (s : List ℕ) (c peer ballot quorum : ℕ) (conf : Conf) (r : Option �
 
     pub commits : t ≡ true → Commits acks ≡ ack_of (short_at s c) (batch_at s c) peer ballot quorum conf
     unfolding ack_of
-    commits h = sym (rw (sym e ∙ ap acks_of f, sym condition ∙ h))
+    commits h = sym (rw (sym e ∙ ap f, sym condition ∙ h))
 
     pub marks : t ≡ false → Marks acks ≡ ack_of (short_at s c) (batch_at s c) peer ballot quorum conf
     unfolding ack_of
-    marks h = sym (rw (sym e ∙ ap acks_of f, sym condition ∙ h))
+    marks h = sym (rw (sym e ∙ ap f, sym condition ∙ h))
 
 -- ---- its item
 

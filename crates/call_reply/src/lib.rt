@@ -11,13 +11,14 @@ ghost use Rattle.layout.specs.Layout.{slot_places, slot_words, roster_words, row
 ghost use Rattle.items.specs.Item.{encode, places};
 ghost use Rattle.bodega.specs.Replica.{Reply, is_accepting};
 ghost use Rattle.bodega.specs.Answers.{Answers};
-ghost use Rattle.inst_cell.specs.Cell.{status_of, acks_of};
+ghost use Rattle.inst_cell.specs.Cell.{status_of};
 ghost use Rattle.insts.specs.Slots.{short_at, batch_at, reads_at, Puts};
 ghost use Rattle.roster_conf.specs.Edits.{view as roster_of};
 ghost use Rattle.node.specs.View.{view, ready, given_of};
 ghost use Rattle.call_reply.specs.Resends.{missed_of, sent_by, left_by, sends, resends_of};
 ghost use Rattle.call_reply.specs.Acks.{with_acks, acks_with, ack_of, commits_by, commit_items, Acts};
 ghost use Rattle.call_reply.specs.Replies.{unheld, reply_refusal, awaited, span, items_of, Replies};
+ghost use Rattle.ids.specs.Refusal.{refused_by};
 
 use ids::{Ballot, Refusal, Replica, Slot};
 use inst_cell::{Cell, Status};
@@ -159,7 +160,7 @@ enum Ack {
 // None where the slot does not wait for it.
 fn acks_with(s: &[u64], c: usize, peer: Replica, ballot: Ballot) -> Option<u64>
     requires { (c < slot_places) × (slot_words ≤ length s.now) }
-    ensures { acks_of result ≡ acks_with (short_at s.now c) peer.0 ballot.0 }
+    ensures { result ≡ acks_with (short_at s.now c) peer.0 ballot.0 }
 {
     let cell = insts::load(s, c);
     let status = cell.status;

@@ -1,6 +1,6 @@
 -- What the proofs of this crate share: the answers as numbers, and that an edit of a roster with no leader and default
 -- 0 makes another.
-use Rattle.std.specs.Prelude.{if◌then◌else◌}
+use Rattle.std.specs.Prelude.{if◌then◌else◌, option_map}
 use mathlib.Core.Path.{◌≡◌, refl, sym, ap, ◌∙◌}
 use mathlib.Core.Bool.{Bool, true, false, ◌&&◌}
 use mathlib.Core.List.{List, []}
@@ -16,7 +16,6 @@ use Rattle.inty.specs.declared.Inty.{Inty}
 use Rattle.inty.specs.Value.{value_of}
 use Rattle.bitmap.specs.Bitmap.{get, set_to, unmark}
 use Rattle.keys.specs.Read.{read_key}
-use Rattle.keys.specs.Shown.{shown}
 use Rattle.roster_conf.specs.declared.RespondersConf.{RespondersConf}
 use Rattle.roster_conf.specs.Conf.{Conf, set_responders, into_filtered}
 use Rattle.roster_conf.specs.Ground.{refusal}
@@ -32,15 +31,15 @@ use Rattle.ids.specs.declared.Refusal.{Refusal}
 
 -- ---- a key
 
-module _ (key : List ℕ) (k : Option Inty) (e : shown k ≡ read_key key) where
+module _ (key : List ℕ) (k : Option Inty) (e : option_map value_of k ≡ read_key key) where
   pub key_unread : k ≡ None → ◌≡◌ {A = Key} (record { read = 0; hi = 0; lo = 0 }) (key_of (read_key key))
   unfolding key_of
-  key_unread f = let q : read_key key ≡ None = sym e ∙ ap shown f in sym (simp q)
+  key_unread f = let q : read_key key ≡ None = sym e ∙ ap (option_map value_of) f in sym (simp q)
 
   pub key_read : (n : Inty) → k ≡ Some n → n.lo < 2 ^ 64 → ◌≡◌ {A = Key} (record { read = 1; hi = n.hi; lo = n.lo }) (key_of (read_key key))
   unfolding key_of
   key_read n f h =
-      let q : read_key key ≡ Some (value_of n) = sym e ∙ ap shown f in
+      let q : read_key key ≡ Some (value_of n) = sym e ∙ ap (option_map value_of) f in
       sym (simp (q, digits_div n.hi h, digits_mod n.hi h))
 
 -- ---- an edit

@@ -16,6 +16,7 @@ ghost use Rattle.become_a_leader.specs.StepUp.{slots_after};
 ghost use Rattle.node.specs.View.{view, ready, given_of};
 ghost use Rattle.heard_new_conf.specs.Does.{Does, whole};
 ghost use Rattle.heard_new_conf.specs.Forgets.{Forgets};
+ghost use Rattle.node.specs.View.{taken_of};
 
 use ids::{Ballot, Replica, Slot};
 use node::{Taken, Node};

@@ -21,7 +21,7 @@ use Rattle.key_words.specs.Key.{bytes_of}
 use Rattle.ids.specs.declared.Slot.{Slot}
 use Rattle.ids.specs.Limits.{keys}
 use Rattle.layout.specs.Layout.{written_words}
-use Rattle.inst_reqs.specs.Batch.{request_of, request_at, requests_of, value_in}
+use Rattle.inst_reqs.specs.Batch.{request_of, request_at, requests_of}
 use Rattle.inst_reqs.specs.declared.Command.TheVariants.{Get, Put}
 use Rattle.inst_reqs.specs.declared.Request.{Request}
 use Rattle.inst_reqs.proofs.Laws.{requests_are}
@@ -152,7 +152,7 @@ module _ (key : List ℕ) (qs : List machine.Request) (hs : List machine.Highest
   pub key_written : (slot : Slot) → a ≡ Some slot → new_key key qs hs ≡ 0
   key_written slot e = rw (← told, e)
 
-  module _ (e : a ≡ None) (b : Option ℕ) (put : value_in b ≡ last_put key qs) where
+  module _ (e : a ≡ None) (b : Option ℕ) (put : b ≡ last_put key qs) where
     pub key_put : (v : ℕ) → b ≡ Some v → new_key key qs hs ≡ 0
     key_put v f = rw (← told, e, ← put, f)
 

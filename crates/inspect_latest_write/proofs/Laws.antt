@@ -1,5 +1,5 @@
 -- A read's condition and answer, test by test as the code comes to them.
-use Rattle.std.specs.Prelude.{if◌then◌else◌}
+use Rattle.std.specs.Prelude.{if◌then◌else◌, option_map}
 use mathlib.Core.Path.{◌≡◌, refl, sym, ap, ◌∙◌}
 use mathlib.Core.Bool.{Bool, true, false, not, ◌&&◌, ◌||◌}
 use mathlib.Core.List.{List, []}
@@ -16,11 +16,10 @@ use Rattle.words.specs.Part.{part, length_part}
 use Rattle.ids.specs.declared.Slot.{Slot}
 use Rattle.bitmap.specs.Bitmap.{get}
 use Rattle.keys.specs.Read.{read_key}
-use Rattle.keys.specs.Shown.{shown}
 use Rattle.inty.specs.Value.{value_of}
 use Rattle.inty.specs.declared.Inty.{Inty}
 use Rattle.roster_ranges.specs.Range.{at}
-use Rattle.roster_map.specs.Rows.{ranges_of, mask_in}
+use Rattle.roster_map.specs.Rows.{ranges_of}
 use Rattle.roster_conf.specs.Edits.{view as roster_of}
 use Rattle.bodega.specs.Replica as machine
 use Rattle.bodega.specs.Localread as local
@@ -30,7 +29,6 @@ use Rattle.bodega.specs.Grounds.{full, overfills}
 use Rattle.inst_cell.specs.Cell.{Notices, status_of, book_of, cell_of}
 use Rattle.inst_cell.specs.declared.Cell.{Cell}
 use Rattle.inst_cell.specs.declared.Status.{Status}
-use Rattle.inst_reqs.specs.Batch.{value_in}
 use Rattle.highest_slot.specs.Written.{written_of, slot_in}
 use Rattle.insts.specs.Slots.{short_at, batch_at, reads_at, inst_of, inst_in, book_of as heldBook}
 use Rattle.release_held_reads.specs.Release.{holding_of}
@@ -88,16 +86,16 @@ stable_is n leases m = refl
 -- ---- responders
 
 module _ (d id : ℕ) (x : Option ℕ) (r : Bool) where
-  pub in_mask : (m : ℕ) → x ≡ Some m → r ≡ get m id → r ≡ get (if_none mask_in x then d else λ k. k) id
-  in_mask m e f = f ∙ ap (λ (y : Option ℕ). get (if_none mask_in y then d else λ k. k) id) (sym e)
+  pub in_mask : (m : ℕ) → x ≡ Some m → r ≡ get m id → r ≡ get (if_none x then d else λ k. k) id
+  in_mask m e f = f ∙ ap (λ (y : Option ℕ). get (if_none y then d else λ k. k) id) (sym e)
 
-  pub in_default : x ≡ None → r ≡ get d id → r ≡ get (if_none mask_in x then d else λ k. k) id
-  in_default e f = f ∙ ap (λ (y : Option ℕ). get (if_none mask_in y then d else λ k. k) id) (sym e)
+  pub in_default : x ≡ None → r ≡ get d id → r ≡ get (if_none x then d else λ k. k) id
+  in_default e f = f ∙ ap (λ (y : Option ℕ). get (if_none y then d else λ k. k) id) (sym e)
 
-pub stored_range : (x : Option ℕ) (k : ℕ) → x ≡ Some k → local.StoredRange ≡ (if_none mask_in x then local.DefaultRoster else λ m. local.StoredRange)
+pub stored_range : (x : Option ℕ) (k : ℕ) → x ≡ Some k → local.StoredRange ≡ (if_none x then local.DefaultRoster else λ m. local.StoredRange)
 stored_range x k e = sym (rw e)
 
-pub default_roster : (x : Option ℕ) → x ≡ None → local.DefaultRoster ≡ (if_none mask_in x then local.DefaultRoster else λ m. local.StoredRange)
+pub default_roster : (x : Option ℕ) → x ≡ None → local.DefaultRoster ≡ (if_none x then local.DefaultRoster else λ m. local.StoredRange)
 default_roster x e = sym (rw e)
 
 -- ---- a slot that is held
@@ -202,8 +200,8 @@ module _ (n : Node) (m s : List ℕ) (d : part m slots_at slot_words ≡ s) (slo
         pub inspect_unbound : not b ≡ true → (w : Bool) → w ≡ local.waits here → Inspects (settled.Notices (record { slot = slot; place = c; waits = w }))
         inspect_unbound z w v = (sym (rw (sym g ∙ h, sym y ∙ not-true b z)) ∙ inspect_by (Some here) found_here, stands w v)
 
-        module _ (z : not b ≡ false) (p : Option ℕ) (q : value_in p ≡ local.last_put key (batch_at s c)) where
-          bound : (if not (local.is_bound n.quorum here) then local.Notices slot.0 else if_none value_in p then local.MissingPut slot.0 else local.FoundPut)
+        module _ (z : not b ≡ false) (p : Option ℕ) (q : p ≡ local.last_put key (batch_at s c)) where
+          bound : (if not (local.is_bound n.quorum here) then local.Notices slot.0 else if_none p then local.MissingPut slot.0 else local.FoundPut)
               ≡ local.inspect_highest_slot (view n m) key slot.0
           bound = rw q (sym (rw (sym g ∙ h)) ∙ inspect_by (Some here) found_here)
 
@@ -300,25 +298,25 @@ module _ (n : Node) (m : List ℕ) (leases : ℕ) (key : List ℕ) where
           first : local.FewLeases ≡ settled_by false (read_key key)
           first = rw (lt-ltb leases n.quorum h)
 
-      module _ (h : n.quorum ≤ leases) (k : Option Inty) (g : shown k ≡ read_key key) where
-        read_by : (o : Option ℕ) → shown k ≡ o → (if_none o then local.UnreadKey else λ j. responds n.bodega_conf.default n.id.0 (stored j) barred) ≡ whole
+      module _ (h : n.quorum ≤ leases) (k : Option Inty) (g : option_map value_of k ≡ read_key key) where
+        read_by : (o : Option ℕ) → option_map value_of k ≡ o → (if_none o then local.UnreadKey else λ j. responds n.bodega_conf.default n.id.0 (stored j) barred) ≡ whole
         read_by o q = first ∙ ap (settled_by false) (sym q ∙ g) ∙ unstable
           where
             first : (if_none o then local.UnreadKey else λ j. responds n.bodega_conf.default n.id.0 (stored j) barred) ≡ settled_by false o
             first = rw (le-ltb leases n.quorum h)
 
         pub settled_unread : k ≡ None → Whole settled.UnreadKey
-        settled_unread q = (read_by None (ap shown q), tt)
+        settled_unread q = (read_by None (ap (option_map value_of) q), tt)
 
-        module _ (i : Inty) (q : k ≡ Some i) (r : Option ℕ) (l : mask_in r ≡ stored (value_of i)) where
-          looked : responds n.bodega_conf.default n.id.0 (mask_in r) barred ≡ whole
-          looked = ap (λ (o : Option ℕ). responds n.bodega_conf.default n.id.0 o barred) l ∙ read_by (Some (value_of i)) (ap shown q)
+        module _ (i : Inty) (q : k ≡ Some i) (r : Option ℕ) (l : r ≡ stored (value_of i)) where
+          looked : responds n.bodega_conf.default n.id.0 (r) barred ≡ whole
+          looked = ap (λ (o : Option ℕ). responds n.bodega_conf.default n.id.0 o barred) l ∙ read_by (Some (value_of i)) (ap (option_map value_of) q)
 
-          module _ (u : Bool) (d : u ≡ get (if_none mask_in r then n.bodega_conf.default else λ j. j) n.id.0) where
-            answers : (b : Bool) → u ≡ b → (if not b then (if_none mask_in r then local.DefaultRoster else λ j. local.StoredRange) else barred) ≡ whole
-            answers b x = ap (λ (y : Bool). if not y then (if_none mask_in r then local.DefaultRoster else λ j. local.StoredRange) else barred) (sym x ∙ d) ∙ looked
+          module _ (u : Bool) (d : u ≡ get (if_none r then n.bodega_conf.default else λ j. j) n.id.0) where
+            answers : (b : Bool) → u ≡ b → (if not b then (if_none r then local.DefaultRoster else λ j. local.StoredRange) else barred) ≡ whole
+            answers b x = ap (λ (y : Bool). if not y then (if_none r then local.DefaultRoster else λ j. local.StoredRange) else barred) (sym x ∙ d) ∙ looked
 
-            pub settled_roster : not u ≡ true → (y : Settled) → Settles (view n m) (part m slots_at slot_words) (if_none mask_in r then local.DefaultRoster else λ j. local.StoredRange) y → Whole y
+            pub settled_roster : not u ≡ true → (y : Settled) → Settles (view n m) (part m slots_at slot_words) (if_none r then local.DefaultRoster else λ j. local.StoredRange) y → Whole y
             settled_roster x y z = (z.0 ∙ answers false (not-true u x), z.1)
 
             module _ (x : not u ≡ false) where

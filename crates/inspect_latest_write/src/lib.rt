@@ -6,7 +6,6 @@ ghost use Rattle.layout.specs.Layout.{slots_at, slot_words, written_at, written_
 ghost use Rattle.words.specs.Choice.{if_none◌then◌else◌};
 ghost use Rattle.words.specs.Part.{part};
 ghost use Rattle.bitmap.specs.Bitmap.{get};
-ghost use Rattle.roster_map.specs.Rows.{mask_in};
 ghost use Rattle.key_words.specs.Key.{bytes_of};
 ghost use Rattle.items.specs.Item.{item_of};
 ghost use Rattle.inst_cell.specs.Cell.{book_of, cell_of};
@@ -86,7 +85,7 @@ fn is_stable_leader(node: Node, leases: u64) -> bool
 
 // Whether the replica is in the mask stored for a key, or in the default where none is.
 fn is_responder(default: u64, id: Replica, stored: Option<u64>) -> bool
-    ensures { result ≡ get (if_none mask_in stored then default else λ m. m) id.0 }
+    ensures { result ≡ get (if_none stored then default else λ m. m) id.0 }
 {
     match stored {
         Some(mask) => bitmap::get(mask, id),
@@ -95,7 +94,7 @@ fn is_responder(default: u64, id: Replica, stored: Option<u64>) -> bool
 }
 
 fn not_responder(stored: Option<u64>) -> Settled
-    ensures { (x : Machine) (s : List ℕ) → Settles x s (if_none mask_in stored then local.DefaultRoster else λ m. local.StoredRange) result }
+    ensures { (x : Machine) (s : List ℕ) → Settles x s (if_none stored then local.DefaultRoster else λ m. local.StoredRange) result }
 {
     match stored {
         Some(_mask) => Settled::StoredRange,

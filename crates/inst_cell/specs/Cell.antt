@@ -21,10 +21,6 @@ pub record Notices : Type 0 where
   pub bal : ℕ
   pub notices : ℕ
 
-abbrev pub acks_of : Option ℕ → Option ℕ
-acks_of None = None
-acks_of (Some m) = Some m
-
 abbrev pub book_of : Option NoticeBook → Option Notices
 book_of None = None
 book_of (Some b) = Some (record { bal = b.bal.0; notices = b.notices })
@@ -42,7 +38,7 @@ abbrev pub has_book : Short → Bool
 has_book x = if_none x.replica_bk then false else λ b. true
 
 abbrev pub cell_of : Cell → Short
-cell_of c = record { bal = c.bal.0; status = status_of c.status; leader_bk = acks_of c.leader_bk; replica_bk = book_of c.replica_bk }
+cell_of c = record { bal = c.bal.0; status = status_of c.status; leader_bk = c.leader_bk; replica_bk = book_of c.replica_bk }
 
 -- ---- words, any words
 

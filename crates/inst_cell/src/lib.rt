@@ -6,7 +6,7 @@ ghost use Rattle.std.specs.Prelude.{◌≡◌, ℕ, ◌+◌, ◌*◌, ◌≤◌,
 ghost use Rattle.words.specs.Writes.{writes};
 ghost use Rattle.layout.specs.Layout.{cell_row};
 ghost use Rattle.bodega.specs.Replica.{order, is_open};
-ghost use Rattle.inst_cell.specs.Cell.{status_of, status_named, acks_of, book_of, acks_named, book_named, present, acks_in, bal_in, notices_in, cell_of, cell_at, cell_words, has_book};
+ghost use Rattle.inst_cell.specs.Cell.{status_of, status_named, book_of, acks_named, book_named, present, acks_in, bal_in, notices_in, cell_of, cell_at, cell_words, has_book};
 
 use ids::Ballot;
 
@@ -66,7 +66,7 @@ fn status_word(s: Status) -> u64
 }
 
 fn leader_bk(has: u64, acks: u64) -> Option<u64>
-    ensures { acks_of result ≡ acks_named has acks }
+    ensures { result ≡ acks_named has acks }
 {
     if has == 0 {
         return None;
@@ -89,7 +89,7 @@ fn replica_bk(has: u64, bal: Ballot, notices: u64) -> Option<NoticeBook>
 struct AckWords(u64, u64);
 
 fn ack_words(bk: Option<u64>) -> AckWords
-    ensures { (result.0 ≡ present (acks_of bk)) × (result.1 ≡ acks_in (acks_of bk)) }
+    ensures { (result.0 ≡ present (bk)) × (result.1 ≡ acks_in (bk)) }
 {
     match bk {
         None => AckWords(0, 0),

@@ -22,7 +22,7 @@ use Rattle.key_words.specs.declared.Key.{Key}
 use Rattle.key_words.proofs.Laws.{key_at_agrees, key_at_writes}
 use Rattle.bodega.specs.Localread.{last_put, put_of}
 use Rattle.bodega.specs.Replica as machine
-use Rattle.inst_reqs.specs.Batch.{command_of, command_at, kind_of, value_of, request_of, request_words, request_from, request_at, requests_of, value_in, Pushes}
+use Rattle.inst_reqs.specs.Batch.{command_of, command_at, kind_of, value_of, request_of, request_words, request_from, request_at, requests_of, Pushes}
 use Rattle.inst_reqs.specs.declared.Command.{Command}
 use Rattle.inst_reqs.specs.declared.Command.TheVariants.{Get, Put}
 use Rattle.inst_reqs.specs.declared.Request.{Request}
@@ -162,8 +162,8 @@ last_end s i key h =
     rw z
 
 -- in the words of the code: r is what the request before i says
-module _ (s : List ℕ) (i : ℕ) (key : Key) (r : Option ℕ) (b : 0 < i) (told : value_in r ≡ PutAt s (i - 1) key) where
-  cut : last_of s i (bytes_of key) ≡ (if_none value_in r then last_of s (i - 1) (bytes_of key) else λ v. Some v)
+module _ (s : List ℕ) (i : ℕ) (key : Key) (r : Option ℕ) (b : 0 < i) (told : r ≡ PutAt s (i - 1) key) where
+  cut : last_of s i (bytes_of key) ≡ (if_none r then last_of s (i - 1) (bytes_of key) else λ v. Some v)
   unfolding last_of
   cut =
       let m : i ≡ i - 1 + 1 = omega arith in

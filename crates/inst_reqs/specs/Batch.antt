@@ -48,10 +48,6 @@ request_at s i = request_from s (1 + i * request_row)
 unfoldable pub requests_of : List ℕ → List machine.Request
 requests_of s = counted request_from request_row request_places s
 
-abbrev pub value_in : Option ℕ → Option ℕ
-value_in (Some v) = Some v
-value_in None = None
-
 abbrev pub capped : List machine.Request → Option (List machine.Request)
 capped l = if leb (length l) request_places then Some l else None
 

@@ -8,7 +8,7 @@ ghost use Rattle.words.specs.Writes.{writes};
 ghost use Rattle.layout.specs.Layout.{request_places, request_row, batch_words};
 ghost use Rattle.key_words.specs.Key.{bytes_of};
 ghost use Rattle.bodega.specs.Localread.{last_put, put_of};
-ghost use Rattle.inst_reqs.specs.Batch.{command_of, command_at, kind_of, value_of, request_of, request_at, requests_of, request_words, value_in, Pushes};
+ghost use Rattle.inst_reqs.specs.Batch.{command_of, command_at, kind_of, value_of, request_of, request_at, requests_of, request_words, Pushes};
 
 use key_words::{Key, get_key, put_key};
 
@@ -128,7 +128,7 @@ pub fn clear(s: &mut [u64])
 // The value that the i-th request puts at a key.
 fn put_at(s: &[u64], i: usize, key: Key) -> Option<u64>
     requires { (i < request_places) × (batch_words ≤ length s.now) }
-    ensures { value_in result ≡ put_of (bytes_of key) (request_at s.now i) (request_at s.now i).command }
+    ensures { result ≡ put_of (bytes_of key) (request_at s.now i) (request_at s.now i).command }
 {
     let p = 1 + i * layout::REQUEST_ROW;
     let p1 = p + 1;
@@ -147,7 +147,7 @@ fn put_at(s: &[u64], i: usize, key: Key) -> Option<u64>
 // The value of the last Put of a key among the first n requests.
 pub fn last_put_among(s: &[u64], n: usize, key: Key) -> Option<u64>
     requires { (n ≤ request_places) × (batch_words ≤ length s.now) }
-    ensures { value_in result ≡ last_put (bytes_of key) (tab (request_at s.now) 0 n) }
+    ensures { result ≡ last_put (bytes_of key) (tab (request_at s.now) 0 n) }
 {
     let mut i = n;
     while 0 < i {
@@ -166,7 +166,7 @@ pub fn last_put_among(s: &[u64], n: usize, key: Key) -> Option<u64>
 // The value of the last Put of a key.
 pub fn last_put(s: &[u64], key: Key) -> Option<u64>
     requires { batch_words ≤ length s.now }
-    ensures { value_in result ≡ last_put (bytes_of key) (requests_of s.now) }
+    ensures { result ≡ last_put (bytes_of key) (requests_of s.now) }
 {
     let n = count(s);
     last_put_among(s, n, key)

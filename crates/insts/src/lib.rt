@@ -8,7 +8,7 @@ ghost use Rattle.ids.specs.Limits.{top};
 ghost use Rattle.layout.specs.Layout.{batch_words, held_places, slot_places, slot_words};
 ghost use Rattle.key_words.specs.Key.{bytes_of};
 ghost use Rattle.inst_cell.specs.Cell.{cell_of, status_of, with_status};
-ghost use Rattle.inst_reqs.specs.Batch.{requests_of, value_in};
+ghost use Rattle.inst_reqs.specs.Batch.{requests_of};
 ghost use Rattle.inst_holding.specs.Held.{read_of};
 ghost use Rattle.insts.specs.Slots.{batch_start, reads_start, short_at, batch_at, reads_at, seen_reads, insts_of, null_short, Puts, inst_in};
 ghost use Rattle.bodega.specs.Grounds.{any, holds};
@@ -110,7 +110,7 @@ pub fn push_read(s: &mut [u64], c: usize, x: ReadReq)
 // The value of the last Put of a key in the batch at place c.
 pub fn last_put(s: &[u64], c: usize, key: Key) -> Option<u64>
     requires { (c < slot_places) × (slot_words ≤ length s.now) }
-    ensures { value_in result ≡ last_put (bytes_of key) (batch_at s.now c) }
+    ensures { result ≡ last_put (bytes_of key) (batch_at s.now c) }
 {
     let from = layout::BATCHES_FROM + c * layout::BATCH_WORDS;
     let to = from + layout::BATCH_WORDS;

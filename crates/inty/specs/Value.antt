@@ -7,10 +7,6 @@ use Rattle.inty.specs.declared.Inty.{Inty}
 abbrev pub value_of : Inty → ℕ
 value_of x = x.hi * 2 ^ 64 + x.lo
 
-abbrev pub checked : Option Inty → Option ℕ
-checked (Some x) = Some (value_of x)
-checked None = None
-
 -- the number where 128 bits hold it
 abbrev pub bounded : ℕ → Option ℕ
 bounded n = if ltb n (2 ^ 128) then Some n else None

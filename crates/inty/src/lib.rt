@@ -1,8 +1,8 @@
 // `IntyKey` of keyrange.rs is a `u128`: here two 64-bit halves.
 #![tactic(auto)]
 
-ghost use Rattle.std.specs.Prelude.{◌≡◌, ℕ, ◌+◌, ◌-◌, ◌*◌, ◌/◌, ◌%◌, ltb, eqb};
-ghost use Rattle.inty.specs.Value.{value_of, checked, bounded};
+ghost use Rattle.std.specs.Prelude.{◌≡◌, ℕ, ◌+◌, ◌-◌, ◌*◌, ◌/◌, ◌%◌, ltb, eqb, option_map};
+ghost use Rattle.inty.specs.Value.{value_of, bounded};
 
 #[derive(Clone, Copy)]
 pub struct Inty {
@@ -48,7 +48,7 @@ pub fn is_zero(a: Inty) -> bool
 
 // `checked_add(1)`.
 pub fn succ(a: Inty) -> Option<Inty>
-    ensures { checked result ≡ bounded (value_of a + 1) }
+    ensures { option_map value_of result ≡ bounded (value_of a + 1) }
 {
     if a.lo < 0xffff_ffff_ffff_ffff {
         return Some(Inty {
@@ -96,7 +96,7 @@ pub fn is_next(a: Inty, b: Inty) -> bool
 
 // 10 * x + d.
 pub fn ten_step(x: Inty, d: u8) -> Option<Inty>
-    ensures { checked result ≡ bounded (10 * value_of x + d) }
+    ensures { option_map value_of result ≡ bounded (10 * value_of x + d) }
 {
     let low = (x.lo % 0x1_0000_0000) * 10 + d as u64;
     let mid = (x.lo / 0x1_0000_0000) * 10 + low / 0x1_0000_0000;

@@ -1,5 +1,5 @@
 -- The laws of items in an answer area: the code's exits, and that reading undoes putting.
-use Rattle.std.specs.Prelude.{if◌then◌else◌}
+use Rattle.std.specs.Prelude.{if◌then◌else◌, option_map}
 use mathlib.Core.Path.{◌≡◌, refl, sym, ap, ◌∙◌}
 use mathlib.Core.Bool.{Bool, true, false, and-true, true≢false}
 use mathlib.Core.Logic.{◌⊎◌, inl, inr, ◌≢◌}
@@ -23,7 +23,7 @@ use Rattle.inty.specs.declared.Inty.{Inty}
 use Rattle.items.specs.declared.Item as declared
 use Rattle.items.specs.declared.Six.{Six}
 use Rattle.items.specs.Item.{Item, Value, Absent, Store, Pass, Hold, Retry, Resend, Commit, Lead, Prelog, Prepare, Span, Rest, Fits, six, item_of, item_words, encode, places, length_item, length_encode, encode_snoc}
-use Rattle.items.specs.Area.{Put, put_item, item_at, got_of, six_of, same_words, named, decode}
+use Rattle.items.specs.Area.{Put, put_item, item_at, six_of, same_words, named, decode}
 use Rattle.items.specs.declared.Item.{Item}
 
 -- ---- the exits
@@ -59,7 +59,7 @@ unfolding item_at
 at_none area place h = sym (rw (le-ltb place (length area / 6) h))
 
 pub at_some : (area : List ℕ) (place : ℕ) (s : Six) (g : Option Item) → place < length area / 6 → six_of s ≡ words_from 6 area (place * 6)
-    → got_of g ≡ decode (six_of s) → got_of g ≡ item_at area place
+    → option_map item_of g ≡ decode (six_of s) → option_map item_of g ≡ item_at area place
 unfolding item_at
 at_some area place s g h e f = f ∙ rw (lt-ltb place (length area / 6) h) (ap decode e)
 

@@ -11,10 +11,6 @@ use Rattle.items.specs.declared.Item.{Item}
 abbrev pub six_of : Six → List ℕ
 six_of s = six s.0 s.1 s.2 s.3 s.4 s.5
 
-abbrev pub got_of : Option Item → Option Item
-got_of (Some x) = Some (item_of x)
-got_of None = None
-
 -- the answer, and the area after it
 pub record Put : Type 0 where
   pub taken : Bool

@@ -1,9 +1,9 @@
 // The items of a call, in a lent answer area: six words each, the kind first.
 #![tactic(auto)]
 
-ghost use Rattle.std.specs.Prelude.{◌≡◌, ◌*◌, ◌+◌, ◌%◌, ◌≤◌, length};
+ghost use Rattle.std.specs.Prelude.{◌≡◌, ◌*◌, ◌+◌, ◌%◌, ◌≤◌, length, option_map};
 ghost use Rattle.items.specs.Item.{item_of, item_words};
-ghost use Rattle.items.specs.Area.{Put, put_item, item_at, got_of, six_of, same_words, named, decode};
+ghost use Rattle.items.specs.Area.{Put, put_item, item_at, six_of, same_words, named, decode};
 ghost use Rattle.words.specs.Tab.{words_from};
 ghost use Rattle.words.specs.Writes.{writes};
 
@@ -208,7 +208,7 @@ fn same_words(x: Six, y: Six) -> bool
 }
 
 fn decoded(w: Six) -> Option<Item>
-    ensures { got_of result ≡ decode (six_of w) }
+    ensures { option_map item_of result ≡ decode (six_of w) }
 {
     let item = item_named(w);
     if same_words(words_of(item), w) {
@@ -261,7 +261,7 @@ pub fn put_item(area: &mut [u64], place: usize, item: Item) -> bool
 
 // Nothing where the area has no such place, or its words are no item's.
 pub fn get_item(area: &[u64], place: usize) -> Option<Item>
-    ensures { got_of result ≡ item_at area.now place }
+    ensures { option_map item_of result ≡ item_at area.now place }
 {
     if place >= area.len() / 6 {
         return None;

@@ -2,7 +2,7 @@
 use mathlib.Core.Path.{◌≡◌, sym, ap, ◌∙◌}
 use mathlib.Core.Bool.{Bool, true, false}
 use mathlib.Core.List.{List, [], ◌∷◌}
-use Rattle.std.specs.Prelude.{Option, None}
+use Rattle.std.specs.Prelude.{Option, None, option_map}
 use Prim.Native.Nat.{ℕ, suc, ◌+◌, ◌-◌, ◌*◌, ◌^◌, ◌≤◌, ◌<◌}
 use native.Mathlib.Nat.{add-zero, zero-add}
 use native.Mathlib.Omega.{arith}
@@ -17,7 +17,6 @@ use Rattle.decimal.specs.Placed.{placed}
 use Rattle.decimal.proofs.Laws.{has_room}
 use Rattle.inty.specs.Value.{value_of}
 use Rattle.inty.specs.declared.Inty.{Inty}
-use Rattle.keys.specs.Shown.{shown}
 use Rattle.keys.specs.Read.{read_key}
 use Rattle.key_lines.proofs.Short.{answer_short}
 use Rattle.stream_pieces.specs.Pieces.{none_begun, before}
@@ -29,32 +28,32 @@ use Rattle.std.specs.Prelude.{Some}
 -- ---- a number or `-`
 module _ (s : List ℕ) (at : ℕ) (r : Option Inty) where
   module _ (e : r ≡ None) where
-    is_dash : text_of (shown r) ≡ 45 ∷ []
+    is_dash : text_of (option_map value_of r) ≡ 45 ∷ []
     unfolding text_of
-    is_dash = ap (λ (k : Option Inty). text_of (shown k)) e
+    is_dash = ap (λ (k : Option Inty). text_of (option_map value_of k)) e
 
-    pub dash_end : at + 1 ≡ at + length (text_of (shown r))
+    pub dash_end : at + 1 ≡ at + length (text_of (option_map value_of r))
     dash_end = rw is_dash
 
-    pub dash_room : at + length (text_of (shown r)) ≤ length s → at < length s
+    pub dash_room : at + length (text_of (option_map value_of r)) ≤ length s → at < length s
     dash_room h = omega (arith, dash_end)
 
-    pub dash_put : set s at 45 ≡ writes s at (text_of (shown r))
+    pub dash_put : set s at 45 ≡ writes s at (text_of (option_map value_of r))
     dash_put = rw is_dash
 
-  module _ (x : Inty) (w : Option ℕ) (l : List ℕ) (e : r ≡ Some x) (h : at + length (text_of (shown r)) ≤ length s)
+  module _ (x : Inty) (w : Option ℕ) (l : List ℕ) (e : r ≡ Some x) (h : at + length (text_of (option_map value_of r)) ≤ length s)
       (p : record { answer = w; bytes = l } ≡ placed s at (decimal (value_of x))) where
-    is_number_lem : text_of (shown r) ≡ decimal (value_of x)
+    is_number_lem : text_of (option_map value_of r) ≡ decimal (value_of x)
     unfolding text_of
-    is_number_lem = ap (λ (k : Option Inty). text_of (shown k)) e
+    is_number_lem = ap (λ (k : Option Inty). text_of (option_map value_of k)) e
 
     wrote : (w ≡ Some (at + length (decimal (value_of x)))) × (l ≡ writes s at (decimal (value_of x)))
     wrote = has_room s at (decimal (value_of x)) w l (rw is_number_lem at h) p
 
-    pub number_end : (n : ℕ) → w ≡ Some n → n ≡ at + length (text_of (shown r))
+    pub number_end : (n : ℕ) → w ≡ Some n → n ≡ at + length (text_of (option_map value_of r))
     number_end n q = rw is_number_lem (let f = wrote.0 in cc)
 
-    pub number_put : (n : ℕ) → w ≡ Some n → l ≡ writes s at (text_of (shown r))
+    pub number_put : (n : ℕ) → w ≡ Some n → l ≡ writes s at (text_of (option_map value_of r))
     number_put n q = rw is_number_lem wrote.1
 
     never : w ≡ None → ⊥
@@ -63,10 +62,10 @@ module _ (s : List ℕ) (at : ℕ) (r : Option Inty) where
         zero_one : ◌≡◌ {A = ℕ} 0 1 → ⊥
         zero_one e = omega arith
 
-    pub short_end : w ≡ None → at ≡ at + length (text_of (shown r))
+    pub short_end : w ≡ None → at ≡ at + length (text_of (option_map value_of r))
     short_end q = absurd (never q)
 
-    pub short_put : w ≡ None → l ≡ writes s at (text_of (shown r))
+    pub short_put : w ≡ None → l ≡ writes s at (text_of (option_map value_of r))
     short_put q = absurd (never q)
 
 -- ---- and the newline

@@ -2,9 +2,8 @@
 // does not read. A line of more than 1,024 bytes is not kept, and is answered `-`.
 #![tactic(auto)]
 
-ghost use Rattle.std.specs.Prelude.{◌≡◌, [], ◌+◌, ◌*◌, ◌≤◌, length, drop};
+ghost use Rattle.std.specs.Prelude.{◌≡◌, [], ◌+◌, ◌*◌, ◌≤◌, length, drop, option_map};
 ghost use Rattle.words.specs.Writes.{writes};
-ghost use Rattle.keys.specs.Shown.{shown};
 ghost use Rattle.stream_pieces.specs.Streamed.{streamed, last_line, output_after};
 ghost use Rattle.key_lines.specs.Lines.{text_of, answer_of, line_read, answer, line_output};
 
@@ -19,8 +18,8 @@ pub struct Fed {
 }
 
 fn put_text(out: &mut [u8], at: usize, r: Option<Inty>) -> usize
-    requires { at + length (text_of (shown r)) ≤ length out.old }
-    ensures { (result ≡ at + length (text_of (shown r))) × (out.new ≡ writes out.old at (text_of (shown r))) }
+    requires { at + length (text_of (option_map value_of r)) ≤ length out.old }
+    ensures { (result ≡ at + length (text_of (option_map value_of r))) × (out.new ≡ writes out.old at (text_of (option_map value_of r))) }
 {
     let Some(x) = r else {
         out[at] = b'-';
@@ -33,8 +32,8 @@ fn put_text(out: &mut [u8], at: usize, r: Option<Inty>) -> usize
 }
 
 fn put_answer(out: &mut [u8], at: usize, r: Option<Inty>) -> usize
-    requires { at + length (answer_of (shown r)) ≤ length out.old }
-    ensures { (result ≡ at + length (answer_of (shown r))) × (out.new ≡ writes out.old at (answer_of (shown r))) }
+    requires { at + length (answer_of (option_map value_of r)) ≤ length out.old }
+    ensures { (result ≡ at + length (answer_of (option_map value_of r))) × (out.new ≡ writes out.old at (answer_of (option_map value_of r))) }
 {
     let end = put_text(out, at, r);
     out[end] = b'\n';
@@ -42,7 +41,7 @@ fn put_answer(out: &mut [u8], at: usize, r: Option<Inty>) -> usize
 }
 
 fn read_line(line: &[u8], long: bool) -> Option<Inty>
-    ensures { shown result ≡ line_read long line.now }
+    ensures { option_map value_of result ≡ line_read long line.now }
 {
     if long {
         return None;

@@ -59,10 +59,6 @@ bytes_of k = if is_packed k then unpack_of k else words_of k ++ replicate 42 0
 abbrev pub at_most_48 : List ℕ → Option (List ℕ)
 at_most_48 b = if leb (length b) key_bytes then Some b else None
 
-abbrev pub key_in : Option Key → Option (List ℕ)
-key_in (Some k) = Some (bytes_of k)
-key_in None = None
-
 abbrev pub bytes_in : Option ℕ → List ℕ → Option (List ℕ)
 bytes_in (Some n) t = Some (take n t)
 bytes_in None t = None

@@ -1,10 +1,10 @@
 // A key of at most 48 bytes as seven words: its length, and its bytes, eight to a word, 0 past its end.
 #![tactic(auto)]
 
-ghost use Rattle.std.specs.Prelude.{◌≡◌, true, ◌+◌, ◌<◌, ◌≤◌, ◌%◌, length, get_or, take};
+ghost use Rattle.std.specs.Prelude.{◌≡◌, true, ◌+◌, ◌<◌, ◌≤◌, ◌%◌, length, get_or, take, option_map};
 ghost use Rattle.words.specs.Writes.{writes};
 ghost use Rattle.keys.specs.Same.{same_bytes};
-ghost use Rattle.key_words.specs.Key.{key_at, words_of, same_key, pack_of, le_word, le_bytes, bytes_of, key_in, at_most_48, Unpacks, all_bytes, is_packed};
+ghost use Rattle.key_words.specs.Key.{key_at, words_of, same_key, pack_of, le_word, le_bytes, bytes_of, at_most_48, Unpacks, all_bytes, is_packed};
 
 
 #[derive(Clone, Copy)]
@@ -163,7 +163,7 @@ pub fn pack_short(bytes: &[u8]) -> Key
 }
 
 pub fn pack(bytes: &[u8]) -> Option<Key>
-    ensures { key_in result ≡ at_most_48 bytes.now }
+    ensures { option_map bytes_of result ≡ at_most_48 bytes.now }
 {
     if keys::KEY_BYTES < bytes.len() {
         return None;

@@ -2,7 +2,7 @@
 use mathlib.Core.Path.{◌≡◌, refl, sym, ap, ◌∙◌}
 use mathlib.Core.Bool.{Bool, true, false, ◌&&◌}
 use mathlib.Core.List.{List, [], ◌∷◌}
-use Rattle.std.specs.Prelude.{Option, None, Some}
+use Rattle.std.specs.Prelude.{Option, None, Some, option_map}
 use Prim.Native.Nat.{ℕ, ◌+◌, ◌-◌, ◌*◌, ◌^◌, ◌≤◌, ◌<◌}
 use native.Mathlib.Numerals.{add-one}
 use native.Mathlib.Nat.{le_trans, lt_of_lt_of_le}
@@ -12,7 +12,7 @@ use lib.Seq.{drop-cons}
 use lib.Dec.{leb, eqb, lit≤}
 use borrow.Author.Tests.{lt-ltb, le-ltb, le-leb, lt-leb, leb-true, eq-eqb, ne_eqb}
 use Rattle.inty.proofs.Laws.{below_top, low_only, was_in, was_out}
-use Rattle.inty.specs.Value.{value_of, checked, bounded}
+use Rattle.inty.specs.Value.{value_of, bounded}
 use Rattle.inty.specs.declared.Inty.{Inty}
 use Rattle.keys.specs.Read.{is_k, is_digit, strip, sign, number, digits, overflow, read_key}
 
@@ -97,12 +97,12 @@ module _ (s : List ℕ) (i a : ℕ) (k : Option ℕ) where
       pub digit_on : (w : ℕ) → w ≡ get_or s i 0 - 48 → overflow (number (10 * a + w) (drop (i + 1) s)) ≡ k
       digit_on w p = rw p (sym (ap (λ (l : List ℕ). overflow (number a l)) (uncons s i h) ∙ simp (sym e ∙ f)) ∙ g)
 
-      module _ (r : Option Inty) (p : checked r ≡ bounded (10 * a + (get_or s i 0 - 48))) where
+      module _ (r : Option Inty) (p : option_map value_of r ≡ bounded (10 * a + (get_or s i 0 - 48))) where
         pub digit_next : (y : Inty) → r ≡ Some y → overflow (number (value_of y) (drop (i + 1) s)) ≡ k
-        digit_next y q = rw (was_in (value_of y) (10 * a + (get_or s i 0 - 48)) (ap checked (sym q) ∙ p)) (digit_on _ refl)
+        digit_next y q = rw (was_in (value_of y) (10 * a + (get_or s i 0 - 48)) (ap (option_map value_of) (sym q) ∙ p)) (digit_on _ refl)
 
         pub digit_over : r ≡ None → None ≡ k
-        digit_over q = sym (past _ (drop (i + 1) s) (was_out _ (ap checked (sym q) ∙ p))) ∙ digit_on _ refl
+        digit_over q = sym (past _ (drop (i + 1) s) (was_out _ (ap (option_map value_of) (sym q) ∙ p))) ∙ digit_on _ refl
 
   -- the rest was read beyond one word
   pub digit_long : (r : Option ℕ) → r ≡ overflow (number a (drop i s)) → overflow (number a (drop i s)) ≡ k → r ≡ k

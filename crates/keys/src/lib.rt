@@ -1,9 +1,8 @@
 // `key_to_inty` of keyrange.rs: the number that a key reads as.
 #![tactic(auto)]
 
-ghost use Rattle.std.specs.Prelude.{◌≡◌, ◌≤◌, length, drop};
+ghost use Rattle.std.specs.Prelude.{◌≡◌, ◌≤◌, length, drop, option_map};
 ghost use Rattle.keys.specs.Read.{is_k, is_digit, strip, sign, number, overflow, read_key};
-ghost use Rattle.keys.specs.Shown.{shown};
 
 use inty::Inty;
 
@@ -59,7 +58,7 @@ fn skip_sign(key: &[u8], from: usize) -> usize
 // The digits from `from` on, after those that made `acc`.
 fn read_long(key: &[u8], from: usize, acc: u64) -> Option<Inty>
     requires { from ≤ length key.now }
-    ensures { shown result ≡ overflow (number acc (drop from key.now)) }
+    ensures { option_map value_of result ≡ overflow (number acc (drop from key.now)) }
 {
     let mut x = Inty { hi: 0, lo: acc };
     let mut i = from;
@@ -81,7 +80,7 @@ fn read_long(key: &[u8], from: usize, acc: u64) -> Option<Inty>
 // The digits from `from` on: one word holds 19 of them and often 20, so most keys end here.
 fn read_digits(key: &[u8], from: usize) -> Option<Inty>
     requires { from ≤ length key.now }
-    ensures { shown result ≡ overflow (number 0 (drop from key.now)) }
+    ensures { option_map value_of result ≡ overflow (number 0 (drop from key.now)) }
 {
     let mut acc: u64 = 0;
     let mut i = from;
@@ -101,7 +100,7 @@ fn read_digits(key: &[u8], from: usize) -> Option<Inty>
 }
 
 pub fn key_to_inty(key: &[u8]) -> Option<Inty>
-    ensures { shown result ≡ read_key key.now }
+    ensures { option_map value_of result ≡ read_key key.now }
 {
     let start = skip_sign(key, skip_ks(key));
     if start < key.len() {

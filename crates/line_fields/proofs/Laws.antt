@@ -20,6 +20,7 @@ use Rattle.line_fields.specs.declared.OptionalAt.{OptionalAt}
 use Rattle.line_fields.specs.Split.{on_first, fields_of, fields_from}
 use Rattle.line_fields.specs.Number.{is_digit, all_digits, value_from, value_of, has_byte, is_number, all_numbers, numbers, number_at}
 use Rattle.line_fields.specs.Reads.{none_left, between, FirstField, ReadsField, ReadsNumber, ReadsNumberAt, leading, ReadsNumbersAt, is_optional, ReadsOptionalAt}
+use Rattle.ids.specs.Refusal.{number_of}
 
 differ : true ≡ false → ⊥
 differ h = let z : ◌≡◌ {A = ℕ} 0 1 = cc in omega arith

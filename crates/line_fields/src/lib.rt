@@ -5,6 +5,7 @@ ghost use Rattle.std.specs.Prelude.{◌≡◌, true, false, ◌+◌, ◌*◌, �
 ghost use Rattle.line_fields.specs.Split.{fields_from};
 ghost use Rattle.line_fields.specs.Number.{is_digit};
 ghost use Rattle.line_fields.specs.Reads.{none_left, ReadsField, ReadsNumber, ReadsNumberAt, ReadsNumbersAt, ReadsOptionalAt};
+ghost use Rattle.ids.specs.Refusal.{number_of};
 
 #[derive(Clone, Copy)]
 pub struct Field {

@@ -27,6 +27,7 @@ use Rattle.layout.specs.Layout.{node_words}
 use Rattle.node.specs.declared.Node.{Node}
 use Rattle.node.specs.View.{size, view, in_range, bars_in_range, sound, ready, lowest, leads_it}
 use Rattle.std.specs.Prelude.{Option}
+use Rattle.ids.specs.Refusal.{refused_by}
 
 -- ---- tests
 

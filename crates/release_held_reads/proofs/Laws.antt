@@ -23,7 +23,7 @@ use Rattle.inst_cell.specs.Cell.{Notices, Short, cell_of, book_of}
 use Rattle.inst_cell.specs.declared.Cell.{Cell}
 use Rattle.inst_cell.specs.declared.NoticeBook.{NoticeBook}
 use Rattle.inst_cell.specs.declared.Status.TheVariants.{Null, Preparing, Accepting, Committed, Executed}
-use Rattle.inst_reqs.specs.Batch.{requests_of, value_in}
+use Rattle.inst_reqs.specs.Batch.{requests_of}
 use Rattle.inst_holding.specs.Held.{read_at}
 use Rattle.inst_holding.proofs.Laws.{reads_are}
 use Rattle.insts.specs.Slots.{batch_start, reads_start, short_at, batch_at, reads_at, inst_of, inst_in, Puts}
@@ -70,7 +70,7 @@ module _ (bound : Bool) (leader : Option ℕ) (reqs : List machine.Request) (q :
   pub open_retry : not bound ≡ true → Retry q.client q.request leader ≡ answer_to bound leader reqs q
   open_retry h = rw h
 
-  module _ (h : not bound ≡ false) (o : Option ℕ) (e : value_in o ≡ last_put q.key reqs) where
+  module _ (h : not bound ≡ false) (o : Option ℕ) (e : o ≡ last_put q.key reqs) where
     pub put_value : (v : ℕ) → o ≡ Some v → Value q.client q.request v ≡ answer_to bound leader reqs q
     put_value v f = rw (h, ← e, f)
 

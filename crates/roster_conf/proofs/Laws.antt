@@ -1,6 +1,6 @@
 -- What the proofs of the edits share: from the code's tests to the ground that applies, and from what is stored to the
 -- roster.
-use Rattle.std.specs.Prelude.{if◌then◌else◌}
+use Rattle.std.specs.Prelude.{if◌then◌else◌, option_map}
 use mathlib.Core.Path.{◌≡◌, refl, sym, ap, ◌∙◌}
 use mathlib.Core.Bool.{Bool, true, false, not, ◌&&◌}
 use mathlib.Core.List.{List}
@@ -19,7 +19,6 @@ use Rattle.inty.specs.declared.Inty.{Inty}
 use Rattle.inty.specs.Value.{value_of}
 use Rattle.bitmap.specs.Bitmap.{fits, set_to}
 use Rattle.keys.specs.Read.{read_key}
-use Rattle.keys.specs.Shown.{shown}
 use Rattle.roster_ranges.specs.Range.{Range, mask_at, overwrite, remasked}
 use Rattle.roster_map.specs.declared.Row.{Row}
 use Rattle.roster_map.specs.Rows.{range_of, ranges_of, capped, Stores}
@@ -227,26 +226,26 @@ module _ (p mask : ℕ) (t4 : Bool) (e4 : t4 ≡ fits mask p) where
         unfolding grounds
         range_5_end h c = turned_away p c (SetResponders start end mask) 5 (simp (ok4, le-ltb 48 (length start) g, lt-ltb 48 (length end) h))
 
-        module _ (h : length end ≤ 48) (ka : Option Inty) (ea : shown ka ≡ read_key start) where
+        module _ (h : length end ≤ 48) (ka : Option Inty) (ea : option_map value_of ka ≡ read_key start) where
           pub range_6 : ka ≡ None → Asks p start end mask (Err 6)
           unfolding grounds
           range_6 k c =
-              let q : read_key start ≡ None = sym ea ∙ ap shown k in
+              let q : read_key start ≡ None = sym ea ∙ ap (option_map value_of) k in
               turned_away p c (SetResponders start end mask) 6 (simp (ok4, le-ltb 48 (length start) g, le-ltb 48 (length end) h, q))
 
-          module _ (a : Inty) (fa : ka ≡ Some a) (kb : Option Inty) (eb : shown kb ≡ read_key end) where
+          module _ (a : Inty) (fa : ka ≡ Some a) (kb : Option Inty) (eb : option_map value_of kb ≡ read_key end) where
             start_is : read_key start ≡ Some (value_of a)
-            start_is = sym ea ∙ ap shown fa
+            start_is = sym ea ∙ ap (option_map value_of) fa
 
             pub range_6_end : kb ≡ None → Asks p start end mask (Err 6)
             unfolding grounds
             range_6_end k c =
-                let q : read_key end ≡ None = sym eb ∙ ap shown k in
+                let q : read_key end ≡ None = sym eb ∙ ap (option_map value_of) k in
                 turned_away p c (SetResponders start end mask) 6 (simp (ok4, le-ltb 48 (length start) g, le-ltb 48 (length end) h, start_is, q))
 
             module _ (b : Inty) (fb : kb ≡ Some b) (t7 : Bool) (e7 : t7 ≡ ltb (value_of b) (value_of a)) where
               end_is : read_key end ≡ Some (value_of b)
-              end_is = sym eb ∙ ap shown fb
+              end_is = sym eb ∙ ap (option_map value_of) fb
 
               pub range_7 : t7 ≡ true → Asks p start end mask (Err 7)
               unfolding grounds
@@ -287,13 +286,13 @@ module _ (c : RespondersConf) (s key : List ℕ) (t : Bool) (e : t ≡ holds_row
   unfolding lookup
   lookup_2 f = sym (simp (sym e ∙ not-true t f))
 
-  module _ (f : not t ≡ false) (k : Option Inty) (g : shown k ≡ read_key key) where
+  module _ (f : not t ≡ false) (k : Option Inty) (g : option_map value_of k ≡ read_key key) where
     pub lookup_none : k ≡ None → Ok None ≡ lookup c s key
     unfolding lookup get_responders_by_key
-    lookup_none h = let q : read_key key ≡ None = sym g ∙ ap shown h in sym (simp (sym e ∙ not-false t f, q))
+    lookup_none h = let q : read_key key ≡ None = sym g ∙ ap (option_map value_of) h in sym (simp (sym e ∙ not-false t f, q))
 
     pub lookup_mask : (n : Inty) (m : ℕ) → k ≡ Some n → m ≡ mask_at c.default (ranges_of s c.count) (value_of n) → Ok (Some m ≡ lookup c s key
     unfolding lookup get_responders_by_key view
     lookup_mask n m h w =
-        let q : read_key key ≡ Some (value_of n) = sym g ∙ ap shown h in
+        let q : read_key key ≡ Some (value_of n) = sym g ∙ ap (option_map value_of) h in
         ap Ok (Some w ∙ sym (simp (sym e ∙ not-false t f, q))

@@ -1,5 +1,5 @@
 -- What the proofs of this crate share: rows of words as ranges, a push at the end of a table, and passes over one.
-use Rattle.std.specs.Prelude.{if◌then◌else◌}
+use Rattle.std.specs.Prelude.{if◌then◌else◌, option_map}
 use mathlib.Core.Path.{◌≡◌, refl, sym, ap, ◌∙◌}
 use mathlib.Core.Bool.{Bool, true, false, ◌&&◌}
 use mathlib.Core.Logic.{inl, inr}
@@ -19,14 +19,14 @@ use Rattle.words.specs.Writes.{writes, writes_other, writes_same}
 use Rattle.ids.specs.declared.Replica.{Replica}
 use Rattle.layout.specs.Layout.{roster_row, roster_words}
 use Rattle.bitmap.specs.Bitmap.{set_to}
-use Rattle.inty.specs.Value.{value_of, checked, bounded}
+use Rattle.inty.specs.Value.{value_of, bounded}
 use Rattle.inty.specs.declared.Inty.{Inty}
 use Rattle.inty.proofs.Laws.{was_in, was_out, below_top}
 use Rattle.roster_ranges.specs.Range.{Range, inside, at, mask_at, goes_on, joined, push, push_all, cut_below, cut_above, below, above, each, overwrite, remask, remasked}
 use Rattle.roster_map.specs.declared.Row.{Row}
 use Rattle.roster_map.specs.declared.Cut.{Cut}
 use Rattle.roster_map.specs.declared.Cut.TheVariants.{Below, Above, Without}
-use Rattle.roster_map.specs.Rows.{range_of, row_words, range_at, ranges_of, mask_in, extends_last, kept, Stores}
+use Rattle.roster_map.specs.Rows.{range_of, row_words, range_at, ranges_of, extends_last, kept, Stores}
 
 -- ---- rows
 
@@ -131,12 +131,12 @@ module _ (s : List ℕ) (n v i : ℕ) (o : Option ℕ) where
   lost h g = sym (ap (λ (l : List Range). at l v) (from_none s i n h)) ∙ g
 
 -- the mask where one is stored, and the default where none is
-module _ (d v : ℕ) (l : List Range) (r : Option ℕ) (e : mask_in r ≡ at l v) where
+module _ (d v : ℕ) (l : List Range) (r : Option ℕ) (e : r ≡ at l v) where
   pub mask_found : (m : ℕ) → r ≡ Some m → m ≡ mask_at d l v
-  mask_found m f = ap (λ (x : Option ℕ). if_none mask_in x then d else λ k. k) (sym f) ∙ ap (λ (o : Option ℕ). if_none o then d else λ k. k) e
+  mask_found m f = ap (λ (x : Option ℕ). if_none x then d else λ k. k) (sym f) ∙ ap (λ (o : Option ℕ). if_none o then d else λ k. k) e
 
   pub mask_default : r ≡ None → d ≡ mask_at d l v
-  mask_default f = ap (λ (x : Option ℕ). if_none mask_in x then d else λ k. k) (sym f) ∙ ap (λ (o : Option ℕ). if_none o then d else λ k. k) e
+  mask_default f = ap (λ (x : Option ℕ). if_none x then d else λ k. k) (sym f) ∙ ap (λ (o : Option ℕ). if_none o then d else λ k. k) e
 
 -- ---- a push
 
@@ -209,15 +209,15 @@ part_below a f u m k t e p g = simp (sym e ∙ p) (ap (λ (x : ℕ). record { fr
 pub whole_above : (b : ℕ) (r : Range) (t : Bool) → t ≡ ltb b r.from → t ≡ true → r ≡ cut_above b r
 whole_above b r t e f = simp (sym e ∙ f)
 
-pub part_above : (b f u m : ℕ) (t : Bool) (c : Option Inty) (y : Inty) → t ≡ ltb b f → t ≡ false → checked c ≡ bounded (b + 1) → c ≡ Some y
+pub part_above : (b f u m : ℕ) (t : Bool) (c : Option Inty) (y : Inty) → t ≡ ltb b f → t ≡ false → option_map value_of c ≡ bounded (b + 1) → c ≡ Some y
     → ◌≡◌ {A = Range} (record { from = value_of y; to = u; mask = m }) (cut_above b (record { from = f; to = u; mask = m }))
 part_above b f u m t c y e p g k =
-    let n : value_of y ≡ b + 1 = was_in (value_of y) (b + 1) (ap checked (sym k) ∙ g) in
+    let n : value_of y ≡ b + 1 = was_in (value_of y) (b + 1) (ap (option_map value_of) (sym k) ∙ g) in
     simp (sym e ∙ p) (ap (λ (x : ℕ). record { from = x; to = u; mask = m }) n)
 
 -- what lies below a two-half number has a successor
-pub has_next : (x y : Range) (b : ℕ) (c : Option Inty) (h l : ℕ) → checked c ≡ bounded (b + 1) → c ≡ None → b < h * 18446744073709551616 + l → h < 2 ^ 64 → l < 2 ^ 64 → x ≡ y
-has_next x y b c h l e f g p q = absurd (not_below (b + 1) (was_out (b + 1) (ap checked (sym f) ∙ e)) (lt_of_le_of_lt (rw add-one g) (below_top h l p q)))
+pub has_next : (x y : Range) (b : ℕ) (c : Option Inty) (h l : ℕ) → option_map value_of c ≡ bounded (b + 1) → c ≡ None → b < h * 18446744073709551616 + l → h < 2 ^ 64 → l < 2 ^ 64 → x ≡ y
+has_next x y b c h l e f g p q = absurd (not_below (b + 1) (was_out (b + 1) (ap (option_map value_of) (sym f) ∙ e)) (lt_of_le_of_lt (rw add-one g) (below_top h l p q)))
   where
     not_below : (k : ℕ) → 2 ^ 128 ≤ k → k < 2 ^ 128 → ⊥
     not_below k a b = lt_irrefl k (lt_of_lt_of_le b a)

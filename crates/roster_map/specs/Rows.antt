@@ -32,10 +32,6 @@ range_at s p =
 unfoldable pub ranges_of : List ℕ → ℕ → List Range
 ranges_of s n = tab (λ i. range_at s (i * roster_row)) 0 n
 
-abbrev pub mask_in : Option ℕ → Option ℕ
-mask_in (Some m) = Some m
-mask_in None = None
-
 -- whether r goes on from the last range
 abbrev pub extends_last : List Range → Range → Bool
 extends_last [] r = false

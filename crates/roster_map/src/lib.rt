@@ -7,7 +7,7 @@ ghost use Rattle.layout.specs.Layout.{roster_row, roster_words};
 ghost use Rattle.inty.specs.Value.{value_of};
 ghost use Rattle.roster_ranges.specs.Range.{inside, at, mask_at, goes_on, joined, push as pushed, push_all, cut_below, cut_above, below, above, each, overwrite, remask, remasked};
 ghost use Rattle.bitmap.specs.Bitmap.{set_to};
-ghost use Rattle.roster_map.specs.Rows.{range_of, row_words, range_at, ranges_of, mask_in, extends_last, kept, Stores};
+ghost use Rattle.roster_map.specs.Rows.{range_of, row_words, range_at, ranges_of, extends_last, kept, Stores};
 
 use ids::Replica;
 use inty::Inty;
@@ -99,7 +99,7 @@ fn mask_of(rows: &[u64], i: usize) -> u64
 // The mask stored at n.
 pub fn at(rows: &[u64], count: usize, n: Inty) -> Option<u64>
     requires { count * roster_row ≤ length rows.now }
-    ensures { mask_in result ≡ at (ranges_of rows.now count) (value_of n) }
+    ensures { result ≡ at (ranges_of rows.now count) (value_of n) }
 {
     let mut i = 0;
     while i < count {

@@ -1,6 +1,6 @@
 use Prim.Native.Nat.{◌*◌}
 use Rattle.layout.specs.Layout.{cell_row}
-use Rattle.inst_cell.specs.Cell.{status_of, acks_of, book_of}
+use Rattle.inst_cell.specs.Cell.{status_of, book_of}
 use Rattle.inst_cell.proofs.Laws as law
 use lib.ListN.{length-set}
 use native.Mathlib.Omega.{arith}
@@ -27,4 +27,4 @@ bounds-cells-p6 c = simp length-set (omega arith)
 pub returns : goal.returns
 returns c =
     let a = c.args in
-    law.words_are a.cells.now (a.c * cell_row) a.cell.bal.0 _ _ _ _ _ _ (status_of a.cell.status) (acks_of a.cell.leader_bk) (book_of a.cell.replica_bk) c.status_word-w.ensures c.ack_words-a.ensures c.book_words-b.ensures
+    law.words_are a.cells.now (a.c * cell_row) a.cell.bal.0 _ _ _ _ _ _ (status_of a.cell.status) (a.cell.leader_bk) (book_of a.cell.replica_bk) c.status_word-w.ensures c.ack_words-a.ensures c.book_words-b.ensures
