@@ -21,7 +21,7 @@ fn digit_count(x: Inty) -> usize
 {
     let t = x.div_ten();
     let q = t.quotient;
-    if q == Inty::ZERO {
+    if q.is_zero() {
         return 1;
     }
     digit_count(q) + 1
@@ -35,7 +35,7 @@ fn put(out: &mut [u8], at: usize, x: Inty) -> usize
     let t = x.div_ten();
     let d = digit(t.remainder);
     let q = t.quotient;
-    if q == Inty::ZERO {
+    if q.is_zero() {
         out[at] = d;
         return at + 1;
     }

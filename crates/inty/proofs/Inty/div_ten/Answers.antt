@@ -1,9 +1,9 @@
 use Rattle.inty.proofs.Laws as law
 use borrow.Author.Rules.{rules}
-use Rattle.inty.proofs.div_ten.Goals as goal
+use Rattle.inty.proofs.Inty.div_ten.Goals as goal
 
-pub returns-then-x-eq0 : goal.returns-then-x-eq0
-returns-then-x-eq0 c = search (rules, law.small_tenth, law.small_rest)
+pub returns-then-self-eq0 : goal.returns-then-self-eq0
+returns-then-self-eq0 c = search (rules, law.small_tenth, law.small_rest)
 
 pub overflow_add-mid : goal.overflow_add-mid
 overflow_add-mid c = record { fits = search (rules, law.mid10_fits) }
