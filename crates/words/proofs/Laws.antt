@@ -1,15 +1,13 @@
--- Words copied one by one.
-use mathlib.Core.Path.{◌≡◌, sym, ap, ◌∙◌}
-use mathlib.Core.List.{List}
-use Prim.Native.Nat.{ℕ, ◌+◌, ◌≤◌, ◌<◌}
-use native.Mathlib.Omega.{arith}
-use lib.ListN.{length, get_or, set, take}
-use Rattle.words.specs.Writes.{writes, writes_take}
+-- A run of stores is one part put in.
+use Rattle.std.proofs.Common.{◌≡◌, ℕ, ◌+◌, ◌≤◌, ◌<◌, List, [], ◌∷◌, ◌++◌, length, set, take, drop, ◌∙◌, sym, arith, append_assoc, take-append-drop, length-set, add-zero}
+use Rattle.std.proofs.lemmas.List.{drop-set-lt, take_more_set, take-append-drop}
+use Rattle.words.specs.Writes.{writes}
 
-pub copy_step : (s t k : List ℕ) (i n : ℕ) → i < n → n ≤ length k → t ≡ writes s 0 (take i k) → set t i (get_or k i 0) ≡ writes s 0 (take (i + 1) k)
-copy_step s t k i n f g e =
-    let z : 0 + i ≡ i = omega arith in
-    ap (λ (x : List ℕ). set x i (get_or k i 0)) e ∙ ap (λ (j : ℕ). set (writes s 0 (take i k)) j (get_or k i 0)) (sym z) ∙ writes_take s 0 k i (omega arith)
-
-pub copied : (s t k : List ℕ) (i n : ℕ) → n ≤ i → i ≤ n → t ≡ writes s 0 (take i k) → t ≡ writes s 0 (take n k)
-copied s t k i n f g e = let z : i ≡ n = omega arith in rw z at e
+pub writes_is : (s : List ℕ) (at : ℕ) (vs : List ℕ) → at + length vs ≤ length s → writes s at vs ≡ take at s ++ (vs ++ drop (at + length vs) s)
+writes_is s at [] h = rw add-zero (sym (take-append-drop at s))
+writes_is s at (v ∷ vs) h =
+    let i : at < length s = omega arith in
+    let l : at + 1 + length vs ≤ length (set s at v) = rw length-set (omega arith) in
+    let e : at + 1 + length vs ≡ at + length (v ∷ vs) = omega arith in
+    let b : at < at + 1 + length vs = omega arith in
+    writes_is (set s at v) (at + 1) vs l ∙ rw (take_more_set s at v i, drop-set-lt (at + 1 + length vs) s at v b, e, append_assoc)

@@ -1,8 +1,8 @@
 -- Trusted: a run of stores into a list, and what stays as it was; the laws below it are proved.
-use Rattle.std.specs.Prelude.{◌≡◌, refl, ◌⊎◌, ◌≢◌, List, [], ◌∷◌, ◌++◌, ℕ, zero, suc, ◌+◌, ◌≤◌, ◌<◌, length, get_or, set, take}
-use Rattle.std.proofs.Common.{sym, ap, ◌∙◌, inl, inr, ⊎_elim, add_assoc, add-zero, not-suc-le-zero, add-one, arith, length-set, get_or-set_same, get_or-set_other, take-suc, length-take-le, ext_get_or}
+use Rattle.std.specs.Prelude.{◌≡◌, refl, ◌⊎◌, List, [], ◌∷◌, ◌++◌, ℕ, zero, suc, ◌+◌, ◌≤◌, ◌<◌, length, get_or, set, take}
+use Rattle.std.proofs.Common.{ap, ◌∙◌, inl, inr, ⊎_elim, add-zero, not-suc-le-zero, add-one, arith, length-set, get_or-set_same, get_or-set_other, take-suc, length-take-le, ext_get_or}
 use Rattle.words.specs.Part.{part, part_set_below}
-use Rattle.words.specs.Tab.{tab, words_from, tab_ext, length_tab, get_or_tab}
+use Rattle.words.specs.Tab.{words_from, tab_ext, length_tab, get_or_tab}
 
 -- vs stored element by element from index at
 abbrev pub writes : List ℕ → ℕ → List ℕ → List ℕ
