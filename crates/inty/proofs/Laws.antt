@@ -1,73 +1,17 @@
--- Laws that the proofs of this crate, and of its callers, share: two tests are the same where each fact gives the
--- other; a number and its two halves. `omega` stops at numbers of more than 38 digits, and 2 ^ 128 has 39, so the laws
+-- Laws of a number and its two halves. `omega` stops at numbers of more than 38 digits, and 2 ^ 128 has 39, so the laws
 -- of two halves are over any base B, where h * B is an unknown to it.
 use mathlib.Core.Path.{◌≡◌, refl, sym, ap, ◌∙◌}
 use mathlib.Core.Bool.{Bool, true, false}
-use Prim.Native.Nat.{ℕ, suc, ◌+◌, ◌-◌, ◌*◌, ◌/◌, ◌%◌, ◌^◌, ◌≤◌, ◌<◌}
-use native.Mathlib.Nat.{le_of_lt, suc-mul, add-mul, mul_comm, mul_assoc, mul-le-mul_right, mod-lt}
+use Prim.Native.Nat.{ℕ, ◌+◌, ◌-◌, ◌*◌, ◌/◌, ◌%◌, ◌^◌, ◌≤◌, ◌<◌}
+use native.Mathlib.Nat.{add-mul, mul_comm, mul_assoc, mul-le-mul_right, mod-lt}
 use native.Mathlib.Omega.{arith}
-use lib.Dec.{ltb, eqb, lit<}
+use lib.Dec.{ltb, lit<}
 use lib.Arith.{digits_div, digits_mod, digits_lt}
 use Rattle.std.specs.Prelude.{None, Some}
 use Rattle.inty.specs.Value.{bounded}
-use borrow.Author.Tests.{lt-ltb, le-ltb, eq-eqb, ne_eqb, ltb-true, ltb-false, eqb-true, eqb-false}
-
--- two tests `<` are the same where each says the other
-pub ltb_same : (a b c d : ℕ) → (a < b → c < d) → (c < d → a < b) → ltb a b ≡ ltb c d
-ltb_same a b c d f g = go (ltb a b) refl
-  where
-    go : (t : Bool) → ltb a b ≡ t → ltb a b ≡ ltb c d
-    go true e = e ∙ sym (lt-ltb c d (f (ltb-true a b e)))
-    go false e =
-        let h : b ≤ a = ltb-false a b e in
-        let n : c < d → ⊥ = λ l. omega (arith, g l) in
-        e ∙ sym (le-ltb c d (omega arith))
-
-pub eqb_same : (a b c d : ℕ) → (a ≡ b → c ≡ d) → (c ≡ d → a ≡ b) → eqb a b ≡ eqb c d
-eqb_same a b c d f g = go (eqb a b) refl
-  where
-    go : (t : Bool) → eqb a b ≡ t → eqb a b ≡ eqb c d
-    go true e = e ∙ sym (eq-eqb c d (f (eqb-true a b e)))
-    go false e = e ∙ sym (ne_eqb c d (λ h. eqb-false a b e (g h)))
+use borrow.Author.Tests.{lt-ltb, le-ltb, ltb-false}
 
 module _ (B : ℕ) where
-  -- one more in the upper half is B more
-  pub up : (h : ℕ) → (h + 1) * B ≡ h * B + B
-  up h = rw add_one_is (suc-mul h B)
-    where
-      add_one_is : h + 1 ≡ suc h
-      add_one_is = omega arith
-
-  -- the upper half decides
-  pub hi_lt : (h l k m : ℕ) → l < B → h < k → h * B + l < k * B + m
-  hi_lt h l k m f g =
-      let s : h + 1 ≤ k = omega arith in
-      omega (arith, mul-le-mul_right B s, up h)
-
-  -- where the upper halves are the same the lower decide
-  pub lo_lt : (h l k m : ℕ) → h ≡ k → l < m → h * B + l < k * B + m
-  lo_lt h l k m e g = omega (arith, ap (λ (x : ℕ). x * B) e)
-
-  pub lo-lt⁻¹ : (h l k m : ℕ) → h ≡ k → h * B + l < k * B + m → l < m
-  lo-lt⁻¹ h l k m e g = omega (arith, ap (λ (x : ℕ). x * B) e)
-
-  pub lo_eq : (h l k m : ℕ) → h ≡ k → l ≡ m → h * B + l ≡ k * B + m
-  lo_eq h l k m e g = omega (arith, ap (λ (x : ℕ). x * B) e)
-
-  pub lo-eq⁻¹ : (h l k m : ℕ) → h ≡ k → h * B + l ≡ k * B + m → l ≡ m
-  lo-eq⁻¹ h l k m e g = omega (arith, ap (λ (x : ℕ). x * B) e)
-
-  -- numbers with different upper halves differ
-  pub hi_ne : (h l k m : ℕ) → l < B → m < B → (h ≡ k → ⊥) → h * B + l ≡ k * B + m → ⊥
-  hi_ne h l k m f g n e =
-      let below : h < k → ⊥ = λ x. omega (arith, hi_lt h l k m f x) in
-      let above : k < h → ⊥ = λ x. omega (arith, hi_lt k m h l g x) in
-      n (omega arith)
-
-  -- one more than the last number
-  pub top_over : (h l : ℕ) → B ≤ h + 1 → B ≤ l + 1 → B * B ≤ h * B + l + 1
-  top_over h l f g = omega (arith, mul-le-mul_right B f, up h)
-
   -- ten times and a digit: k is the carry of the lower half, r what stays there
   tens : (h k : ℕ) → (h * 10 + k) * B ≡ 10 * (h * B) + k * B
   tens h k = add-mul (h * 10) k B ∙ ap (λ (x : ℕ). x + k * B) (ap (λ (x : ℕ). x * B) (mul_comm h 10) ∙ mul_assoc 10 h B)
@@ -162,36 +106,6 @@ tenth h l = sym (ap (λ (x : ℕ). x / 10) (tenth_sum h l) ∙ digits_div (h / 1
 pub tenth_rest : (h l : ℕ) → low10 h l % 10 ≡ (h * 18446744073709551616 + l) % 10
 tenth_rest h l = sym (ap (λ (x : ℕ). x % 10) (tenth_sum h l) ∙ digits_mod (h / 10 * 18446744073709551616 + (mid10 h l / 10 * 4294967296 + low10 h l / 10)) (mod-lt (low10 h l) (lit< tt)))
 
--- a number is 0 where its halves are
-pub halves_zero : (h l : ℕ) → h * 18446744073709551616 + l ≡ 0 → (h ≡ 0) × (l ≡ 0)
-halves_zero h l e = omega arith
-
-pub zero_hi : (h l : ℕ) → h ≡ 0 → eqb l 0 ≡ eqb (h * 18446744073709551616 + l) 0
-zero_hi h l e = eqb_same l 0 (h * 18446744073709551616 + l) 0 (λ f. both h l e f) (λ f. (halves_zero h l f).1)
-  where
-    both : (h l : ℕ) → h ≡ 0 → l ≡ 0 → h * 18446744073709551616 + l ≡ 0
-    both h l e f = omega arith
-
-pub not_zero_hi : (h l : ℕ) → (h ≡ 0 → ⊥) → false ≡ eqb (h * 18446744073709551616 + l) 0
-not_zero_hi h l e = sym (ne_eqb (h * 18446744073709551616 + l) 0 (λ f. e (halves_zero h l f).0))
-
--- ---- two numbers by their halves, as the code tests them
-module _ (h l k m : ℕ) where
-  pub lt_high : l < 2 ^ 64 → h < k → true ≡ ltb (h * 18446744073709551616 + l) (k * 18446744073709551616 + m)
-  lt_high f g = sym (lt-ltb _ _ (hi_lt (2 ^ 64) h l k m f g))
-
-  pub gt_high : m < 2 ^ 64 → k < h → false ≡ ltb (h * 18446744073709551616 + l) (k * 18446744073709551616 + m)
-  gt_high f g = sym (le-ltb _ _ (le_of_lt (hi_lt (2 ^ 64) k m h l f g)))
-
-  pub lt_low : k ≤ h → h ≤ k → ltb l m ≡ ltb (h * 18446744073709551616 + l) (k * 18446744073709551616 + m)
-  lt_low f g = let e : h ≡ k = omega arith in ltb_same l m _ _ (lo_lt (2 ^ 64) h l k m e) (lo-lt⁻¹ (2 ^ 64) h l k m e)
-
-  pub eq_low : h ≡ k → eqb l m ≡ eqb (h * 18446744073709551616 + l) (k * 18446744073709551616 + m)
-  eq_low e = eqb_same l m _ _ (lo_eq (2 ^ 64) h l k m e) (lo-eq⁻¹ (2 ^ 64) h l k m e)
-
-  pub ne_high : l < 2 ^ 64 → m < 2 ^ 64 → (h ≡ k → ⊥) → false ≡ eqb (h * 18446744073709551616 + l) (k * 18446744073709551616 + m)
-  ne_high f g n = sym (ne_eqb _ _ (hi_ne (2 ^ 64) h l k m f g n))
-
 -- ---- ten times and a digit, by the code's test of the upper half
 module _ (h l d : ℕ) (f : l < 2 ^ 64) (g : d < 256) where
   pub carry_fits : carry l d ≤ 18446744073709551615
@@ -207,31 +121,9 @@ module _ (h l d : ℕ) (f : l < 2 ^ 64) (g : d < 256) where
     pub ten_within : Some ((h * 10 + carry l d) * 18446744073709551616 + rest l d) ≡ bounded (10 * (h * 18446744073709551616 + l) + d)
     ten_within = in_bounds _ _ (ten_is (2 ^ 64) h l d (carry l d) (rest l d) (low_step l d)) (ten_below (2 ^ 64) h l d (carry l d) (rest l d) (low_step l d) (rest_fits l d) upper_fits)
 
--- ---- one more, one less, a tenth of a small number: the halves and the tests as the code has them
+-- ---- a tenth of a number of the lower half alone
 
 module _ (h l : ℕ) where
-  pub succ_low : h < 2 ^ 64 → l < 18446744073709551615 → Some (h * 18446744073709551616 + (l + 1)) ≡ bounded (h * 18446744073709551616 + l + 1)
-  succ_low f g =
-      let e : h * 18446744073709551616 + (l + 1) ≡ h * 18446744073709551616 + l + 1 = omega arith in
-      in_bounds _ _ e (rw (← e) (below_top h (l + 1) f (omega arith)))
-
-  pub succ_high : l < 2 ^ 64 → 18446744073709551615 ≤ l → h < 18446744073709551615 → Some ((h + 1) * 18446744073709551616 + 0) ≡ bounded (h * 18446744073709551616 + l + 1)
-  succ_high k f g =
-      let e : (h + 1) * 18446744073709551616 + 0 ≡ h * 18446744073709551616 + l + 1 = omega arith in
-      in_bounds _ _ e (rw (← e) (below_top (h + 1) 0 (omega arith) (omega arith)))
-
-  pub succ_top : 18446744073709551615 ≤ l → 18446744073709551615 ≤ h → None ≡ bounded (h * 18446744073709551616 + l + 1)
-  succ_top f g = past_bounds _ (top_over (2 ^ 64) h l (omega arith) (omega arith))
-
-  pub pred_low : 0 < l → h * 18446744073709551616 + (l - 1) ≡ h * 18446744073709551616 + l - 1
-  pred_low f = omega arith
-
-  pub pred_high : l ≤ 0 → 0 < h → (h - 1) * 18446744073709551616 + 18446744073709551615 ≡ h * 18446744073709551616 + l - 1
-  pred_high f g = omega arith
-
-  pub pred_zero : l ≤ 0 → h ≤ 0 → h * 18446744073709551616 + l ≡ h * 18446744073709551616 + l - 1
-  pred_zero f g = omega arith
-
   pub small_tenth : h ≡ 0 → 0 * 18446744073709551616 + l / 10 ≡ (h * 18446744073709551616 + l) / 10
   small_tenth e = omega arith
 
@@ -240,19 +132,3 @@ module _ (h l : ℕ) where
     where
       is : (h l : ℕ) → h ≡ 0 → l ≡ h * 18446744073709551616 + l
       is h l e = omega arith
-
--- the number after x, by y's predecessor p
-module _ (x y : ℕ) (t : Bool) (e : t ≡ eqb y 0) where
-  pub next_none : t ≡ true → false ≡ eqb (x + 1) y
-  next_none f = let z : y ≡ 0 = eqb-true y 0 (sym e ∙ f) in sym (ne_eqb (x + 1) y (λ k. omega arith))
-
-  pub next_some : (p : ℕ) (r : Bool) → t ≡ false → p ≡ y - 1 → r ≡ eqb x p → r ≡ eqb (x + 1) y
-  next_some p r f g k =
-      let n : y ≡ 0 → ⊥ = eqb-false y 0 (sym e ∙ f) in
-      k ∙ eqb_same x p (x + 1) y (λ a. after p y x n g a) (λ a. before p y x g a)
-    where
-      after : (p y x : ℕ) → (y ≡ 0 → ⊥) → p ≡ y - 1 → x ≡ p → x + 1 ≡ y
-      after p y x n g a = omega arith
-
-      before : (p y x : ℕ) → p ≡ y - 1 → x + 1 ≡ y → x ≡ p
-      before p y x g a = omega arith

@@ -49,8 +49,8 @@ impl Inty {
     {
         if self.lo < u64::MAX {
             return Some(Inty {
-                hi: self.hi,
                 lo: self.lo + 1,
+                ..self
             });
         }
         let hi = self.hi.checked_add(1)?;
@@ -63,8 +63,8 @@ impl Inty {
     {
         if self.lo > 0 {
             return Inty {
-                hi: self.hi,
                 lo: self.lo - 1,
+                ..self
             };
         }
         if self.hi > 0 {
