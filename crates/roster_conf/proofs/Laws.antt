@@ -30,6 +30,8 @@ use Rattle.roster_conf.specs.Edits.{view, holds_rows, in_range, due, Leaves, Giv
 use Rattle.roster_conf.specs.Asks.{stored, storing, Asks}
 use Rattle.std.specs.Prelude.{Result, Ok, Err}
 use Rattle.ids.specs.declared.Refusal.{Refusal}
+use Rattle.ids.specs.declared.Refusal.TheVariants.{NotReady, NoSuchReplica, MaskTooWide, KeyTooLong, UnreadBound, RangeReversed, TooManyRanges}
+use Rattle.ids.specs.Refusal.{number_of}
 
 -- ---- tests
 
@@ -81,7 +83,7 @@ module _ (len count : ℕ) where
 -- ---- what is due
 
 module _ (p : ℕ) (c : RespondersConf) (s : List ℕ) (e : Edit) (t : Bool) (r : t ≡ holds_rows (length s) c.count && in_range p) where
-  pub unready : not t ≡ true → Gives (due p c s e) (Err 2) s s
+  pub unready : not t ≡ true → Gives (due p c s e) (Err NotReady) s s
   unfolding due
   unready f = rw (sym r ∙ not-true t f) (refl, refl)
 
@@ -90,7 +92,7 @@ module _ (p : ℕ) (c : RespondersConf) (s : List ℕ) (e : Edit) (t : Bool) (r 
     unfolding due
     due_answer = ap (λ (b : Bool). if b then edit_result p (view c s) e else refused 2) (sym r ∙ not-false t f)
 
-    refuses : (n : ℕ) → refusal (grounds p (view c s) e) ≡ Some n → Gives (due p c s e) (Err n) s s
+    refuses : (n : Refusal) → refusal (grounds p (view c s) e) ≡ Some (number_of n) → Gives (due p c s e) (Err n) s s
     unfolding edit_result
     refuses n g = rw (due_answer ∙ ap (λ (o : Option ℕ). if_none o then taken (edit (view c s) e) else refused) g) (refl, refl)
 
@@ -100,9 +102,9 @@ module _ (p : ℕ) (c : RespondersConf) (s : List ℕ) (e : Edit) (t : Bool) (r 
 
 -- the words are the same, and so is the number of rows or there is none
 module _ (p : ℕ) (c : RespondersConf) (s : List ℕ) (t : Bool) (r : t ≡ holds_rows (length s) c.count && in_range p) (f : not t ≡ false) where
-  pub leader_3 : (l : ℕ) → p ≤ l → Gives (due p c s (SetLeader l)) (Err 3) s s
+  pub leader_3 : (l : ℕ) → p ≤ l → Gives (due p c s (SetLeader l)) (Err NoSuchReplica) s s
   unfolding grounds
-  leader_3 l h = refuses p c s (SetLeader l) t r f 3 (simp (le-leb p l h))
+  leader_3 l h = refuses p c s (SetLeader l) t r f NoSuchReplica (simp (le-leb p l h))
 
   pub leader_set : (l : Replica) → l.0 < p → Gives (due p c s (SetLeader l.0)) (Ok (record { leader = Some l; count = c.count; default = c.default })) s s
   unfolding grounds edit view
@@ -152,7 +154,7 @@ module _ (p : ℕ) (c : RespondersConf) (s : List ℕ) (e : Edit) (t : Bool) (r 
 -- ---- a range: what is asked for, and what is stored
 
 module _ (c : RespondersConf) (s : List ℕ) (w : Row) (after : List ℕ) (st : Option ℕ) (x : Stores (overwrite (ranges_of s c.count) (range_of w)) s after st) where
-  pub store_17 : st ≡ None → Gives (storing (stored (view c s) w)) (Err 17) s after
+  pub store_17 : st ≡ None → Gives (storing (stored (view c s) w)) (Err TooManyRanges) s after
   unfolding set_responders view
   store_17 e =
       let k = stored_none _ s after st x e in
@@ -167,7 +169,7 @@ module _ (c : RespondersConf) (s : List ℕ) (w : Row) (after : List ℕ) (st : 
 
 -- an answer that no roster changes, or the row stored
 module _ (p : ℕ) (c : RespondersConf) (s : List ℕ) (e : Edit) (t : Bool) (r : t ≡ holds_rows (length s) c.count && in_range p) (f : not t ≡ false) where
-  pub asked_refused : (n : ℕ) → ((d : Conf) → edit_result p d e ≡ refused n) → Gives (due p c s e) (Err n) s s
+  pub asked_refused : (n : Refusal) → ((d : Conf) → edit_result p d e ≡ refused (number_of n)) → Gives (due p c s e) (Err n) s s
   asked_refused n h = rw (due_answer p c s e t r f ∙ h (view c s)) (refl, refl)
 
   pub asked_stored : (w : Row) (d : Result RespondersConf Refusal) (after : List ℕ) → ((x : Conf) → edit_result p x e ≡ storing (stored x w)) → Gives (storing (stored (view c s) w)) d s after
@@ -175,7 +177,7 @@ module _ (p : ℕ) (c : RespondersConf) (s : List ℕ) (e : Edit) (t : Bool) (r 
   asked_stored w d after h g = rw (due_answer p c s e t r f ∙ h (view c s)) g
 
 module _ (p : ℕ) (c : RespondersConf) (s start end : List ℕ) (mask : ℕ) (t : Bool) (r : t ≡ holds_rows (length s) c.count && in_range p) (f : not t ≡ false) (k : Result Row Refusal) (a : Asks p start end mask k) where
-  pub range_refused : (n : ℕ) → k ≡ Err n → Gives (due p c s (SetResponders start end mask)) (Err n) s s
+  pub range_refused : (n : Refusal) → k ≡ Err n → Gives (due p c s (SetResponders start end mask)) (Err n) s s
   range_refused n e = asked_refused p c s (SetResponders start end mask) t r f n (rw e at a)
 
   pub range_stored : (w : Row) → k ≡ Ok w → (d : Result RespondersConf Refusal) (after : List ℕ) → Gives (storing (stored (view c s) w)) d s after → Gives (due p c s (SetResponders start end mask)) d s after
@@ -196,11 +198,11 @@ turned_away p c e n h = ap (λ (o : Option ℕ). if_none o then taken (edit c e)
 
 module _ (p mask : ℕ) (t4 : Bool) (e4 : t4 ≡ fits mask p) where
   pub full_4 : (c : RespondersConf) (s : List ℕ) (t : Bool) → t ≡ holds_rows (length s) c.count && in_range p → not t ≡ false → not t4 ≡ true
-      → Gives (due p c s (SetFull mask)) (Err 4) s s
+      → Gives (due p c s (SetFull mask)) (Err MaskTooWide) s s
   unfolding grounds
-  full_4 c s t r f g = refuses p c s (SetFull mask) t r f 4 (simp (sym e4 ∙ not-true t4 g))
+  full_4 c s t r f g = refuses p c s (SetFull mask) t r f MaskTooWide (simp (sym e4 ∙ not-true t4 g))
 
-  pub range_4 : (start end : List ℕ) → not t4 ≡ true → Asks p start end mask (Err 4)
+  pub range_4 : (start end : List ℕ) → not t4 ≡ true → Asks p start end mask (Err MaskTooWide)
   unfolding grounds
   range_4 start end g c = turned_away p c (SetResponders start end mask) 4 (simp (sym e4 ∙ not-true t4 g))
 
@@ -217,17 +219,17 @@ module _ (p mask : ℕ) (t4 : Bool) (e4 : t4 ≡ fits mask p) where
         (λ x. only_17 p x (SetFull mask) (simp ok4)) g
 
     module _ (start end : List ℕ) where
-      pub range_5 : 48 < length start → Asks p start end mask (Err 5)
+      pub range_5 : 48 < length start → Asks p start end mask (Err KeyTooLong)
       unfolding grounds
       range_5 g c = turned_away p c (SetResponders start end mask) 5 (simp (ok4, lt-ltb 48 (length start) g))
 
       module _ (g : length start ≤ 48) where
-        pub range_5_end : 48 < length end → Asks p start end mask (Err 5)
+        pub range_5_end : 48 < length end → Asks p start end mask (Err KeyTooLong)
         unfolding grounds
         range_5_end h c = turned_away p c (SetResponders start end mask) 5 (simp (ok4, le-ltb 48 (length start) g, lt-ltb 48 (length end) h))
 
         module _ (h : length end ≤ 48) (ka : Option Inty) (ea : option_map value_of ka ≡ read_key start) where
-          pub range_6 : ka ≡ None → Asks p start end mask (Err 6)
+          pub range_6 : ka ≡ None → Asks p start end mask (Err UnreadBound)
           unfolding grounds
           range_6 k c =
               let q : read_key start ≡ None = sym ea ∙ ap (option_map value_of) k in
@@ -237,7 +239,7 @@ module _ (p mask : ℕ) (t4 : Bool) (e4 : t4 ≡ fits mask p) where
             start_is : read_key start ≡ Some (value_of a)
             start_is = sym ea ∙ ap (option_map value_of) fa
 
-            pub range_6_end : kb ≡ None → Asks p start end mask (Err 6)
+            pub range_6_end : kb ≡ None → Asks p start end mask (Err UnreadBound)
             unfolding grounds
             range_6_end k c =
                 let q : read_key end ≡ None = sym eb ∙ ap (option_map value_of) k in
@@ -247,7 +249,7 @@ module _ (p mask : ℕ) (t4 : Bool) (e4 : t4 ≡ fits mask p) where
               end_is : read_key end ≡ Some (value_of b)
               end_is = sym eb ∙ ap (option_map value_of) fb
 
-              pub range_7 : t7 ≡ true → Asks p start end mask (Err 7)
+              pub range_7 : t7 ≡ true → Asks p start end mask (Err RangeReversed)
               unfolding grounds
               range_7 k c = turned_away p c (SetResponders start end mask) 7 (simp (ok4, le-ltb 48 (length start) g, le-ltb 48 (length end) h, start_is, end_is, sym e7 ∙ k))
 
@@ -266,9 +268,9 @@ pub leader_stays : (l : Option Replica) (x id : Replica) → l ≡ Some x → (x
 leader_stays l x id e f = sym (ap (λ (k : Option Replica). leader_without id.0 (leader_of k)) e ∙ simp (ne_eqb x.0 id.0 f))
 
 module _ (p : ℕ) (c : RespondersConf) (s : List ℕ) (t : Bool) (r : t ≡ holds_rows (length s) c.count && in_range p) (f : not t ≡ false) (id : Replica) where
-  pub filter_3 : p ≤ id.0 → Gives (due p c s (IntoFiltered id.0)) (Err 3) s s
+  pub filter_3 : p ≤ id.0 → Gives (due p c s (IntoFiltered id.0)) (Err NoSuchReplica) s s
   unfolding grounds
-  filter_3 h = refuses p c s (IntoFiltered id.0) t r f 3 (simp (le-leb p id.0 h))
+  filter_3 h = refuses p c s (IntoFiltered id.0) t r f NoSuchReplica (simp (le-leb p id.0 h))
 
   pub filter_set : (n m : ℕ) (d : Option Replica) (after : List ℕ) → id.0 < p → Stores (remasked (λ k. set_to k id.0 false) (ranges_of s c.count)) s after (Some n)
       → leader_of d ≡ leader_without id.0 (leader_of c.leader) → m ≡ set_to c.default id.0 false
@@ -282,7 +284,7 @@ module _ (p : ℕ) (c : RespondersConf) (s : List ℕ) (t : Bool) (r : t ≡ hol
 -- ---- lookup
 
 module _ (c : RespondersConf) (s key : List ℕ) (t : Bool) (e : t ≡ holds_rows (length s) c.count) where
-  pub lookup_2 : not t ≡ true → Err 2 ≡ lookup c s key
+  pub lookup_2 : not t ≡ true → Err NotReady ≡ lookup c s key
   unfolding lookup
   lookup_2 f = sym (simp (sym e ∙ not-true t f))
 
@@ -291,8 +293,8 @@ module _ (c : RespondersConf) (s key : List ℕ) (t : Bool) (e : t ≡ holds_row
     unfolding lookup get_responders_by_key
     lookup_none h = let q : read_key key ≡ None = sym g ∙ ap (option_map value_of) h in sym (simp (sym e ∙ not-false t f, q))
 
-    pub lookup_mask : (n : Inty) (m : ℕ) → k ≡ Some n → m ≡ mask_at c.default (ranges_of s c.count) (value_of n) → Ok (Some m ≡ lookup c s key
+    pub lookup_mask : (n : Inty) (m : ℕ) → k ≡ Some n → m ≡ mask_at c.default (ranges_of s c.count) (value_of n) → Ok (Some m) ≡ lookup c s key
     unfolding lookup get_responders_by_key view
     lookup_mask n m h w =
         let q : read_key key ≡ Some (value_of n) = sym g ∙ ap (option_map value_of) h in
-        ap Ok (Some w ∙ sym (simp (sym e ∙ not-false t f, q))
+        ap (λ (x : ℕ). Ok (Some x)) w ∙ sym (simp (sym e ∙ not-false t f, q))

@@ -304,7 +304,7 @@ pub fn set(rows: &mut [u64], count: usize, w: Row) -> Option<usize>
 // A replica out of each row; how many there are then.
 pub fn filter(rows: &mut [u64], count: usize, id: Replica) -> usize
     requires { (count ≤ 64) × (roster_words ≤ length rows.old) }
-    ensures { Stores (remasked (λ m. set_to m id.0 false) (ranges_of rows.old count)) rows.old rows.new (Stored.Rows result) }
+    ensures { Stores (remasked (λ m. set_to m id.0 false) (ranges_of rows.old count)) rows.old rows.new (Some result) }
 {
     let mut out = [0u64; layout::ROSTER_WORDS];
     let n = filtered(&mut out, rows, count, id);
