@@ -8,8 +8,9 @@ use Rattle.std.specs.Prelude.{Option, Some}
 use mathlib.Core.Path.{◌≡◌, refl, ap}
 use native.Mathlib.Omega.{arith}
 use lib.Dec.{ltb, leb, eqb}
-use lib.ListN.{length, drop, slice_get, length-append, length-drop, length-map}
+use lib.ListN.{length, drop, length-append, length-drop, length-map}
 use borrow.Author.Tests.{ltb-true, ltb-false, le-ltb, eqb-true, eqb-false, ne_eqb, not-false}
+use Rattle.std.proofs.lemmas.Option.{slice_get_within}
 use Rattle.words.proofs.Tests.{or_both}
 use Rattle.words.specs.Choice.{if_none◌then◌else◌}
 use Rattle.bitmap.specs.Bitmap.{get, mark, count}
@@ -228,12 +229,7 @@ module _ (r : Replica) (w : length r.insts ≤ window) (s : Small r) where
 -- ---- replies: a resend for each slot that is held from the commit bar on, a commit
 
 held_within : (r : Replica) (slot : ℕ) (i : Instance) → inst_at r slot ≡ Some i → slot < end r
-held_within r slot i e = omega (arith, go r.insts (slot - r.bar.start) (held_at_lem r slot i e))
-  where
-    go : (is : List Instance) (k : ℕ) → slice_get is k ≡ Some i → k < length is
-    go [] k e = let z : ◌≡◌ {A = ℕ} 0 1 = cc in absurd (omega arith)
-    go (x ∷ is) zero e = omega arith
-    go (x ∷ is) (suc k) e = omega (arith, go is k e)
+held_within r slot i e = omega (arith, slice_get_within r.insts (slot - r.bar.start) i (held_at_lem r slot i e))
 
 resend_items : (r : Replica) (peer n : ℕ) → (length (resend_missed_accepts r peer n) ≤ n) × (length (resend_missed_accepts r peer n) ≤ end r - r.bar.commit)
 unfolding resend_missed_accepts

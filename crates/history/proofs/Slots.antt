@@ -4,11 +4,11 @@ use Prim.Native.Nat.{ℕ, zero, suc, ◌+◌, ◌-◌, ◌≤◌, ◌<◌}
 use mathlib.Core.Bool.{Bool, true, false, ◌&&◌, ◌||◌, not}
 use mathlib.Core.List.{List, [], ◌∷◌, ◌++◌, map}
 use mathlib.Core.Logic.{◌⊎◌, inl, inr, ⊎_elim}
-use Rattle.std.specs.Prelude.{Option, None, Some, some-injective}
+use Rattle.std.specs.Prelude.{Option, None, Some, slice_get}
 use mathlib.Core.Path.{◌≡◌, refl}
 use native.Mathlib.Omega.{arith}
 use lib.Dec.{ltb, leb, eqb}
-use lib.ListN.{length, get_or, take, drop, set, replicate, slice_get}
+use lib.ListN.{length, get_or, take, drop, set, replicate}
 use borrow.Author.Tests.{ltb-true, ltb-false, eqb-true, not-false}
 use Rattle.words.proofs.Tests.{or_both}
 use Rattle.words.specs.Choice.{if_none◌then◌else◌}
@@ -35,7 +35,7 @@ use Rattle.history.proofs.Reach.{appended, step_sound, run_sound, fresh_sound}
 module _ (P : ℕ → Instance → Type 0) where
   pub each_set : (n : ℕ) (is : List Instance) (k : ℕ) (i j : Instance) → slice_get is k ≡ Some i → ((m : ℕ) → P m i → P m j) → EachSlot P n is → EachSlot P n (set is k j)
   each_set n [] k i j e f s = tt
-  each_set n (x ∷ is) zero i j e f s = (f n (rw (← some-injective x i e) s.0), s.1)
+  each_set n (x ∷ is) zero i j e f s = let q : x ≡ i = cc in (f n (rw (← q) s.0), s.1)
   each_set n (x ∷ is) (suc k) i j e f s = (s.0, each_set (suc n) is k i j e f s.1)
 
   pub each_append : (n m : ℕ) (is js : List Instance) → m ≡ n + length is → EachSlot P n is → EachSlot P m js → EachSlot P n (is ++ js)
@@ -55,7 +55,7 @@ module _ (P : ℕ → Instance → Type 0) where
 
   pub each_at : (n : ℕ) (is : List Instance) (k : ℕ) (i : Instance) → slice_get is k ≡ Some i → EachSlot P n is → P (n + k) i
   each_at n [] k i e s = let z : ◌≡◌ {A = ℕ} 0 1 = cc in absurd (omega arith)
-  each_at n (x ∷ is) zero i e s = let q : n + 0 ≡ n = omega arith in rw (q, ← some-injective x i e) s.0
+  each_at n (x ∷ is) zero i e s = let q : n + 0 ≡ n = omega arith in let k : x ≡ i = cc in rw (q, ← k) s.0
   each_at n (x ∷ is) (suc k) i e s = let q : n + suc k ≡ suc n + k = omega arith in rw q (each_at (suc n) is k i e s.1)
 
   -- what a commit keeps, the walk keeps
@@ -360,12 +360,12 @@ record_sound r ballot reqs m i o h s =
     go None h = omega arith
     go (Some x) h = h
 
-get_elem_pad : (is : List Instance) (n k : ℕ) (i : Instance) → slice_get (is ++ replicate n null_instance) k ≡ Some i → (slice_get is k ≡ Some i) ⊎ (null_instance ≡ i)
-get_elem_pad [] zero k i e = let z : ◌≡◌ {A = ℕ} 0 1 = cc in absurd (omega arith)
-get_elem_pad [] (suc n) zero i e = inr (some-injective null_instance i e)
-get_elem_pad [] (suc n) (suc k) i e = ⊎_elim (λ x. let z : ◌≡◌ {A = ℕ} 0 1 = cc in absurd (omega arith)) inr (get_elem_pad [] n k i e)
-get_elem_pad (x ∷ is) n zero i e = inl e
-get_elem_pad (x ∷ is) n (suc k) i e = get_elem_pad is n k i e
+get_pad : (is : List Instance) (n k : ℕ) (i : Instance) → slice_get (is ++ replicate n null_instance) k ≡ Some i → (slice_get is k ≡ Some i) ⊎ (null_instance ≡ i)
+get_pad [] zero k i e = let z : ◌≡◌ {A = ℕ} 0 1 = cc in absurd (omega arith)
+get_pad [] (suc n) zero i e = inr cc
+get_pad [] (suc n) (suc k) i e = ⊎_elim (λ x. let z : ◌≡◌ {A = ℕ} 0 1 = cc in absurd (omega arith)) inr (get_pad [] n k i e)
+get_pad (x ∷ is) n zero i e = inl e
+get_pad (x ∷ is) n (suc k) i e = get_pad is n k i e
 
 -- what *record* finds at its slot is open
 found_open : (r : Replica) (slot : ℕ) (hs : List Highest) (i : Instance) → (ltb slot r.bar.start || is_closed r slot) ≡ false
@@ -373,7 +373,7 @@ found_open : (r : Replica) (slot : ℕ) (hs : List Highest) (i : Instance) → (
 unfolding pad inst_at
 found_open r slot hs i h e =
     ⊎_elim there (λ (q : null_instance ≡ i). rw (← q))
-    (get_elem_pad r.insts (slot + 1 - end r) (slot - r.bar.start) i (held_at_lem (with_highest_slot hs (pad slot r)) slot i e))
+    (get_pad r.insts (slot + 1 - end r) (slot - r.bar.start) i (held_at_lem (with_highest_slot hs (pad slot r)) slot i e))
   where
     there : slice_get r.insts (slot - r.bar.start) ≡ Some i → is_open i.status ≡ true
     there q = not-false (is_open i.status) (rw ((or_both (ltb slot r.bar.start) (is_closed r slot) h).0, q) at (or_both (ltb slot r.bar.start) (is_closed r slot) h).1)
