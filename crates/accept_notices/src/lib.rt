@@ -13,9 +13,8 @@ use inst_cell::NoticeBook;
 pub fn fresh() -> NoticeBook
     ensures { result ≡ fresh_book }
 {
-    let none = Ballot(0);
     NoticeBook {
-        bal: none,
+        bal: Ballot(0),
         notices: 0,
     }
 }
@@ -23,8 +22,7 @@ pub fn fresh() -> NoticeBook
 fn cleared(book: NoticeBook) -> NoticeBook
     ensures { result ≡ cleared book }
 {
-    let bal = book.bal;
-    NoticeBook { bal, notices: 0 }
+    NoticeBook { notices: 0, ..book }
 }
 
 // No notices any more; the ballot stays.
@@ -34,42 +32,42 @@ pub fn clear(book: &mut NoticeBook)
     *book = cleared(*book);
 }
 
-pub fn emptied(book: NoticeBook) -> NoticeBook
+pub fn emptied(mut book: NoticeBook) -> NoticeBook
     ensures { result ≡ cleared book }
 {
-    let mut b = book;
-    clear(&mut b);
-    b
+    clear(&mut book);
+    book
 }
 
+// A notice of a higher ballot empties the book first.
+#[tactic(auto, unfolding(bodega::specs::Messages::take_notice, bitmap::specs::Bitmap::set_to))]
 fn taken(book: NoticeBook, peer: Replica, ballot: Ballot) -> NoticeBook
     ensures { Takes peer.0 ballot.0 book result }
 {
-    let bal = book.bal;
-    if bal.0 < ballot.0 {
-        let empty = emptied(book);
-        return NoticeBook {
+    let before = if book.bal < ballot {
+        NoticeBook {
             bal: ballot,
-            notices: bitmap::set(empty.notices, peer, true),
-        };
-    }
+            ..emptied(book)
+        }
+    } else {
+        book
+    };
     NoticeBook {
-        bal,
-        notices: bitmap::set(book.notices, peer, true),
+        notices: bitmap::set(before.notices, peer, true),
+        ..before
     }
 }
 
-// One notice more; one of a higher ballot empties the book first.
+// One notice more.
 pub fn take_notice(book: &mut NoticeBook, peer: Replica, ballot: Ballot)
     ensures { Takes peer.0 ballot.0 book.old book.new }
 {
     *book = taken(*book, peer, ballot);
 }
 
-pub fn noticed(book: NoticeBook, peer: Replica, ballot: Ballot) -> NoticeBook
+pub fn noticed(mut book: NoticeBook, peer: Replica, ballot: Ballot) -> NoticeBook
     ensures { Takes peer.0 ballot.0 book result }
 {
-    let mut b = book;
-    take_notice(&mut b, peer, ballot);
-    b
+    take_notice(&mut book, peer, ballot);
+    book
 }
