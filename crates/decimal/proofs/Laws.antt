@@ -2,19 +2,19 @@
 use mathlib.Core.Path.{◌≡◌, refl, sym, ap, ◌∙◌}
 use mathlib.Core.Bool.{Bool, true, false}
 use mathlib.Core.List.{List, [], ◌∷◌, ◌++◌}
-use Prim.Native.Nat.{ℕ, zero, suc, ◌+◌, ◌-◌, ◌*◌, ◌/◌, ◌%◌, ◌^◌, ◌≤◌, ◌<◌}
+use Prim.Native.Nat.{ℕ, zero, suc, ◌+◌, ◌*◌, ◌/◌, ◌%◌, ◌^◌, ◌≤◌, ◌<◌}
 use native.Mathlib.Nat.{le_of_eq, div-eq_of_lt, div-lt_iff_lt-mul, lt_of_lt_of_le, pow-suc}
 use native.Mathlib.Omega.{arith}
 use lib.ListN.{length, set, length-append}
 use lib.Dec.{ltb, eqb, lit<, lit≤}
 use mir.Syntax.{w64}
 use mir.Val.{Fits}
-use borrow.Author.Tests.{lt-ltb, le-ltb, le-leb, lt-leb, ltb-false, eqb-true, eqb-false}
+use borrow.Author.Tests.{lt-ltb, le-ltb, le-leb, ltb-false, eqb-true, eqb-false}
 use Rattle.inty.proofs.Laws.{below_top, low_only}
 use Rattle.words.specs.Writes.{writes, writes_snoc}
 use Rattle.decimal.specs.Digits.{decimal_in, decimal}
 use Rattle.decimal.specs.Placed.{Placed, placed}
-use Rattle.std.specs.Prelude.{Option, Some, None}
+use Rattle.std.specs.Prelude.{Option, Some}
 
 -- any fuel above n gives the same
 same_in : (f g n : ℕ) → n < f → n < g → decimal_in f n ≡ decimal_in g n
@@ -67,11 +67,6 @@ short_64 n h = short 19 n (lt_of_lt_of_le h (lit≤ tt))
 pub short_128 : (n : ℕ) → n < 2 ^ 128 → length (decimal n) ≤ 39
 short_128 n h = short 38 n (lt_of_lt_of_le h (lit≤ tt))
 
--- ---- the premises as the code has them
-
-pub mod_ten : (r n : ℕ) → r ≡ n % 10 → r < 10
-mod_ten r n e = omega arith
-
 pub count_fits : (h l r : ℕ) → h < 2 ^ 64 → l < 2 ^ 64 → r ≡ length (decimal (h * 18446744073709551616 + l)) → Fits w64 (r + 1)
 count_fits h l r f g e =
     let b : r ≤ 39 = rw e (short_128 _ (below_top h l f g)) in
@@ -80,8 +75,12 @@ count_fits h l r f g e =
     small : (r : ℕ) → r ≤ 39 → r + 1 < 2 ^ 64
     small r b = omega arith
 
-fits_next : (at m : ℕ) → at < m → m < 2 ^ 64 → Fits w64 (at + 1)
-fits_next at m f g = record { fits = omega arith }
+-- what is written before the last digit of n, and where it ends
+pub record Heads (s : List ℕ) (at n end : ℕ) (l : List ℕ) : Type 0 where
+  pub heads : List ℕ
+  pub all : decimal n ≡ heads ++ ((48 + n % 10) ∷ [])
+  pub end_is : end ≡ at + length heads
+  pub bytes : l ≡ writes s at heads
 
 -- n is the number, q its tenth, t the test whether that is 0
 module _ (n q : ℕ) (t : Bool) (e : q ≡ n / 10) (f : t ≡ eqb q 0) where
@@ -92,18 +91,9 @@ module _ (n q : ℕ) (t : Bool) (e : q ≡ n / 10) (f : t ≡ eqb q 0) where
     pub count_one : 1 ≡ length (decimal n)
     count_one = sym (length_one n tenth_none)
 
-    module _ (at : ℕ) where
-      pub one_room : (m : ℕ) → at + length (decimal n) ≤ m → at < m
-      one_room m p = omega (arith, count_one)
-
-      pub one_fits : (m : ℕ) → at + length (decimal n) ≤ m → m < 2 ^ 64 → Fits w64 (at + 1)
-      one_fits m p k = fits_next at m (one_room m p) k
-
-      pub one_end : at + 1 ≡ at + length (decimal n)
-      one_end = ap (λ (k : ℕ). at + k) count_one
-
-      pub one_put : (s : List ℕ) (b r : ℕ) → b ≡ 48 + r → r ≡ n % 10 → set s at b ≡ writes s at (decimal n)
-      one_put s b r p k = rw (p, k, one_digit n tenth_none)
+    pub no_heads : (s : List ℕ) (at end : ℕ) (l : List ℕ) → end ≡ at → l ≡ s → Heads s at n end l
+    no_heads s at end l p k =
+        record { heads = []; all = one_digit n tenth_none; end_is = omega arith; bytes = k }
 
   module _ (g : t ≡ false) where
     tenth_some : n / 10 ≡ 0 → ⊥
@@ -121,36 +111,29 @@ module _ (n q : ℕ) (t : Bool) (e : q ≡ n / 10) (f : t ≡ eqb q 0) where
         less : (n q : ℕ) → q ≡ n / 10 → (n / 10 ≡ 0 → ⊥) → q < n
         less n q e z = omega arith
 
-    module _ (at : ℕ) where
-      pub more_room : (m : ℕ) → at + length (decimal n) ≤ m → at + length (decimal q) ≤ m
-      more_room m p = omega (arith, length_next)
+    pub more_room : (at m : ℕ) → at + length (decimal n) ≤ m → at + length (decimal q) ≤ m
+    more_room at m p = omega (arith, length_next)
 
-      module _ (i : ℕ) (k : i ≡ at + length (decimal q)) where
-        pub last_room : (m j : ℕ) → at + length (decimal n) ≤ m → j ≡ m → i < j
-        last_room m j p h = omega (arith, length_next)
+    pub more_heads : (s : List ℕ) (at end r : ℕ) (l l' : List ℕ) → end ≡ r → l ≡ l' → r ≡ at + length (decimal q) → l' ≡ writes s at (decimal q) → Heads s at n end l
+    more_heads s at end r l l' p k h b =
+        record { heads = decimal q; all = rw e (more_digits n tenth_some); end_is = p ∙ h; bytes = k ∙ b }
 
-        pub last_fits : (m : ℕ) → at + length (decimal n) ≤ m → m < 2 ^ 64 → Fits w64 (i + 1)
-        last_fits m p h = fits_next i m (last_room m m p refl) h
+-- the last digit
+module _ {s : List ℕ} {at n end : ℕ} {l : List ℕ} (w : Heads s at n end l) where
+  long : length (decimal n) ≡ length w.heads + 1
+  long = ap length w.all ∙ length-append w.heads ((48 + n % 10) ∷ [])
 
-        pub last_end : i + 1 ≡ at + length (decimal n)
-        last_end = omega (arith, length_next)
+  pub last_room : (j : ℕ) → at + length (decimal n) ≤ length s → j ≡ length s → end < j
+  last_room j p h = let z = w.end_is in omega (arith, long)
 
-        pub last_put_lem : (s l : List ℕ) (b r : ℕ) → l ≡ writes s at (decimal q) → b ≡ 48 + r → r ≡ n % 10 → set l i b ≡ writes s at (decimal n)
-        last_put_lem s l b r h p x =
-            let all : decimal n ≡ decimal q ++ ((48 + n % 10) ∷ []) = rw e (more_digits n tenth_some) in
-            rw (h, k, p, x, all, writes_snoc s at (decimal q) (48 + n % 10))
+  pub last_fits : at + length (decimal n) ≤ length s → length s < 2 ^ 64 → Fits w64 (end + 1)
+  last_fits p h = record { fits = let i = last_room (length s) p refl in omega arith }
 
--- r is the text's length, as it was counted beforehand
-module _ (out : List ℕ) (at : ℕ) (text : List ℕ) where
-  pub placed_past : length out < at → record { answer = None; bytes = out } ≡ placed out at text
-  placed_past f = simp (lt-leb (at + length text) (length out) (omega arith))
+  pub last_end : end + 1 ≡ at + length (decimal n)
+  last_end = let z = w.end_is in omega (arith, long)
 
-  pub placed_short : (r : ℕ) → at ≤ length out → length out - at < r → r ≡ length text → record { answer = None; bytes = out } ≡ placed out at text
-  placed_short r f g e = simp (lt-leb (at + length text) (length out) (omega arith))
-
-  pub placed_end : (r e : ℕ) (l : List ℕ) → at ≤ length out → r ≤ length out - at → r ≡ length text → e ≡ at + length text → l ≡ writes out at text
-      → record { answer = Some e; bytes = l } ≡ placed out at text
-  placed_end r e l f g h k m = simp (le-leb (at + length text) (length out) (omega arith), k, m)
+  pub last_put : (b r : ℕ) → b ≡ 48 + r → r ≡ n % 10 → set l end b ≡ writes s at (decimal n)
+  last_put b r p h = rw (w.bytes, w.end_is, p, h, w.all, writes_snoc s at w.heads (48 + n % 10))
 
 pub low_half : (n : ℕ) (p : Placed) (out : List ℕ) (at : ℕ) → p ≡ placed out at (decimal (0 * 18446744073709551616 + n)) → p ≡ placed out at (decimal n)
 low_half n p out at e = e ∙ ap (λ (k : ℕ). placed out at (decimal k)) (low_only n)

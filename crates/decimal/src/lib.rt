@@ -7,24 +7,17 @@ ghost use Rattle.inty.specs.Value.{value_of};
 ghost use Rattle.decimal.specs.Digits.{decimal};
 ghost use Rattle.decimal.specs.Placed.{placed};
 
-use inty::Inty;
-
-fn digit(d: u64) -> u8
-    requires { d < 10 }
-    ensures { result ≡ 48 + d }
-{
-    48 + d as u8
-}
+use inty::{Inty, Tenth};
 
 fn digit_count(x: Inty) -> usize
     ensures { result ≡ length (decimal (value_of x)) }
 {
-    let t = x.div_ten();
-    let q = t.quotient;
-    if q.is_zero() {
-        return 1;
+    let rest = x.div_ten().quotient;
+    if rest.is_zero() {
+        1
+    } else {
+        digit_count(rest) + 1
     }
-    digit_count(q) + 1
 }
 
 // Writes x at `at`, and returns where the digits end.
@@ -32,25 +25,24 @@ fn put(out: &mut [u8], at: usize, x: Inty) -> usize
     requires { at + length (decimal (value_of x)) ≤ length out.old }
     ensures { (result ≡ at + length (decimal (value_of x))) × (out.new ≡ writes out.old at (decimal (value_of x))) }
 {
-    let t = x.div_ten();
-    let d = digit(t.remainder);
-    let q = t.quotient;
-    if q.is_zero() {
-        out[at] = d;
-        return at + 1;
-    }
-    let end = put(out, at, q);
-    out[end] = d;
-    end + 1
+    let Tenth {
+        quotient,
+        remainder,
+    } = x.div_ten();
+    let last = if quotient.is_zero() {
+        at
+    } else {
+        put(out, at, quotient)
+    };
+    out[last] = b'0' + remainder as u8;
+    last + 1
 }
 
 pub fn write(out: &mut [u8], at: usize, x: Inty) -> Option<usize>
     ensures { record { answer = result; bytes = out.new } ≡ placed out.old at (decimal (value_of x)) }
 {
-    if at > out.len() {
-        return None;
-    }
-    if digit_count(x) > out.len() - at {
+    let room = out.len().checked_sub(at)?;
+    if room < digit_count(x) {
         return None;
     }
     Some(put(out, at, x))

@@ -1,35 +1,27 @@
+use Rattle.std.proofs.Common.{rules, refl}
+use Rattle.inty.specs.Value.{value_of}
 use Rattle.decimal.proofs.Laws as law
-use borrow.Author.Rules.{rules}
+use Rattle.decimal.proofs.Laws.{Heads}
 use Rattle.decimal.proofs.+put.Goals as goal
+use Rattle.decimal.proofs.+put.Goals.{then-is_zero, else-is_zero}
 
-pub digit-d-requires : goal.digit-d-requires
-digit-d-requires t c =
-    search (rules, law.mod_ten)
+pub put-last-requires : goal.put-last-requires
+put-last-requires t c = search (rules, law.tenth_less, law.more_room)
 
-pub bounds-out-at : goal.bounds-out-at
-bounds-out-at t c =
-    search (rules, law.one_room)
+pub bounds-out-last : goal.bounds-out-last
+bounds-out-last t c =
+    let h : Heads c.args.out.now c.args.at (value_of c.args.x) c.if-is_zero.last c.if-is_zero.out =
+    elim c.if-is_zero.branch [ then-is_zero w ↦ search (rules, law.no_heads) | else-is_zero w ↦ search (rules, law.more_heads) ] in
+    law.last_room h _ c.requires c.if-is_zero.auto.out
 
 pub overflow_add-result : goal.overflow_add-result
 overflow_add-result t c =
-    search (rules, law.one_fits)
-
-pub returns-then-is_zero : goal.returns-then-is_zero
-returns-then-is_zero t c =
-    search (rules, law.one_end, law.one_put)
-
-pub put-end-requires : goal.put-end-requires
-put-end-requires t c =
-    search (rules, law.tenth_less, law.more_room)
-
-pub bounds-out-end : goal.bounds-out-end
-bounds-out-end t c =
-    search (rules, law.last_room)
-
-pub overflow_add-result-2 : goal.overflow_add-result-2
-overflow_add-result-2 t c =
-    search (rules, law.last_fits)
+    let h : Heads c.args.out.now c.args.at (value_of c.args.x) c.if-is_zero.last c.if-is_zero.out =
+    elim c.if-is_zero.branch [ then-is_zero w ↦ search (rules, law.no_heads) | else-is_zero w ↦ search (rules, law.more_heads) ] in
+    law.last_fits h c.requires (search rules)
 
 pub returns : goal.returns
 returns t c =
-    search (rules, law.last_end, law.last_put_lem)
+    let h : Heads c.args.out.now c.args.at (value_of c.args.x) c.if-is_zero.last c.if-is_zero.out =
+    elim c.if-is_zero.branch [ then-is_zero w ↦ search (rules, law.no_heads) | else-is_zero w ↦ search (rules, law.more_heads) ] in
+    (law.last_end h, law.last_put h _ _ refl c.div_ten-remainder.ensures.1)
