@@ -1,34 +1,25 @@
-// The buffers that an event line is answered in, for a program to lend: of each only the length is said, so that a
-// proof over it does not go through the array.
+// How large the buffers are that an event line is answered in, and a blank one for a program to lend.
 #![tactic(auto)]
 
 ghost use Rattle.std.specs.Prelude.{◌≡◌, length};
-ghost use Rattle.layout.specs.Layout.{roster_words, node_words};
 
-// The node's.
-pub fn node_words() -> [u64; layout::NODE_WORDS]
-    ensures { node_words ≡ length result }
-{
-    [0; layout::NODE_WORDS]
-}
+// The longest line that is read; a stream keeps no more of one.
+pub const LINE_BYTES: usize = 1024;
 
-// The draft's ranges.
-pub fn draft_rows() -> [u64; layout::ROSTER_WORDS]
-    ensures { roster_words ≡ length result }
-{
-    [0; layout::ROSTER_WORDS]
-}
+// Room for the items of any call, of six words each.
+pub const ITEM_PLACES: usize = 546;
 
-// 546 places for items.
-pub fn item_area() -> [u64; 3276]
-    ensures { 3276 ≡ length result }
-{
-    [0; 3276]
-}
+pub const ITEM_WORDS: usize = 6 * ITEM_PLACES;
 
-// The groups of a record line.
-pub fn group_words() -> [u64; 1542]
-    ensures { 1542 ≡ length result }
+// Room for the groups of any record line.
+pub const GROUP_WORDS: usize = 1542;
+
+// Room for any answer's text.
+pub const TEXT_BYTES: usize = 65536;
+
+// Of an array only the length is said, so that a proof over it does not go through its elements.
+pub fn blank<T: Copy + Default, const N: usize>() -> [T; N]
+    ensures { length result ≡ N }
 {
-    [0; 1542]
+    [T::default(); N]
 }

@@ -1,95 +1,61 @@
 -- What the proofs of the pieces share, with the premises as the code has them, and how a run of bytes goes line by
 -- line.
-use mathlib.Core.Path.{◌≡◌, refl, sym, ap, ◌∙◌}
+use mathlib.Core.Path.{◌≡◌, refl, sym, ap, subst, ◌∙◌}
 use mathlib.Core.Bool.{Bool, true, false}
 use mathlib.Core.List.{List, [], ◌∷◌, ◌++◌, append_assoc, append-nil}
-use mathlib.Core.Logic.{inr}
-use Prim.Native.Nat.{ℕ, suc, ◌+◌, ◌-◌, ◌^◌, ◌≤◌, ◌<◌}
-use native.Mathlib.Nat.{add_assoc, add-zero, zero-add}
-use native.Mathlib.Numerals.{add-one}
+use Prim.Native.Nat.{ℕ, zero, suc, ◌+◌, ◌-◌, ◌^◌, ◌≤◌, ◌<◌}
+use native.Mathlib.Nat.{add_assoc, zero-add}
 use native.Mathlib.Omega.{arith}
-use lib.ListN.{length, get_or, set, drop, take, drop_of_length-le, length-drop, length-append}
-use lib.Seq.{drop-cons, drop-drop, get_or-drop, length-take-le, take-add}
+use lib.ListN.{length, get_or, drop, take, length-drop, length-append}
+use lib.Seq.{drop-drop, length-take-le, take-add}
 use lib.Dec.{eqb}
 use mir.Syntax.{w64}
 use mir.Val.{Fits}
-use borrow.Author.Tests.{lt-ltb, le-ltb, eq-eqb, ne_eqb}
-use Rattle.words.specs.Writes.{writes, writes_other, writes_take, writes_append, length_writes, run_writes}
-use Rattle.words.specs.Tab.{run_part}
+use borrow.Author.Tests.{lt-ltb, le-ltb, eq-eqb, eqb-true, ne_eqb}
+use Rattle.std.specs.Prelude.{Option, None, Some}
+use Rattle.std.specs.Option.{unwrap_or}
+use Rattle.std.specs.List.{copy_within}
+use Rattle.std.proofs.Common.{take_all}
+use Rattle.std.proofs.lemmas.List.Edits.{take-paste}
+use Rattle.memchr.specs.Find.{IsFirstByte, is_byte}
+use Rattle.words.specs.Writes.{writes, writes_append}
 use Rattle.stream_pieces.specs.Pieces.{Begun, none_begun, longer, before, kept}
 use Rattle.stream_pieces.specs.Streamed.{LineOutput, Streamed, prepend, streamed, OutputAfter, output_after}
 
 -- ---- the end of a line
-module _ (s : List ℕ) (i k : ℕ) (e : i + before (drop i s) ≡ k) where
-  pub before_newline : i < length s → get_or s i 0 ≡ 10 → i ≡ k
-  before_newline h f =
-      let z : before (drop i s) ≡ 0 = ap before (drop-cons s i 0 h) ∙ simp (eq-eqb (get_or s i 0) 10 f) in
-      omega arith
+-- the first newline, or the end where there is none
+first_newline : (l : List ℕ) (k : ℕ) → k ≤ length l → ((j : ℕ) → j < k → get_or l j 0 ≡ 10 → ⊥) → (k < length l → get_or l k 0 ≡ 10) → before l ≡ k
+first_newline [] k h none here = omega arith
+first_newline (c ∷ l) zero h none here = simp (eq-eqb c 10 (here (omega arith)))
+first_newline (c ∷ l) (suc k) h none here =
+    simp (ne_eqb c 10 (none 0 (omega arith)))
+    (ap suc (first_newline l k (omega arith) (λ j b. none (suc j) (omega arith)) (λ b. here (omega arith))))
 
-  pub before_more : i < length s → (get_or s i 0 ≡ 10 → ⊥) → i + 1 + before (drop (i + 1) s) ≡ k
-  before_more h n =
-      let z : before (drop i s) ≡ suc (before (drop (i + 1) s)) = rw (add-one i) (ap before (drop-cons s i 0 h) ∙ simp (ne_eqb (get_or s i 0) 10 n)) in
-      omega arith
+found_first : (l : List ℕ) (found : Option ℕ) → IsFirstByte (is_byte 10) l found → unwrap_or found (length l) ≡ before l
+found_first l None nowhere =
+    sym (first_newline l (length l) (omega arith) (λ j b x. nowhere j (omega arith) b (eq-eqb (get_or l j 0) 10 x)) (λ b. absurd (omega arith)))
+found_first l (Some k) first =
+    sym (first_newline l k (omega arith) (λ j b x. first.0.before j (omega arith) (omega arith) (eq-eqb (get_or l j 0) 10 x)) (λ b. eqb-true (get_or l k 0) 10 first.1))
 
-  pub before_end : length s ≤ i → i ≡ k
-  before_end h =
-      let z : before (drop i s) ≡ 0 = ap before (drop_of_length-le s h) in
-      omega arith
+pub line_ends : (s : List ℕ) (at n : ℕ) (found : Option ℕ) → at ≤ length s → IsFirstByte (is_byte 10) (take (length s - at) (drop at s)) found → n ≡ unwrap_or found (length (take (length s - at) (drop at s))) → at + n ≡ at + before (drop at s)
+line_ends s at n found h first e =
+    ap (λ (k : ℕ). at + k) (e ∙ (found_first (take (length s - at) (drop at s)) found first ∙ ap before (take_all (length s - at) (drop at s) (omega (arith, length-drop at s)))))
 
--- ---- sixteen bytes: so many of them have no newline
-module _ (s : List ℕ) (at : ℕ) where
-  pub plain_start : (p : Bool) → p ≡ true → 0 + before (drop (at + 0) s) ≡ before (drop at s)
-  plain_start p h = rw (add-zero at, zero-add (before (drop at s)))
-
-  pub plain_next : (i : ℕ) (p r : Bool) → at + 16 ≤ length s → i < 16 → (p ≡ true → i + before (drop (at + i) s) ≡ before (drop at s)) → (r ≡ true → (p ≡ true) × (get_or s (at + i) 0 ≡ 10 → ⊥))
-      → r ≡ true → i + 1 + before (drop (at + (i + 1)) s) ≡ before (drop at s)
-  plain_next i p r f g h k e =
-      let w = h (k e).0 in
-      let m = before_more s (at + i) (at + before (drop at s)) (omega arith) (omega arith) (k e).1 in
-      let q : at + (i + 1) ≡ at + i + 1 = omega arith in
-      rw q (omega arith)
-
-  pub plain_end : (i : ℕ) (p : Bool) → i ≤ 16 → 16 ≤ i → (p ≡ true → i + before (drop (at + i) s) ≡ before (drop at s)) → p ≡ true → 16 + before (drop (at + 16) s) ≡ before (drop at s)
-  plain_end i p f g h e =
-      let q : i ≡ 16 = omega arith in
-      rw q at (h e)
-
-  pub plain_past : (k : ℕ) (r : Bool) → at + before (drop at s) ≡ k → (r ≡ true → 16 + before (drop (at + 16) s) ≡ before (drop at s)) → r ≡ true → at + 16 + before (drop (at + 16) s) ≡ k
-  plain_past k r h f e =
-      let w = f e in
-      omega arith
-
--- ---- the shift: i bytes from at on are at the start
-module _ (s l : List ℕ) (at end : ℕ) (f : at ≤ end) (g : end ≤ length s) where
+-- ---- what is kept
+module _ (s : List ℕ) (at end : ℕ) (f : at ≤ end) (g : end ≤ length s) (long : Bool) where
   length_rest : length (take (end - at) (drop at s)) ≡ end - at
   length_rest = length-take-le (end - at) (drop at s) (omega (arith, length-drop at s))
 
-  pub shift_more : (i : ℕ) → i < end - at → l ≡ writes s 0 (take i (drop at s)) → set l i (get_or l (at + i) 0) ≡ writes s 0 (take (i + 1) (drop at s))
-  shift_more i h e =
-      let d : length (drop at s) ≡ length s - at = length-drop at s in
-      let t : length (take i (drop at s)) ≡ i = length-take-le i (drop at s) (omega arith) in
-      let v : get_or l (at + i) 0 ≡ get_or (drop at s) i 0 =
-      ap (λ (x : List ℕ). get_or x (at + i) 0) e ∙ (writes_other s 0 (take i (drop at s)) (at + i) (inr (omega arith)) ∙ sym (get_or-drop at s i 0)) in
-      rw (v, e) (rw zero-add at (writes_take s 0 (drop at s) i (omega arith)))
+  pub keep_none : 1024 < end - at → record { long = true; line = [] } ≡ kept (record { long = long; line = take (end - at) (drop at s) })
+  unfolding kept
+  keep_none h = rw (length_rest, lt-ltb 1024 (end - at) h)
 
-  pub shift_end : (i : ℕ) → i ≤ end - at → end - at ≤ i → l ≡ writes s 0 (take i (drop at s)) → l ≡ writes s 0 (take (end - at) (drop at s))
-  shift_end i h k e = let q : i ≡ end - at = omega arith in rw q at e
-
-  module _ (long : Bool) where
-    pub keep_none : 1024 < end - at → record { long = true; line = [] } ≡ kept (record { long = long; line = take (end - at) (drop at s) })
-    unfolding kept
-    keep_none h = rw (length_rest, lt-ltb 1024 (end - at) h)
-
-    pub keep_all : end - at ≤ 1024 → l ≡ writes s 0 (take (end - at) (drop at s)) → record { long = long; line = take (end - at) l } ≡ kept (record { long = long; line = take (end - at) (drop at s) })
-    unfolding kept
-    keep_all h e = rw (length_rest, le-ltb 1024 (end - at) h, e) (ap (λ (x : List ℕ). record { long = long; line = x }) back)
-      where
-        back : take (end - at) (writes s 0 (take (end - at) (drop at s))) ≡ take (end - at) (drop at s)
-        back =
-            let vs : List ℕ = take (end - at) (drop at s) in
-            let fits : 0 + length vs ≤ length s = omega (arith, length_rest) in
-            let whole : length (writes s 0 vs) ≡ length s = length_writes s 0 vs in
-            run_part (end - at) (writes s 0 vs) 0 (omega arith) ∙ rw length_rest at (run_writes s 0 vs fits)
+  pub keep_all : (l : List ℕ) → end - at ≤ 1024 → l ≡ copy_within s at end 0 → record { long = long; line = take (end - at) l } ≡ kept (record { long = long; line = take (end - at) (drop at s) })
+  unfolding kept
+  keep_all l h e = rw (length_rest, le-ltb 1024 (end - at) h, e) (ap (λ (x : List ℕ). record { long = long; line = x }) back)
+    where
+      back : take (end - at) (copy_within s at end 0) ≡ take (end - at) (drop at s)
+      back = subst (λ (k : ℕ). take k (copy_within s at end 0) ≡ take (end - at) (drop at s)) (zero-add (end - at)) (take-paste s 0 (drop at s) (end - at) (omega arith) (omega (arith, length-drop at s)))
 
 -- ---- the line at at ends at e
 before_le : (s : List ℕ) → before s ≤ length s
