@@ -155,7 +155,7 @@ fn reset(mem: &mut [u64])
     ensures { Reset mem.old mem.new }
 {
     fill(&mut mem[0..layout::BARS_AT], 0);
-    fill(&mut mem[layout::BARS_AT..layout::EXECS_AT], Slot::BEYOND);
+    fill(&mut mem[layout::BARS_AT..layout::EXECS_AT], Slot::BEYOND.0);
     fill(&mut mem[layout::EXECS_AT..layout::ROWS_AT], 0);
     mem[layout::WRITTEN_AT] = 0;
 }
