@@ -1,29 +1,35 @@
 -- The fields that are left, by a byte and by a field.
-use Rattle.std.specs.Prelude.{if◌then◌else◌}
+use Rattle.std.specs.Prelude.{if◌then◌else◌, Option, None, Some}
 use mathlib.Core.Path.{◌≡◌, refl, sym, ap, ◌∙◌}
-use mathlib.Core.Bool.{Bool, true, false, ◌&&◌}
+use mathlib.Core.Bool.{Bool, true, false, not, cond, ◌&&◌}
 use mathlib.Core.List.{List, [], ◌∷◌, ◌++◌, append_assoc, append-nil}
 use Prim.Native.Nat.compare
 use Prim.Native.Nat.{ℕ, zero, suc, ◌+◌, ◌-◌, ◌*◌, ◌^◌, ◌≤◌, ◌<◌}
 use native.Mathlib.Nat.{le_refl, le_trans, sub_self, add-zero}
 use native.Mathlib.Numerals.{add-one}
 use native.Mathlib.Omega.{arith}
-use lib.ListN.{length, get_or, drop, set, drop_of_length-le, length-drop, length-take, length-set}
-use lib.Seq.{drop-cons, drop-drop, take-suc, get_or-drop, get_or-set_same, get_or-set_other}
+use lib.ListN.{length, get_or, take, drop, set, drop_of_length-le, length-drop, length-take, length-set}
+use lib.Seq.{drop-cons, drop-drop, take-suc, take-length, get_or-drop, get_or-set_same, get_or-set_other}
+use Rattle.std.specs.Prelude.{◌==◌, position}
+use Rattle.std.specs.Option.{unwrap_or}
+use Rattle.std.specs.List.{position_or_len}
+use Rattle.std.proofs.Common.{nat_lt}
+use Rattle.std.proofs.lemmas.List.{take-append-drop}
+use Rattle.std.proofs.lemmas.List.Sums.{fails_before_first, passes_at_first, prefix_len-le-length}
 use lib.Dec.{ltb, leb, eqb, lit<}
 use native.Mathlib.Decide.{dec_lt}
-use borrow.Author.Tests.{lt-ltb, le-ltb, le-leb, lt-leb, eq-eqb, ne_eqb, ltb-true, ltb-false, leb-true, leb-false}
+use borrow.Author.Tests.{lt-ltb, le-ltb, le-leb, lt-leb, eq-eqb, ne_eqb, eqb-true, ltb-true, ltb-false, leb-true}
 use Rattle.words.specs.Text.{Bytes}
-use Rattle.line_fields.specs.declared.Field.{Field}
 use Rattle.line_fields.specs.declared.NumberAt.{NumberAt}
-use Rattle.line_fields.specs.declared.OptionalAt.{OptionalAt}
 use Rattle.line_fields.specs.Split.{on_first, fields_of, fields_from}
 use Rattle.line_fields.specs.Number.{is_digit, all_digits, value_from, value_of, has_byte, is_number, all_numbers, numbers, number_at}
-use Rattle.line_fields.specs.Reads.{none_left, between, FirstField, ReadsField, ReadsNumber, ReadsNumberAt, leading, ReadsNumbersAt, is_optional, ReadsOptionalAt}
-use Rattle.ids.specs.Refusal.{number_of}
+use Rattle.line_fields.specs.Reads.{none_left, between, ReadsField, number_in, FirstNumber, leading, PutsNumbers, ReadsNumbersAt}
 
 differ : true ≡ false → ⊥
 differ h = let z : ◌≡◌ {A = ℕ} 0 1 = cc in omega arith
+
+pub not_both : {t : Bool} → t ≡ true → t ≡ false → ⊥
+not_both e f = differ (sym e ∙ f)
 
 -- ---- for the users: where the fields begin and end, and one field more
 
@@ -169,17 +175,51 @@ module _ (s : Bytes) (at i : ℕ) (p : Passed s at i) where
 pub field_past : (s : Bytes) (at : ℕ) → length s < at → ReadsField s at (record { start = at; end = at; next = at })
 field_past s at h = record { first = λ l. absurd (omega arith); past = λ _. record { stands = refl; none = from_past s at h } }
 
-pub field_ends : (s : Bytes) (at i : ℕ) (r : Field) → at ≤ i → i ≤ length s → fields_from s at ≡ between s at i ∷ fields_from s (i + 1) → r ≡ record { start = at; end = i; next = i + 1 } → ReadsField s at r
-field_ends s at i r l h e k = rw k (record { first = λ _. record { start = refl; low = l; high = h; next = refl; here = e }; past = λ q. absurd (omega arith) })
+-- how many bytes stand before the first comma
+abbrev to_comma : Bytes → ℕ
+to_comma s = unwrap_or (position (λ c. c == 44) s) (length s)
+
+to_comma_is : (s : Bytes) → to_comma s ≡ position_or_len (λ c. c == 44) s
+to_comma_is s = go (nat_lt (position_or_len (λ c. c == 44) s) (length s)) refl
+  where
+    go : (t : Bool) → nat_lt (position_or_len (λ c. c == 44) s) (length s) ≡ t → unwrap_or (cond t (Some (position_or_len (λ c. c == 44) s)) None) (length s) ≡ position_or_len (λ c. c == 44) s
+    go true e = refl
+    go false e = omega (arith, ltb-false (position_or_len (λ c. c == 44) s) (length s) e, prefix_len-le-length (λ c. not (c == 44)) s)
+
+-- bytes that are no comma are in the field
+pub passed_all : (s : Bytes) (at n : ℕ) → at + n ≤ length s → ((k : ℕ) → k < n → get_or (drop at s) k 0 ≡ 44 → ⊥) → Passed s at (at + n)
+passed_all s at zero l c = rw (add-zero at) (passed_none s at)
+passed_all s at (suc n) l c =
+    let e : at + suc n ≡ at + n + 1 = omega arith in
+    rw e (passed_more s at (at + n) (passed_all s at n (omega arith) (λ k h. c k (omega arith))) (omega arith) (λ z. c n (omega arith) (get_or-drop at s n 0 ∙ z)))
+
+-- up to its first comma, or to the end of the line
+module _ (s : Bytes) (at n : ℕ) (o : Option ℕ) (l : at ≤ length s) (c : o ≡ position (λ c. c == 44) (take (length s - at) (drop at s))) (e : n ≡ unwrap_or o (length (take (length s - at) (drop at s)))) where
+  here_comma : n ≡ position_or_len (λ c. c == 44) (drop at s)
+  here_comma =
+      let k : length s - at ≡ length (drop at s) = sym (length-drop at s) in
+      e ∙ ap (λ (p : Option ℕ). unwrap_or p (length (take (length s - at) (drop at s)))) c ∙ ap to_comma (ap (λ (i : ℕ). take i (drop at s)) k ∙ take-length (drop at s)) ∙ to_comma_is (drop at s)
+
+  pub comma_within : at + n ≤ length s
+  comma_within = omega (arith, here_comma, prefix_len-le-length (λ c. not (c == 44)) (drop at s), length-drop at s)
+
+  passed_bytes : Passed s at (at + n)
+  passed_bytes = passed_all s at n comma_within (λ k m z. not_both (eq-eqb (get_or (drop at s) k 0) 44 z) (fails_before_first (λ c. c == 44) (drop at s) k 0 (omega (arith, here_comma))))
+
+  closes_at : fields_from s at ≡ between s at (at + n) ∷ fields_from s (at + n + 1)
+  closes_at =
+      elim (dec_lt (at + n) (length s)) [
+        | yes m ↦
+            (let h : position_or_len (λ c. c == 44) (drop at s) < length (drop at s) = omega (arith, here_comma, length-drop at s) in
+            let k : (get_or (drop at s) n 0 == 44) ≡ true = rw here_comma (passes_at_first (λ c. c == 44) (drop at s) 0 h) in
+            at_comma s at (at + n) passed_bytes m (sym (get_or-drop at s n 0) ∙ eqb-true (get_or (drop at s) n 0) 44 k))
+        | no m ↦ at_end s at (at + n) passed_bytes (omega (arith, comma_within))
+      ]
+
+  pub field_to : ReadsField s at (record { start = at; end = at + n; next = at + n + 1 })
+  field_to = record { first = λ _. record { start = refl; low = omega arith; high = comma_within; next = refl; here = closes_at }; past = λ q. absurd (omega arith) }
 
 -- ---- digits
-
--- the tests on a byte
-pub digit_below : (c : ℕ) → c < 48 → false ≡ is_digit c
-digit_below c f = simp (lt-leb 48 c f)
-
-pub digit_other : (c : ℕ) → 48 ≤ c → leb c 57 ≡ is_digit c
-digit_other c f = simp (le-leb 48 c f)
 
 pub both_first : (a b : Bool) → (a && b) ≡ true → a ≡ true
 both_first true b e = refl
@@ -194,26 +234,6 @@ digit_from c e = leb-true 48 c (both_first (leb 48 c) (leb c 57) e)
 
 pub digit_to : (c : ℕ) → is_digit c ≡ true → c ≤ 57
 digit_to c e = leb-true c 57 (both_second (leb 48 c) (leb c 57) e)
-
-pub digit_small : (t : Bool) (c d : ℕ) → t ≡ is_digit c → t ≡ true → d ≡ c - 48 → d ≤ 9
-digit_small t c d e f g = omega (arith, digit_to c (sym e ∙ f))
-
--- within 64 bits
-pub word_below : (a d : ℕ) → d ≤ 9 → a < 1844674407370955161 → true ≡ ltb (a * 10 + d) (2 ^ 64)
-word_below a d h l = sym (lt-ltb (a * 10 + d) (2 ^ 64) (omega arith))
-
-pub word_above : (a d : ℕ) → 1844674407370955161 < a → false ≡ ltb (a * 10 + d) (2 ^ 64)
-word_above a d l = sym (le-ltb (a * 10 + d) (2 ^ 64) (omega arith))
-
-pub word_at : (a d : ℕ) → 1844674407370955161 ≤ a → a ≤ 1844674407370955161 → leb d 5 ≡ ltb (a * 10 + d) (2 ^ 64)
-word_at a d l h = go (leb d 5) refl
-  where
-    go : (t : Bool) → leb d 5 ≡ t → t ≡ ltb (a * 10 + d) (2 ^ 64)
-    go true e = sym (lt-ltb (a * 10 + d) (2 ^ 64) (omega (arith, leb-true d 5 e)))
-    go false e = sym (le-ltb (a * 10 + d) (2 ^ 64) (omega (arith, leb-false d 5 e)))
-
-pub in_word : (t : Bool) (a d : ℕ) → t ≡ ltb (a * 10 + d) (2 ^ 64) → t ≡ true → a * 10 + d < 2 ^ 64
-in_word t a d e f = ltb-true (a * 10 + d) (2 ^ 64) (sym e ∙ f)
 
 -- digits after digits
 digits_append : (p q : Bytes) → all_digits (p ++ q) ≡ (all_digits p && all_digits q)
@@ -260,142 +280,66 @@ over_number p c q e =
     go true = refl
     go false = refl
 
+some_byte : (f : Bytes) → 0 < length f → has_byte f ≡ true
+some_byte [] h = absurd (omega arith)
+some_byte (c ∷ f) h = refl
+
 pub is_number_lem : (p : Bytes) → 0 < length p → all_digits p ≡ true → value_of p < 2 ^ 64 → is_number p ≡ true
 unfolding is_number
 is_number_lem [] h d v = absurd (omega arith)
 is_number_lem (c ∷ p) h d v = rw (d, lt-ltb (value_of (c ∷ p)) (2 ^ 64) v)
 
--- ---- what number_at says
-
--- the first field up to i is digits, of value acc
-pub record Digits (s : Bytes) (at acc i : ℕ) : Type 0 where
-  pub passed : Passed s at i
-  pub digits : all_digits (between s at i) ≡ true
-  pub value : acc ≡ value_of (between s at i)
-  pub small : acc < 2 ^ 64
-
-pub digits_none : (s : Bytes) (at : ℕ) → Digits s at 0 at
-unfolding all_digits value_from
-digits_none s at = record { passed = passed_none s at; digits = rw (between_none s at); value = rw (between_none s at); small = lit< tt }
-
-abbrev none : ℕ → NumberAt
-none at = record { good = false; value = 0; next = at }
-
-pub no_number : (s : Bytes) (at : ℕ) → is_number (get_or (fields_from s at) 0 []) ≡ false → ReadsNumberAt s at (none at)
-no_number s at e = record { good = sym e; first = λ h. absurd (differ (sym h)); none = λ _. refl }
-
-module _ (s : Bytes) (at acc i : ℕ) (p : Digits s at acc i) where
-  pub digits_more : (t u : Bool) (d : ℕ) → i < length s → t ≡ is_digit (get_or s i 0) → t ≡ true → d ≡ get_or s i 0 - 48 → u ≡ ltb (acc * 10 + d) (2 ^ 64) → u ≡ true
-      → Digits s at (acc * 10 + d) (i + 1)
-  unfolding all_digits value_from
-  digits_more t u d h e f k g v =
-      let b : is_digit (get_or s i 0) ≡ true = sym e ∙ f in
-      let m = between_more s at i p.passed.low h in
-      record {
-        passed = passed_more s at i p.passed h (λ z. absurd (omega (arith, z, digit_from (get_or s i 0) b)));
-        digits = ap all_digits m ∙ digits_append (between s at i) (get_or s i 0 ∷ []) ∙ rw (p.digits, b);
-        value = sym (ap value_of m ∙ value_append 0 (between s at i) (get_or s i 0 ∷ []) ∙ rw (← p.value, ← k));
-        small = in_word u acc d g v;
-      }
-
-  -- the field is over, with digits passed or without
-  over : fields_from s at ≡ between s at i ∷ fields_from s (i + 1) → i ≤ length s → at < i → ReadsNumberAt s at (record { good = true; value = acc; next = i + 1 })
-  over e h l =
-      let f : get_or (fields_from s at) 0 [] ≡ between s at i = ap (λ (x : List Bytes). get_or x 0 []) e in
-      let n : 0 < length (between s at i) = rw (length_between s at i h) (omega arith) in
-      let v : value_of (between s at i) < 2 ^ 64 = rw (← p.value) p.small in
-      record {
-        good = sym (ap is_number f ∙ is_number_lem (between s at i) n p.digits v);
-        first = λ _. record { value = p.value ∙ sym (ap value_of f); low = omega arith; high = omega arith; here = e ∙ ap {B = List Bytes} (λ (x : Bytes). x ∷ fields_from s (i + 1)) (sym f) };
-        none = λ z. absurd (differ z);
-      }
-
-  closed : fields_from s at ≡ between s at i ∷ fields_from s (i + 1) → i ≤ length s → (r : NumberAt)
-      → (at < i → r ≡ record { good = true; value = acc; next = i + 1 }) × (i ≤ at → r ≡ none at) → ReadsNumberAt s at r
-  closed e h r k =
-      elim (dec_lt at i) [
-        | yes l ↦ rw (k.0 l) (over e h l)
-        | no l ↦
-            (let z : i ≡ at = omega (arith, p.passed.low) in
-            rw (k.1 (omega arith)) (no_number s at (ap (λ (x : List Bytes). is_number (get_or x 0 [])) e ∙ ap (λ (j : ℕ). is_number (between s at j)) z ∙ ap is_number (between_none s at) ∙ none_number)))
-      ]
-
-  pub number_comma : (r : NumberAt) → i < length s → get_or s i 0 ≡ 44 → (at < i → r ≡ record { good = true; value = acc; next = i + 1 }) × (i ≤ at → r ≡ none at) → ReadsNumberAt s at r
-  number_comma r h e k = closed (at_comma s at i p.passed h e) (omega arith) r k
-
-  pub number_end : (r : NumberAt) → length s ≤ i → (at < i → r ≡ record { good = true; value = acc; next = i + 1 }) × (i ≤ at → r ≡ none at) → ReadsNumberAt s at r
-  number_end r h k =
-      elim (dec_lt (length s) at) [
-        | yes l ↦
-            (let z : i ≤ at = elim (dec_lt at i) [ yes b ↦ absurd (omega (arith, p.passed.high b)) | no b ↦ omega arith ] in
-            rw (k.1 z) (no_number s at (ap (λ (x : List Bytes). is_number (get_or x 0 [])) (from_past s at l) ∙ none_number)))
-        | no l ↦
-            (let z : i ≡ length s = elim (dec_lt at i) [ yes b ↦ omega (arith, p.passed.high b) | no b ↦ omega (arith, p.passed.low) ] in
-            closed (at_end s at i p.passed z) (omega arith) r k)
-      ]
-
-  pub other_byte : (r : NumberAt) (t : Bool) → i < length s → t ≡ is_digit (get_or s i 0) → t ≡ false → (get_or s i 0 ≡ 44 → ⊥) → r ≡ none at → ReadsNumberAt s at r
-  other_byte r t h e f n k = rw k (no_number s at (ap is_number (at_other s at i p.passed h n) ∙ other_number (between s at i) (get_or s i 0) (get_or (fields_from s (i + 1)) 0 []) (sym e ∙ f)))
-
-  pub too_large : (r : NumberAt) (t u : Bool) (d : ℕ) → i < length s → t ≡ is_digit (get_or s i 0) → t ≡ true → d ≡ get_or s i 0 - 48 → u ≡ ltb (acc * 10 + d) (2 ^ 64) → u ≡ false → r ≡ none at → ReadsNumberAt s at r
-  too_large r t u d h e f k g v q =
-      let b : is_digit (get_or s i 0) ≡ true = sym e ∙ f in
-      let w : 2 ^ 64 ≤ value_of (between s at i) * 10 + (get_or s i 0 - 48) = rw (← p.value, ← k) (ltb-false (acc * 10 + d) (2 ^ 64) (sym g ∙ v)) in
-      rw q (no_number s at (ap is_number (at_other s at i p.passed h (λ z. absurd (omega (arith, z, digit_from (get_or s i 0) b)))) ∙ over_number (between s at i) (get_or s i 0) (get_or (fields_from s (i + 1)) 0 []) w))
-
 -- ---- what number_of says
 
--- digits have no comma among them
-whole_field : (s : Bytes) → all_digits s ≡ true → fields_of s ≡ s ∷ []
-unfolding all_digits fields_of
-whole_field [] e = refl
-whole_field (c ∷ s) e =
-    let b : is_digit c ≡ true = both_first (is_digit c) (all_digits s) e in
-    let n : eqb c 44 ≡ false = ne_eqb c 44 (λ z. omega (arith, digit_from c b)) in
-    rw (n, whole_field s (both_second (is_digit c) (all_digits s) e))
+-- the bytes before the i-th are digits, of that value
+pub record DigitsTo (s : Bytes) (acc i : ℕ) : Type 0 where
+  pub digits : all_digits (take i s) ≡ true
+  pub value : acc ≡ value_of (take i s)
+  pub small : acc < 2 ^ 64
 
--- a line of one field is that field
-one_field : (s f : Bytes) → fields_of s ≡ f ∷ [] → f ≡ s
-unfolding fields_of
-one_field [] f e = cc
-one_field (c ∷ s) f e = go (eqb c 44) (fields_of s) (some_field s) (one_field s) e
-  where
-    go : (t : Bool) (l : List Bytes) → l ≡ get_or l 0 [] ∷ drop 1 l → ((g : Bytes) → l ≡ g ∷ [] → g ≡ s) → (if t then [] ∷ l else on_first c l) ≡ f ∷ [] → f ≡ c ∷ s
-    go t [] h k e = absurd (omega (arith, ap length h))
-    go true (g ∷ gs) h k e = absurd (omega (arith, ap length e))
-    go false (g ∷ []) h k e = let q = k g refl in cc
-    go false (g ∷ g' ∷ gs) h k e = absurd (omega (arith, ap length e))
+pub digits_none : (s : Bytes) → DigitsTo s 0 0
+unfolding all_digits value_from
+digits_none s = record { digits = refl; value = refl; small = lit< tt }
 
-pub digits_of : (s : Bytes) → is_number s ≡ true → all_digits s ≡ true
+pub no_bytes : (s : Bytes) → length s ≡ 0 → None ≡ number_in s
 unfolding is_number
-digits_of s e = both_second (has_byte s) (all_digits s) (both_first (has_byte s && all_digits s) (ltb (value_of s) (2 ^ 64)) e)
+no_bytes [] e = refl
+no_bytes (c ∷ s) e = absurd (omega arith)
 
--- a number is the one field of its line
-pub number_alone : (s : Bytes) → is_number s ≡ true → fields_from s 0 ≡ s ∷ []
-number_alone s e = from_start s ∙ whole_field s (digits_of s e)
+module _ (s : Bytes) (value i : ℕ) (p : DigitsTo s value i) (h : i < length s) where
+  parts : s ≡ take i s ++ (get_or s i 0 ∷ drop (i + 1) s)
+  parts = sym (take-append-drop i s) ∙ ap (λ (l : Bytes). take i s ++ l) (uncons s i h)
 
-not_true : (t : Bool) → (t ≡ true → ⊥) → t ≡ false
-not_true true n = absurd (n refl)
-not_true false n = refl
+  is_not : is_number (take i s ++ (get_or s i 0 ∷ drop (i + 1) s)) ≡ false → None ≡ number_in s
+  is_not e = let f : is_number s ≡ false = ap is_number parts ∙ e in rw f
 
-module _ (s : Bytes) (r : NumberAt) (a : ReadsNumberAt s 0 r) where
-  pub number_whole : (t : Bool) → r.good ≡ true → t ≡ none_left (fields_from s r.next) → t ≡ true → ReadsNumber s (record { good = true; value = r.value })
-  number_whole t g e f =
-      let z : fields_from s r.next ≡ [] = all_read (fields_from s r.next) (sym e ∙ f) in
-      let h = (a.first g).here in
-      let w : get_or (fields_from s 0) 0 [] ≡ s = one_field s (get_or (fields_from s 0) 0 []) (sym (from_start s) ∙ h ∙ ap {B = List Bytes} (λ l. get_or (fields_from s 0) 0 [] ∷ l) z) in
-      record { good = sym g ∙ a.good ∙ ap is_number w; value = λ _. (a.first g).value ∙ ap value_of w; none = λ n. absurd (differ n) }
+  pub other_byte : is_digit (get_or s i 0) ≡ false → None ≡ number_in s
+  other_byte e = is_not (other_number (take i s) (get_or s i 0) (drop (i + 1) s) e)
 
-  pub number_more : (t : Bool) → r.good ≡ true → t ≡ none_left (fields_from s r.next) → t ≡ false → ReadsNumber s (record { good = false; value = 0 })
-  number_more t g e f =
-      let n : is_number s ≡ false =
-      not_true (is_number s) (λ y. let z : fields_from s r.next ≡ [] = (let h = (a.first g).here in let k = number_alone s y in ap (drop 1) (sym h ∙ k)) in differ (sym (ap none_left z) ∙ sym e ∙ f)) in
-      record { good = sym n; value = λ y. absurd (differ (sym y)); none = λ _. refl }
+  pub too_large : 2 ^ 64 ≤ value * 10 + (get_or s i 0 - 48) → None ≡ number_in s
+  too_large l = is_not (over_number (take i s) (get_or s i 0) (drop (i + 1) s) (rw (← p.value) l))
 
-  pub number_bad : r.good ≡ false → ReadsNumber s (record { good = false; value = 0 })
-  number_bad g =
-      let n : is_number s ≡ false = not_true (is_number s) (λ y. differ (sym y ∙ sym (ap (λ (l : List Bytes). is_number (get_or l 0 [])) (number_alone s y)) ∙ sym a.good ∙ g)) in
-      record { good = sym n; value = λ y. absurd (differ (sym y)); none = λ _. refl }
+  pub digits_more : is_digit (get_or s i 0) ≡ true → (acc : ℕ) → acc ≡ value * 10 + (get_or s i 0 - 48) → acc < 2 ^ 64 → DigitsTo s acc (i + 1)
+  unfolding all_digits value_from
+  digits_more e acc v l =
+      let m : take (i + 1) s ≡ take i s ++ (get_or s i 0 ∷ []) = rw (add-one i, take-suc s i 0 h) in
+      record {
+        digits = rw (m, digits_append (take i s) (get_or s i 0 ∷ []), p.digits, e);
+        value = v ∙ sym (ap value_of m ∙ value_append 0 (take i s) (get_or s i 0 ∷ []) ∙ rw (← p.value));
+        small = l;
+      }
+
+pub digits_all : (s : Bytes) (value i : ℕ) → DigitsTo s value i → i ≡ length s → (length s ≡ 0 → ⊥) → Some value ≡ number_in s
+digits_all s value i p q z =
+    let h : 0 < length s = omega arith in
+    let e : take i s ≡ s = rw (q, take-length s) in
+    let n : is_number s ≡ true = is_number_lem s h (ap all_digits (sym e) ∙ p.digits) (rw (← e, ← p.value) p.small) in
+    rw n (ap Some (p.value ∙ ap value_of e))
+
+-- ---- what number_at says
+
+pub no_first : (s : Bytes) (at : ℕ) → none_left (fields_from s at) ≡ true → is_number (get_or (fields_from s at) 0 []) ≡ false
+no_first s at e = rw (all_read (fields_from s at) e) none_number
 
 -- ---- what numbers says
 
@@ -456,13 +400,12 @@ took_none s at k out =
     record { count = omega arith; left = refl; lead = rw (z, add-zero (leading k (fields_from s at))); values = λ j h. absurd (omega arith); rest = λ j h. refl; size = refl; stands = λ _. refl; high = λ h. absurd (omega arith) }
 
 module _ (s : Bytes) (at k : ℕ) (out₀ out : List ℕ) (next i : ℕ) (p : ReadSoFar s at k out₀ out next i) where
-  pub took_more : (r : NumberAt) → i < k → k ≤ length out₀ → ReadsNumberAt s next r → r.good ≡ true → ReadSoFar s at k out₀ (set out i r.value) r.next (i + 1)
-  took_more r h l a g =
+  pub took_more : (r : NumberAt) → i < k → k ≤ length out₀ → FirstNumber s next r → ReadSoFar s at k out₀ (set out i r.value) r.next (i + 1)
+  took_more r h l f =
       let z : i < length out = omega (arith, p.size) in
-      let f = a.first g in
       let e : k - i ≡ k - (i + 1) + 1 = omega arith in
       let d : drop 1 (fields_from s next) ≡ fields_from s r.next = ap (drop 1) f.here in
-      let n : leading (k - i) (fields_from s next) ≡ leading (k - (i + 1)) (fields_from s r.next) + 1 = rw e (leading_more (k - (i + 1)) (fields_from s next) (sym a.good ∙ g) ∙ ap (λ (x : List Bytes). leading (k - (i + 1)) x + 1) d) in
+      let n : leading (k - i) (fields_from s next) ≡ leading (k - (i + 1)) (fields_from s r.next) + 1 = rw e (leading_more (k - (i + 1)) (fields_from s next) f.good ∙ ap (λ (x : List Bytes). leading (k - (i + 1)) x + 1) d) in
       let w : r.value ≡ number_at (fields_from s at) i = f.value ∙ ap (λ (l : List Bytes). value_of (get_or l 0 [])) p.left ∙ rw (get_or-drop i (fields_from s at) 0 [], add-zero i) in
       let m : leading (k - (i + 1)) (fields_from s r.next) + (i + 1) ≡ leading k (fields_from s at) = omega (arith, n, p.lead) in
       record {
@@ -476,23 +419,23 @@ module _ (s : Bytes) (at k : ℕ) (out₀ out : List ℕ) (next i : ℕ) (p : Re
         high = λ _. f.high;
       }
 
-  read : (b : Bool) → leading k (fields_from s at) ≡ i → b ≡ eqb i k → ReadsNumbersAt s at k out₀ (record { good = b; next = next }) out
-  read b e g = record { good = rw e g; values = rw e p.values; rest = rw e p.rest; size = p.size; left = rw e p.left; stands = rw e p.stands; high = rw e p.high }
+  puts : leading k (fields_from s at) ≡ i → PutsNumbers s at k out₀ out
+  puts e = record { values = rw e p.values; rest = rw e p.rest; size = p.size }
 
-  pub took_bad : (r : NumberAt) → i < k → ReadsNumberAt s next r → r.good ≡ false → ReadsNumbersAt s at k out₀ (record { good = false; next = next }) out
-  took_bad r h a g =
+  pub took_bad : i < k → is_number (get_or (fields_from s next) 0 []) ≡ false → ReadsNumbersAt s at k out₀ None out
+  took_bad h g =
       let e : k - i ≡ k - (i + 1) + 1 = omega arith in
-      let n : leading (k - i) (fields_from s next) ≡ 0 = rw e (leading_other (k - (i + 1)) (fields_from s next) (sym a.good ∙ g)) in
+      let n : leading (k - i) (fields_from s next) ≡ 0 = rw e (leading_other (k - (i + 1)) (fields_from s next) g) in
       let m : leading k (fields_from s at) ≡ i = omega (arith, n, p.lead) in
-      read false m (sym (ne_eqb i k (omega arith)))
+      (omega arith, puts m)
 
-  pub took_all : k ≤ i → ReadsNumbersAt s at k out₀ (record { good = true; next = next }) out
+  pub took_all : k ≤ i → ReadsNumbersAt s at k out₀ (Some next) out
   took_all h =
       let q : i ≡ k = omega (arith, p.count) in
       let z : k - i ≡ 0 = omega arith in
       let n : leading (k - i) (fields_from s next) ≡ 0 = rw z (leading_none (fields_from s next)) in
       let m : leading k (fields_from s at) ≡ i = omega (arith, n, p.lead) in
-      read true m (sym (eq-eqb i k q))
+      (record { good = m ∙ q; left = p.left ∙ ap (λ (j : ℕ). drop j (fields_from s at)) q; stands = λ y. p.stands (omega arith); high = λ y. p.high (omega arith) }, puts m)
 
 -- all fields that are left are k numbers
 eqb_suc : (a b : ℕ) → eqb (suc a) (suc b) ≡ eqb a b
@@ -508,74 +451,3 @@ unfolding leading
 numbers_exact zero fs = sym (numbers_none fs)
 numbers_exact (suc k) [] = let z : eqb 0 (suc k) ≡ false = ne_eqb 0 (suc k) (omega arith) in rw (none_number, z)
 numbers_exact (suc k) (f ∷ fs) = exact_by k f fs (is_number f) refl (numbers_exact k fs)
-
--- where there is no number the position stands, so a number is read only after a number
-pub number_before : (s : Bytes) (at : ℕ) (x y : NumberAt) → ReadsNumberAt s at x → ReadsNumberAt s x.next y → y.good ≡ true → x.good ≡ true
-number_before s at x y h i g = go x.good refl
-  where
-    go : (b : Bool) → x.good ≡ b → b ≡ true
-    go true e = refl
-    go false e =
-        let n : x.next ≡ at = ap (λ (z : NumberAt). z.next) (h.none e) in
-        let w : y.good ≡ x.good = i.good ∙ ap (λ (k : ℕ). is_number (get_or (fields_from s k) 0 [])) n ∙ sym h.good in
-        sym e ∙ sym w ∙ g
-
--- ---- a number or an empty field
-
-has_byte_lem : (f : Bytes) → is_number f ≡ true → has_byte f ≡ true
-unfolding is_number
-has_byte_lem f e = both_first (has_byte f) (all_digits f) (both_first (has_byte f && all_digits f) (ltb (value_of f) (2 ^ 64)) e)
-
-in_line : (s : Bytes) (at : ℕ) → none_left (fields_from s at) ≡ false → at ≤ length s
-in_line s at e = ltb-false (length s) at (none_left_lem s at ∙ e)
-
-some_byte : (f : Bytes) → 0 < length f → has_byte f ≡ true
-some_byte [] h = absurd (omega arith)
-some_byte (c ∷ f) h = refl
-
-no_value : value_of [] ≡ 0
-unfolding value_from
-no_value = refl
-
-abbrev no_optional : ℕ → OptionalAt
-no_optional at = record { good = false; count = 0; value = 0; next = at }
-
-no_optional_lem : (s : Bytes) (at : ℕ) (v : OptionalAt) → is_optional (fields_from s at) ≡ false → v ≡ no_optional at → ReadsOptionalAt s at v
-no_optional_lem s at v e k = rw k (record { good = sym e; first = λ z. absurd (differ (sym z)); none = λ _. refl })
-
-module _ (s : Bytes) (at : ℕ) (n : NumberAt) (a : ReadsNumberAt s at n) where
-  pub optional_number : n.good ≡ true → ReadsOptionalAt s at (record { good = true; count = 1; value = n.value; next = n.next })
-  optional_number g =
-      let f = a.first g in
-      let e : is_number (get_or (fields_from s at) 0 []) ≡ true = sym a.good ∙ g in
-      let b : has_byte (get_or (fields_from s at) 0 []) ≡ true = has_byte_lem (get_or (fields_from s at) 0 []) e in
-      let l : none_left (fields_from s at) ≡ false = ap none_left f.here in
-      record { good = sym (rw (l, b, e)); first = λ _. record { count = rw b; value = f.value; low = f.low; high = f.high; here = f.here }; none = λ z. absurd (differ z) }
-
-  pub optional_ended : (t : Bool) (v : OptionalAt) → t ≡ none_left (fields_from s at) → t ≡ true → v ≡ no_optional at → ReadsOptionalAt s at v
-  optional_ended t v e h k = let l : none_left (fields_from s at) ≡ true = sym e ∙ h in no_optional_lem s at v (rw l) k
-
-  module _ (t : Bool) (f : Field) (e : t ≡ none_left (fields_from s at)) (h : t ≡ false) (r : ReadsField s at f) where
-    field : FirstField s at f
-    field = r.first (in_line s at (sym e ∙ h))
-
-    here : fields_from s at ≡ between s at f.end ∷ fields_from s f.next
-    here = field.here ∙ ap {B = List Bytes} (λ (k : ℕ). between s k f.end ∷ fields_from s f.next) field.start
-
-    first_field : get_or (fields_from s at) 0 [] ≡ between s at f.end
-    first_field = ap (λ (l : List Bytes). get_or l 0 []) here
-
-    pub optional_empty : f.end ≡ at → ReadsOptionalAt s at (record { good = true; count = 0; value = 0; next = f.next })
-    optional_empty z =
-        let b : get_or (fields_from s at) 0 [] ≡ [] = first_field ∙ ap (between s at) z ∙ between_none s at in
-        let l : none_left (fields_from s at) ≡ false = sym e ∙ h in
-        let w : fields_from s at ≡ get_or (fields_from s at) 0 [] ∷ fields_from s f.next = here ∙ ap {B = List Bytes} (λ (x : Bytes). x ∷ fields_from s f.next) (sym first_field) in
-        record { good = sym (rw (l, b)); first = λ _. record { count = rw b; value = rw b (sym no_value); low = omega (arith, field.next); high = omega (arith, field.next, field.high); here = w }; none = λ y. absurd (differ y) }
-
-    pub optional_other : (v : OptionalAt) → n.good ≡ false → (f.end ≡ at → ⊥) → v ≡ no_optional at → ReadsOptionalAt s at v
-    optional_other v g z k =
-        let l : none_left (fields_from s at) ≡ false = sym e ∙ h in
-        let m : 0 < length (between s at f.end) = rw (length_between s at f.end field.high) (omega (arith, field.low)) in
-        let b : has_byte (get_or (fields_from s at) 0 []) ≡ true = rw first_field (some_byte (between s at f.end) m) in
-        let i : is_number (get_or (fields_from s at) 0 []) ≡ false = sym a.good ∙ g in
-        no_optional_lem s at v (rw (l, b, i)) k

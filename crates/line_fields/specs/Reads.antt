@@ -1,10 +1,8 @@
 -- Bridge: what is read at a position of a line; tied to `fields_of` by proofs/Laws.
-use Rattle.std.specs.Prelude.{ℕ, zero, suc, ◌+◌, ◌-◌, ◌≤◌, ◌<◌, Bool, true, false, ◌&&◌, ◌||◌, not, List, [], ◌∷◌, ◌≡◌, eqb, length, get_or, take, drop, if◌then◌else◌}
+use Rattle.std.specs.Prelude.{ℕ, zero, suc, ◌+◌, ◌-◌, ◌≤◌, ◌<◌, Bool, true, false, ◌&&◌, ◌||◌, not, List, [], ◌∷◌, ◌≡◌, Option, None, Some, length, get_or, take, drop, if◌then◌else◌}
 use Rattle.words.specs.Text.{Bytes}
 use Rattle.line_fields.specs.declared.Field.{Field}
-use Rattle.line_fields.specs.declared.Number.{Number}
 use Rattle.line_fields.specs.declared.NumberAt.{NumberAt}
-use Rattle.line_fields.specs.declared.NumbersAt.{NumbersAt}
 use Rattle.line_fields.specs.declared.OptionalAt.{OptionalAt}
 use Rattle.line_fields.specs.Split.{fields_from}
 use Rattle.line_fields.specs.Number.{has_byte, is_number, value_of, numbers, number_at}
@@ -33,39 +31,48 @@ pub record ReadsField (s : Bytes) (at : ℕ) (f : Field) : Type 0 where
   pub first : at ≤ length s → FirstField s at f
   pub past : length s < at → PastEnd s at f
 
--- whether bytes are a number, and which
-pub record ReadsNumber (s : Bytes) (r : Number) : Type 0 where
-  pub good : r.good ≡ is_number s
-  pub value : r.good ≡ true → r.value ≡ value_of s
-  pub none : r.good ≡ false → r.value ≡ 0
+-- the number that bytes are
+abbrev pub number_in : Bytes → Option ℕ
+number_in s = if is_number s then Some (value_of s) else None
 
--- whether the first field that is left is a number, and which; where none is left it is not
+-- the first field that is left, a number: which, and where the others begin
 pub record FirstNumber (s : Bytes) (at : ℕ) (r : NumberAt) : Type 0 where
+  pub good : is_number (get_or (fields_from s at) 0 []) ≡ true
   pub value : r.value ≡ number_at (fields_from s at) 0
   pub low : at < r.next
   pub high : r.next ≤ length s + 1
   pub here : fields_from s at ≡ get_or (fields_from s at) 0 [] ∷ fields_from s r.next
 
-pub record ReadsNumberAt (s : Bytes) (at : ℕ) (r : NumberAt) : Type 0 where
-  pub good : r.good ≡ is_number (get_or (fields_from s at) 0 [])
-  pub first : r.good ≡ true → FirstNumber s at r
-  pub none : r.good ≡ false → r ≡ record { good = false; value = 0; next = at }
+-- whether the first field that is left is a number; where none is left it is not
+abbrev pub ReadsNumberAt : Bytes → ℕ → Option NumberAt → Type 0
+ReadsNumberAt s at None = is_number (get_or (fields_from s at) 0 []) ≡ false
+ReadsNumberAt s at (Some r) = FirstNumber s at r
 
 -- how many of the first k fields are numbers, up to the first that is none
 unfoldable pub leading : ℕ → List Bytes → ℕ
 leading zero fs = 0
 leading (suc k) fs = if is_number (get_or fs 0 []) then suc (leading k (drop 1 fs)) else 0
 
--- so many numbers are put into `out`, whose other words stay; the fields after them are left, and where there is no
--- number the position stands
-pub record ReadsNumbersAt (s : Bytes) (at k : ℕ) (out : List ℕ) (r : NumbersAt) (out' : List ℕ) : Type 0 where
-  pub good : r.good ≡ eqb (leading k (fields_from s at)) k
+-- so many numbers are put into `out`, whose other words stay
+pub record PutsNumbers (s : Bytes) (at k : ℕ) (out out' : List ℕ) : Type 0 where
   pub values : (i : ℕ) → i < leading k (fields_from s at) → get_or out' i 0 ≡ number_at (fields_from s at) i
   pub rest : (i : ℕ) → leading k (fields_from s at) ≤ i → get_or out' i 0 ≡ get_or out i 0
   pub size : length out' ≡ length out
-  pub left : fields_from s r.next ≡ drop (leading k (fields_from s at)) (fields_from s at)
-  pub stands : leading k (fields_from s at) ≡ 0 → r.next ≡ at
-  pub high : 0 < leading k (fields_from s at) → r.next ≤ length s + 1
+
+-- where the fields after k numbers begin
+pub record AfterNumbers (s : Bytes) (at k next : ℕ) : Type 0 where
+  pub good : leading k (fields_from s at) ≡ k
+  pub left : fields_from s next ≡ drop k (fields_from s at)
+  pub stands : k ≡ 0 → next ≡ at
+  pub high : 0 < k → next ≤ length s + 1
+
+-- whether the first k fields are numbers
+abbrev pub Reaches : Bytes → ℕ → ℕ → Option ℕ → Type 0
+Reaches s at k None = leading k (fields_from s at) < k
+Reaches s at k (Some next) = AfterNumbers s at k next
+
+abbrev pub ReadsNumbersAt : Bytes → ℕ → ℕ → List ℕ → Option ℕ → List ℕ → Type 0
+ReadsNumbersAt s at k out o out' = Reaches s at k o × PutsNumbers s at k out out'
 
 -- exactly k fields are left, each a number, and which; words of `out` from k on stay
 pub record ReadsNumbers (s : Bytes) (at k : ℕ) (out : List ℕ) (r : Bool) (out' : List ℕ) : Type 0 where
@@ -74,18 +81,17 @@ pub record ReadsNumbers (s : Bytes) (at k : ℕ) (out : List ℕ) (r : Bool) (ou
   pub rest : (i : ℕ) → k ≤ i → get_or out' i 0 ≡ get_or out i 0
   pub size : length out' ≡ length out
 
--- whether there is a field that is empty or a number, and how many numbers it is
+-- whether there is a field that is empty or a number
 abbrev pub is_optional : List Bytes → Bool
 is_optional fs = not (none_left fs) && (not (has_byte (get_or fs 0 [])) || is_number (get_or fs 0 []))
 
 pub record FirstOptional (s : Bytes) (at : ℕ) (r : OptionalAt) : Type 0 where
-  pub count : r.count ≡ (if has_byte (get_or (fields_from s at) 0 []) then 1 else 0)
-  pub value : r.value ≡ number_at (fields_from s at) 0
+  pub good : is_optional (fields_from s at) ≡ true
+  pub value : r.value ≡ (if has_byte (get_or (fields_from s at) 0 []) then Some (number_at (fields_from s at) 0) else None)
   pub low : at < r.next
   pub high : r.next ≤ length s + 1
   pub here : fields_from s at ≡ get_or (fields_from s at) 0 [] ∷ fields_from s r.next
 
-pub record ReadsOptionalAt (s : Bytes) (at : ℕ) (r : OptionalAt) : Type 0 where
-  pub good : r.good ≡ is_optional (fields_from s at)
-  pub first : r.good ≡ true → FirstOptional s at r
-  pub none : r.good ≡ false → r ≡ record { good = false; count = 0; value = 0; next = at }
+abbrev pub ReadsOptionalAt : Bytes → ℕ → Option OptionalAt → Type 0
+ReadsOptionalAt s at None = is_optional (fields_from s at) ≡ false
+ReadsOptionalAt s at (Some r) = FirstOptional s at r

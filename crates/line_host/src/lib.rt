@@ -17,36 +17,32 @@ pub struct Host {
     pub draft: RespondersConf,
 }
 
-// What a line did. 0: taken, with this many items; else the number of the refusal.
+// What a line gives that is taken: the host after it, and how many items it answers. A line that is refused leaves the
+// host as it was.
 #[derive(Clone, Copy)]
-pub struct LineDone {
-    pub number: u64,
-    pub count: usize,
+pub struct LineTaken {
     pub host: Host,
+    pub count: usize,
 }
 
 // No node of population 0 is made by a call.
 fn no_node() -> Node
     ensures { (mem : List ℕ) → ready result mem ≡ false }
 {
-    let id = Replica(0);
-    let bodega_conf = RespondersConf::empty();
-    let none = Ballot(0);
-    let zero = Slot(0);
     Node {
-        id,
+        id: Replica(0),
         population: 0,
         quorum: 0,
-        bodega_conf,
-        bal_max_seen: none,
-        bal_prep_sent: none,
-        bal_prepared: none,
-        start_slot: zero,
-        accept_bar: zero,
-        commit_bar: zero,
-        exec_bar: zero,
-        snap_bar: zero,
-        peer_accept_max: zero,
+        bodega_conf: RespondersConf::empty(),
+        bal_max_seen: Ballot(0),
+        bal_prep_sent: Ballot(0),
+        bal_prepared: Ballot(0),
+        start_slot: Slot(0),
+        accept_bar: Slot(0),
+        commit_bar: Slot(0),
+        exec_bar: Slot(0),
+        snap_bar: Slot(0),
+        peer_accept_max: Slot(0),
         slots: 0,
     }
 }
@@ -56,9 +52,10 @@ impl Host {
     pub fn fresh() -> Host
         ensures { ((mem rows : List ℕ) → host_of result mem rows ≡ fresh_host) × (result.draft.count ≤ 64) }
     {
-        let node = no_node();
-        let draft = RespondersConf::empty();
-        Host { node, draft }
+        Host {
+            node: no_node(),
+            draft: RespondersConf::empty(),
+        }
     }
 }
 
@@ -66,21 +63,14 @@ impl Host {
 pub fn is_sound(draft: RespondersConf, mem: &[u64], rows: &[u64]) -> bool
     ensures { result ≡ sound draft mem.now rows.now }
 {
-    if mem.len() < Node::WORDS {
-        return false;
-    }
-    if rows.len() < RespondersConf::WORDS {
-        return false;
-    }
-    draft.count <= RespondersConf::RANGES
+    mem.len() >= Node::WORDS
+        && rows.len() >= RespondersConf::WORDS
+        && draft.count <= RespondersConf::RANGES
 }
 
 // A replica number as a byte. One that no byte has is refused as 255 is, since no node has so many peers.
 pub fn replica(n: u64) -> Replica
     ensures { result.0 ≡ as_byte n }
 {
-    if 255 < n {
-        return Replica(255);
-    }
-    Replica(n as u8)
+    Replica(u8::try_from(n).unwrap_or(255))
 }

@@ -1,6 +1,0 @@
-use Rattle.line_host.proofs.Laws as law
-use mathlib.Core.Path.{refl}
-use Rattle.line_host.proofs.no_node.Goals as goal
-
-pub returns : goal.returns
-returns c = λ mem. law.unready _ mem refl
