@@ -9,7 +9,8 @@ use native.Mathlib.Nat.{not-suc-le-zero}
 use native.Mathlib.Omega.{arith}
 use borrow.Author.Tests.{le-ltb, eq-eqb, ne_eqb}
 use lib.Dec.{ltb, eqb}
-use lib.ListN.{length, take, drop, replicate, slice_get, length-append, length-map, take-append-drop, length-drop}
+use lib.ListN.{length, take, drop, replicate, length-append, length-map, take-append-drop, length-drop}
+use Rattle.std.specs.List.{slice_get}
 use lib.Seq.{append_snoc, set-append_seam, length-take-le}
 use Rattle.words.specs.Choice.{if_none◌then◌else◌}
 use Rattle.items.specs.Item.{Lead, Prepare, Commit}

@@ -13,7 +13,7 @@ ghost use Rattle.insts.specs.Slots.{short_at, batch_at, reads_at, inst_in, insts
 ghost use Rattle.advance_commit_bar.specs.Walk.{one_if_open};
 ghost use Rattle.become_a_leader.specs.StepUp.{slots_after, prepared_anew, released_from, step_up, StepsUp, Opens, prepare_short, Prelogs, Passes};
 
-use ids::{Ballot, Slot};
+use ids::{Ballot, Replica, Slot};
 use inst_cell::{Cell, Status};
 use items::Item;
 

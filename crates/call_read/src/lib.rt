@@ -5,6 +5,7 @@ ghost use Rattle.bodega.specs.Replica.{Read};
 ghost use Rattle.bodega.specs.Answers.{Answers};
 ghost use Rattle.node.specs.View.{view, ready, given_of};
 
+use ids::{Refusal, Replica};
 use inspect_latest_write::ReadAnswer;
 use inst_holding::ReadReq;
 use node::{Taken, Node, is_ready};

@@ -19,7 +19,7 @@ ghost use Rattle.node.specs.View.{view, ready};
 ghost use Rattle.inspect_latest_write.specs.Located.{held_at, settled_of, answer_in, Stands, Located, Settles, Places, Gets};
 
 use ids::{Replica, Slot};
-use inst_cell::{Cell, Status};
+use inst_cell::{Cell, NoticeBook, Status};
 use items::Item;
 use key_words::Key;
 use node::{Node, is_leader};

@@ -8,7 +8,8 @@ use Rattle.std.specs.Prelude.{Option, None, Some}
 use Prim.Native.Nat.{ℕ, zero, suc, ◌-◌}
 use native.Mathlib.Omega.{arith}
 use lib.Dec.{ltb}
-use lib.ListN.{set, slice_get}
+use lib.ListN.{set}
+use Rattle.std.specs.List.{slice_get}
 use Rattle.words.specs.Choice.{if_none◌then◌else◌}
 use Rattle.bodega.specs.Replica.{Status, Request, ReadReq, Book, Instance, Replica, done, inst_at, set_inst, with_replica_bk, with_holding}
 use Rattle.bodega.specs.Localread.{is_bound, released, release_held_read_reqs}

@@ -18,7 +18,8 @@ ghost use Rattle.inst_holding.specs.Held.{read_of, read_at};
 ghost use Rattle.insts.specs.Slots.{inst_of, inst_in};
 ghost use Rattle.release_held_reads.specs.Release.{answer_to, holding_of, Releases};
 
-use inst_cell::{Cell, Status};
+use ids::Replica;
+use inst_cell::{Cell, NoticeBook, Status};
 use inst_holding::ReadReq;
 use items::Item;
 
