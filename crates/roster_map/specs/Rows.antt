@@ -7,11 +7,8 @@ use Rattle.words.specs.Part.{Untouched}
 use Rattle.ids.specs.Limits.{ranges}
 use Rattle.layout.specs.Layout.{roster_row, roster_words}
 use Rattle.inty.specs.Value.{value_of}
-use Rattle.bitmap.specs.Bitmap.{set_to}
-use Rattle.roster_ranges.specs.Range.{Range, goes_on, below, above, remask}
+use Rattle.roster_ranges.specs.Range.{Range, goes_on}
 use Rattle.roster_map.specs.declared.Row.{Row}
-use Rattle.roster_map.specs.declared.Cut.{Cut}
-use Rattle.roster_map.specs.declared.Cut.TheVariants.{Below, Above, Without}
 
 abbrev pub range_of : Row → Range
 range_of r = record { from = value_of r.start; to = value_of r.end; mask = r.mask }
@@ -24,8 +21,8 @@ unfoldable pub range_at : List ℕ → ℕ → Range
 range_at s p =
     record {
       from = get_or s p 0 * 2 ^ 64 + get_or s (p + 1) 0;
-      to = get_or s (p + 1 + 1) 0 * 2 ^ 64 + get_or s (p + 1 + 1 + 1) 0;
-      mask = get_or s (p + 1 + 1 + 1 + 1) 0;
+      to = get_or s (p + 2) 0 * 2 ^ 64 + get_or s (p + 3) 0;
+      mask = get_or s (p + 4) 0;
     }
 
 -- the first n rows
@@ -38,11 +35,10 @@ extends_last [] r = false
 extends_last (x ∷ []) r = goes_on x r
 extends_last (x ∷ y ∷ l) r = extends_last (y ∷ l) r
 
--- what is kept of a range
-abbrev pub kept : Cut → Range → List Range
-kept (Below a) r = below (value_of a) r
-kept (Above b) r = above (value_of b) r
-kept (Without id) r = remask (λ m. set_to m id.0 false) r ∷ []
+-- the code's row, where there is one
+abbrev pub range_list : Option Row → List Range
+range_list None = []
+range_list (Some r) = range_of r ∷ []
 
 abbrev pub capped : List Range → Option (List Range)
 capped l = if leb (length l) ranges then Some l else None

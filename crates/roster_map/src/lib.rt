@@ -1,56 +1,46 @@
 // `KeyRangeMap` of keyrange.rs: key ranges and their masks as rows in lent words.
 #![tactic(auto)]
 
-ghost use Rattle.std.specs.Prelude.{◌≡◌, false, ℕ, ◌+◌, ◌*◌, ◌<◌, ◌≤◌, length, take};
+ghost use Rattle.std.specs.Prelude.{◌≡◌, false, ℕ, ◌+◌, ◌*◌, ◌≤◌, List, Option, length};
 ghost use Rattle.words.specs.Writes.{writes};
 ghost use Rattle.layout.specs.Layout.{roster_row, roster_words};
 ghost use Rattle.inty.specs.Value.{value_of};
-ghost use Rattle.roster_ranges.specs.Range.{inside, at, mask_at, goes_on, joined, push as pushed, push_all, cut_below, cut_above, below, above, each, overwrite, remask, remasked};
+ghost use Rattle.roster_ranges.specs.Range.{Range, inside, at, mask_at, goes_on, push as pushed, push_all, below, above, each, overwrite, remask, remasked};
 ghost use Rattle.bitmap.specs.Bitmap.{set_to};
-ghost use Rattle.roster_map.specs.Rows.{range_of, row_words, range_at, ranges_of, extends_last, kept, Stores};
+ghost use Rattle.roster_map.specs.Rows.{range_of, row_words, range_at, ranges_of, extends_last, range_list, Stores};
 
 use ids::Replica;
 use inty::Inty;
 
-#[derive(Clone, Copy)]
+#[derive(Clone, Copy, PartialEq, Eq)]
 pub struct Row {
     pub start: Inty,
     pub end: Inty,
     pub mask: u64,
 }
 
-// What is kept of each row.
-#[derive(Clone, Copy)]
-pub enum Cut {
-    Below(Inty),
-    Above(Inty),
-    Without(Replica),
-}
-
 // Rows stored at most.
 pub const RANGES: usize = layout::ROSTER_PLACES;
 
+// Words of the rows that one more range can make of them: each is cut in two at most.
+const CUT_WORDS: usize = (2 * layout::ROSTER_PLACES + 1) * layout::ROSTER_ROW;
+
+// By index: the words are lent, and no slice of rows.
 pub fn get_row(rows: &[u64], i: usize) -> Row
     requires { i * roster_row + roster_row ≤ length rows.now }
     ensures { range_of result ≡ range_at rows.now (i * roster_row) }
 {
     let p = i * layout::ROSTER_ROW;
-    let p1 = p + 1;
-    let p2 = p1 + 1;
-    let p3 = p2 + 1;
-    let p4 = p3 + 1;
-    let start = Inty {
-        hi: rows[p],
-        lo: rows[p1],
-    };
-    let end = Inty {
-        hi: rows[p2],
-        lo: rows[p3],
-    };
     Row {
-        start,
-        end,
-        mask: rows[p4],
+        start: Inty {
+            hi: rows[p],
+            lo: rows[p + 1],
+        },
+        end: Inty {
+            hi: rows[p + 2],
+            lo: rows[p + 3],
+        },
+        mask: rows[p + 4],
     }
 }
 
@@ -59,41 +49,17 @@ fn put_row(rows: &mut [u64], i: usize, row: Row)
     ensures { rows.new ≡ writes rows.old (i * roster_row) (row_words row) }
 {
     let p = i * layout::ROSTER_ROW;
-    let p1 = p + 1;
-    let p2 = p1 + 1;
-    let p3 = p2 + 1;
-    let p4 = p3 + 1;
     rows[p] = row.start.hi;
-    rows[p1] = row.start.lo;
-    rows[p2] = row.end.hi;
-    rows[p3] = row.end.lo;
-    rows[p4] = row.mask;
+    rows[p + 1] = row.start.lo;
+    rows[p + 2] = row.end.hi;
+    rows[p + 3] = row.end.lo;
+    rows[p + 4] = row.mask;
 }
 
-fn holds(rows: &[u64], i: usize, n: Inty) -> bool
-    requires { i * roster_row + roster_row ≤ length rows.now }
-    ensures { result ≡ inside (range_at rows.now (i * roster_row)) (value_of n) }
+fn holds(row: Row, n: Inty) -> bool
+    ensures { result ≡ inside (range_of row) (value_of n) }
 {
-    let row = get_row(rows, i);
-    if row.end < n {
-        return false;
-    }
-    if n < row.start {
-        return false;
-    }
-    true
-}
-
-fn mask_of(rows: &[u64], i: usize) -> u64
-    requires { i * roster_row + roster_row ≤ length rows.now }
-    ensures { result ≡ (range_at rows.now (i * roster_row)).mask }
-{
-    let p = i * layout::ROSTER_ROW;
-    let p1 = p + 1;
-    let p2 = p1 + 1;
-    let p3 = p2 + 1;
-    let p4 = p3 + 1;
-    rows[p4]
+    row.start <= n && n <= row.end
 }
 
 // The mask stored at n.
@@ -101,12 +67,11 @@ pub fn at(rows: &[u64], count: usize, n: Inty) -> Option<u64>
     requires { count * roster_row ≤ length rows.now }
     ensures { result ≡ at (ranges_of rows.now count) (value_of n) }
 {
-    let mut i = 0;
-    while i < count {
-        if holds(rows, i, n) {
-            return Some(mask_of(rows, i));
+    for i in 0..count {
+        let row = get_row(rows, i);
+        if holds(row, n) {
+            return Some(row.mask);
         }
-        i += 1;
     }
     None
 }
@@ -116,42 +81,21 @@ pub fn get(rows: &[u64], count: usize, default: u64, n: Inty) -> u64
     requires { count * roster_row ≤ length rows.now }
     ensures { result ≡ mask_at default (ranges_of rows.now count) (value_of n) }
 {
-    let Some(mask) = at(rows, count, n) else {
-        return default;
-    };
-    mask
+    at(rows, count, n).unwrap_or(default)
 }
 
 // Whether r goes on from x with the same mask.
 pub fn goes_on(x: Row, r: Row) -> bool
     ensures { result ≡ goes_on (range_of x) (range_of r) }
 {
-    if x.mask == r.mask {
-        return x.end.is_next(r.start);
-    }
-    false
+    x.mask == r.mask && x.end.is_next(r.start)
 }
 
 fn extends_last(rows: &[u64], n: usize, row: Row) -> bool
     requires { n * roster_row ≤ length rows.now }
     ensures { result ≡ extends_last (ranges_of rows.now n) (range_of row) }
 {
-    if n == 0 {
-        return false;
-    }
-    goes_on(get_row(rows, n - 1), row)
-}
-
-fn joined_row(x: Row, r: Row) -> Row
-    ensures { range_of result ≡ joined (range_of x) (range_of r) }
-{
-    let start = x.start;
-    let end = r.end;
-    Row {
-        start,
-        end,
-        mask: x.mask,
-    }
+    n > 0 && goes_on(get_row(rows, n - 1), row)
 }
 
 // A row after the last of n; how many there are then.
@@ -162,114 +106,76 @@ fn push(rows: &mut [u64], n: usize, row: Row) -> usize
     if extends_last(rows, n, row) {
         let last = n - 1;
         let x = get_row(rows, last);
-        put_row(rows, last, joined_row(x, row));
+        let joined = Row { end: row.end, ..x };
+        put_row(rows, last, joined);
         return n;
     }
     put_row(rows, n, row);
     n + 1
 }
 
-fn cut_below(row: Row, a: Inty) -> Row
-    ensures { range_of result ≡ cut_below (value_of a) (range_of row) }
+// What of a row lies below a.
+fn below(row: Row, a: Inty) -> Option<Row>
+    ensures { range_list result ≡ below (value_of a) (range_of row) }
 {
-    if row.end < a {
-        return row;
-    }
-    let start = row.start;
-    let end = a.pred();
-    Row {
-        start,
-        end,
-        mask: row.mask,
-    }
-}
-
-fn cut_above(row: Row, b: Inty) -> Row
-    requires { value_of b < value_of row.end }
-    ensures { range_of result ≡ cut_above (value_of b) (range_of row) }
-{
-    if b < row.start {
-        return row;
-    }
-    let next = b.succ();
-    let Some(start) = next else {
-        return row;
+    let part = Row {
+        end: row.end.min(a.pred()),
+        ..row
     };
-    let end = row.end;
-    Row {
-        start,
-        end,
-        mask: row.mask,
-    }
+    (row.start < a).then_some(part)
 }
 
-fn push_below(out: &mut [u64], n: usize, row: Row, a: Inty) -> usize
-    requires { n * roster_row + roster_row ≤ length out.old }
-    ensures { (ranges_of out.new result ≡ push_all (ranges_of out.old n) (below (value_of a) (range_of row))) × (result ≤ n + 1) }
+// What of a row lies above b.
+fn above(row: Row, b: Inty) -> Option<Row>
+    ensures { range_list result ≡ above (value_of b) (range_of row) }
 {
-    if row.start < a {
-        return push(out, n, cut_below(row, a));
-    }
-    n
-}
-
-fn push_above(out: &mut [u64], n: usize, row: Row, b: Inty) -> usize
-    requires { n * roster_row + roster_row ≤ length out.old }
-    ensures { (ranges_of out.new result ≡ push_all (ranges_of out.old n) (above (value_of b) (range_of row))) × (result ≤ n + 1) }
-{
-    if b < row.end {
-        return push(out, n, cut_above(row, b));
-    }
-    n
+    let next = b.succ()?;
+    let part = Row {
+        start: row.start.max(next),
+        ..row
+    };
+    (b < row.end).then_some(part)
 }
 
 fn without(row: Row, id: Replica) -> Row
     ensures { range_of result ≡ remask (λ m. set_to m id.0 false) (range_of row) }
 {
-    let start = row.start;
-    let end = row.end;
     Row {
-        start,
-        end,
         mask: bitmap::set(row.mask, id, false),
+        ..row
     }
 }
 
-fn push_kept(out: &mut [u64], n: usize, row: Row, cut: Cut) -> usize
-    requires { n * roster_row + roster_row ≤ length out.old }
-    ensures { (ranges_of out.new result ≡ push_all (ranges_of out.old n) (kept cut (range_of row))) × (result ≤ n + 1) }
-{
-    match cut {
-        Cut::Below(a) => push_below(out, n, row, a),
-        Cut::Above(b) => push_above(out, n, row, b),
-        Cut::Without(id) => push(out, n, without(row, id)),
-    }
-}
-
-// What is kept of each of `count` rows, after the n that stand in out.
-fn pass(out: &mut [u64], n: usize, rows: &[u64], count: usize, cut: Cut) -> usize
-    requires { (count * roster_row ≤ length rows.now) × (n * roster_row + count * roster_row ≤ length out.old) }
-    ensures { (ranges_of out.new result ≡ push_all (ranges_of out.old n) (each (kept cut) (ranges_of rows.now count))) × (result ≤ n + count) }
+// What `keep` keeps of each of `count` rows, after the n that stand in out.
+fn pass<F: Fn(Row) -> Option<Row>>(
+    out: &mut [u64],
+    n: usize,
+    rows: &[u64],
+    count: usize,
+    keep: F,
+) -> usize
+    ghost kept: { Range → List Range }
+    requires room { (count * roster_row ≤ length rows.now) × (n * roster_row + count * roster_row ≤ length out.old) }
+    requires keeps { F.IsAlwaysCallable keep × ((r : Row) (o : Option Row) → F.post keep r o → range_list o ≡ kept (range_of r)) }
+    ensures { (ranges_of out.new result ≡ push_all (ranges_of out.old n) (each kept (ranges_of rows.now count))) × (result ≤ n + count) }
 {
     let mut m = n;
-    let mut i = 0;
-    while i < count {
-        m = push_kept(out, m, get_row(rows, i), cut);
-        i += 1;
+    for i in 0..count {
+        if let Some(row) = keep(get_row(rows, i)) {
+            m = push(out, m, row);
+        }
     }
     m
 }
 
 // w over the rows, into out.
 fn overwritten(out: &mut [u64], rows: &[u64], count: usize, w: Row) -> usize
-    requires { (count ≤ 64) × (count * roster_row ≤ length rows.now) × (645 ≤ length out.old) }
-    ensures { (ranges_of out.new result ≡ overwrite (ranges_of rows.now count) (range_of w)) × (result * roster_row ≤ 645) }
+    requires { (count ≤ 64) × (count * roster_row ≤ length rows.now) × (CUT_WORDS ≤ length out.old) }
+    ensures { (ranges_of out.new result ≡ overwrite (ranges_of rows.now count) (range_of w)) × (result * roster_row ≤ CUT_WORDS) }
 {
-    let start = w.start;
-    let end = w.end;
-    let n = pass(out, 0, rows, count, Cut::Below(start));
+    let n = pass(out, 0, rows, count, |row| below(row, w.start));
     let m = push(out, n, w);
-    pass(out, m, rows, count, Cut::Above(end))
+    pass(out, m, rows, count, |row| above(row, w.end))
 }
 
 // The rows without a replica, into out.
@@ -277,14 +183,14 @@ fn filtered(out: &mut [u64], rows: &[u64], count: usize, id: Replica) -> usize
     requires { (count * roster_row ≤ length rows.now) × (count * roster_row ≤ length out.old) }
     ensures { (ranges_of out.new result ≡ remasked (λ k. set_to k id.0 false) (ranges_of rows.now count)) × (result ≤ count) }
 {
-    pass(out, 0, rows, count, Cut::Without(id))
+    pass(out, 0, rows, count, |row| Some(without(row, id)))
 }
 
 fn store(rows: &mut [u64], out: &[u64], n: usize) -> Option<usize>
     requires { (n * roster_row ≤ length out.now) × (roster_words ≤ length rows.old) }
     ensures { Stores (ranges_of out.now n) rows.old rows.new result }
 {
-    if RANGES < n {
+    if n > RANGES {
         return None;
     }
     words::copy_words(rows, out, n * layout::ROSTER_ROW);
@@ -296,7 +202,7 @@ pub fn set(rows: &mut [u64], count: usize, w: Row) -> Option<usize>
     requires { (count ≤ 64) × (roster_words ≤ length rows.old) }
     ensures { Stores (overwrite (ranges_of rows.old count) (range_of w)) rows.old rows.new result }
 {
-    let mut out = [0u64; 645];
+    let mut out = [0; CUT_WORDS];
     let n = overwritten(&mut out, rows, count, w);
     store(rows, &out, n)
 }
@@ -306,7 +212,7 @@ pub fn filter(rows: &mut [u64], count: usize, id: Replica) -> usize
     requires { (count ≤ 64) × (roster_words ≤ length rows.old) }
     ensures { Stores (remasked (λ m. set_to m id.0 false) (ranges_of rows.old count)) rows.old rows.new (Some result) }
 {
-    let mut out = [0u64; layout::ROSTER_WORDS];
+    let mut out = [0; layout::ROSTER_WORDS];
     let n = filtered(&mut out, rows, count, id);
     words::copy_words(rows, &out, n * layout::ROSTER_ROW);
     n

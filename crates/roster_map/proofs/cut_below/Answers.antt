@@ -1,9 +1,0 @@
-use Rattle.roster_map.proofs.Laws as law
-use borrow.Author.Rules.{rules}
-use Rattle.roster_map.proofs.cut_below.Goals as goal
-
-pub returns-then-lt : goal.returns-then-lt
-returns-then-lt c = search (rules, law.whole_below)
-
-pub returns : goal.returns
-returns c = search (rules, law.part_below)
