@@ -1,7 +1,8 @@
 // `key_to_inty` of keyrange.rs: the number that a key reads as.
 #![tactic(auto)]
 
-ghost use Rattle.std.specs.Prelude.{◌≡◌, ◌≤◌, length, drop, option_map};
+ghost use Rattle.std.specs.Prelude.{◌≡◌, option_map};
+ghost use Rattle.inty.specs.Value.{value_of};
 ghost use Rattle.keys.specs.Read.{is_k, is_digit, strip, sign, number, overflow, read_key};
 
 use inty::Inty;
@@ -9,92 +10,60 @@ use inty::Inty;
 // The bytes of a key at most, wherever one is kept or stands in a call.
 pub const KEY_BYTES: usize = 48;
 
-fn is_k(c: u8) -> bool
-    ensures { result ≡ is_k c }
-{
-    if c == b'k' {
-        return true;
-    }
-    c == b'K'
-}
-
 fn is_digit(c: u8) -> bool
     ensures { result ≡ is_digit c }
 {
-    if c < b'0' {
-        return false;
-    }
-    c <= b'9'
+    matches!(c, b'0'..=b'9')
 }
 
-// Where the key begins after its leading k and K.
-fn skip_ks(key: &[u8]) -> usize
-    ensures { (result ≤ length key.now) × (drop result key.now ≡ strip key.now) }
+// The key after its leading k and K.
+fn skip_ks(key: &[u8]) -> &[u8]
+    ensures { result.now ≡ strip key.now }
 {
-    let mut i = 0;
-    while i < key.len() {
-        if is_k(key[i]) {
-            i += 1;
-        } else {
-            return i;
-        }
+    let mut rest = key;
+    while let [b'k' | b'K', next @ ..] = rest {
+        rest = next;
     }
-    i
+    rest
 }
 
-// Where the digits begin: past a `+`.
-fn skip_sign(key: &[u8], from: usize) -> usize
-    requires { from ≤ length key.now }
-    ensures { (result ≤ length key.now) × (drop result key.now ≡ sign (drop from key.now)) }
+// The digits, after a `+`.
+fn skip_sign(key: &[u8]) -> &[u8]
+    ensures { result.now ≡ sign key.now }
 {
-    if from < key.len() {
-        if key[from] == b'+' {
-            return from + 1;
-        }
+    match key {
+        [b'+', rest @ ..] => rest,
+        _ => key,
     }
-    from
 }
 
-// The digits from `from` on, after those that made `acc`.
-fn read_long(key: &[u8], from: usize, acc: u64) -> Option<Inty>
-    requires { from ≤ length key.now }
-    ensures { option_map value_of result ≡ overflow (number acc (drop from key.now)) }
+// The number of the digits after those that made `acc`.
+fn read_long(digits: &[u8], acc: u64) -> Option<Inty>
+    ensures { option_map value_of result ≡ overflow (number acc digits.now) }
 {
     let mut x = Inty { hi: 0, lo: acc };
-    let mut i = from;
-    while i < key.len() {
-        let c = key[i];
-        if is_digit(c) {
-            let Some(next) = x.ten_step(c - b'0') else {
-                return None;
-            };
-            x = next;
-            i += 1;
-        } else {
+    for c in digits {
+        if !is_digit(*c) {
             return None;
         }
+        x = x.ten_step(*c - b'0')?;
     }
     Some(x)
 }
 
-// The digits from `from` on: one word holds 19 of them and often 20, so most keys end here.
-fn read_digits(key: &[u8], from: usize) -> Option<Inty>
-    requires { from ≤ length key.now }
-    ensures { option_map value_of result ≡ overflow (number 0 (drop from key.now)) }
+// One word holds 19 digits and often 20, so most keys end here.
+fn read_digits(digits: &[u8]) -> Option<Inty>
+    ensures { option_map value_of result ≡ overflow (number 0 digits.now) }
 {
     let mut acc: u64 = 0;
-    let mut i = from;
-    while i < key.len() {
-        let c = key[i];
-        if is_digit(c) {
-            if acc > 1844674407370955160 {
-                return read_long(key, i, acc);
-            }
-            acc = 10 * acc + u64::from(c - b'0');
-            i += 1;
-        } else {
+    for (i, c) in digits.iter().enumerate() {
+        if acc > (u64::MAX - 9) / 10 {
+            return read_long(&digits[i..], acc);
+        }
+        if !is_digit(*c) {
             return None;
         }
+        acc = 10 * acc + u64::from(*c - b'0');
     }
     Some(Inty { hi: 0, lo: acc })
 }
@@ -102,9 +71,9 @@ fn read_digits(key: &[u8], from: usize) -> Option<Inty>
 pub fn key_to_inty(key: &[u8]) -> Option<Inty>
     ensures { option_map value_of result ≡ read_key key.now }
 {
-    let start = skip_sign(key, skip_ks(key));
-    if start < key.len() {
-        return read_digits(key, start);
+    let digits = skip_sign(skip_ks(key));
+    if digits.is_empty() {
+        return None;
     }
-    None
+    read_digits(digits)
 }
