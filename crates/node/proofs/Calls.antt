@@ -3,7 +3,7 @@ use Rattle.std.specs.Prelude.{if◌then◌else◌}
 use mathlib.Core.Path.{◌≡◌, refl, sym, ap, ◌∙◌}
 use mathlib.Core.Bool.{Bool, true, false, not, ◌&&◌}
 use mathlib.Core.List.{List, [], ◌∷◌, ◌++◌}
-use Rattle.std.specs.Prelude.{None, Some}
+use Rattle.std.specs.Prelude.{None, Some, Result, Ok, Err, IsErrAnd}
 use Prim.Native.Nat.{ℕ, ◌+◌, ◌≤◌, ◌<◌}
 use native.Mathlib.Omega.{arith}
 use lib.Dec.{ltb, leb, eqb}
@@ -25,54 +25,12 @@ use Rattle.words.proofs.Tests.{and_both}
 use Rattle.ids.specs.Limits.{replicas, window}
 use Rattle.layout.specs.Layout.{node_words}
 use Rattle.node.specs.declared.Node.{Node}
-use Rattle.node.specs.View.{size, view, in_range, bars_in_range, sound, ready, lowest, leads_it}
+use Rattle.node.specs.declared.Taken.{Taken}
+use Rattle.node.specs.View.{size, view, in_range, bars_in_range, sound, ready, lowest, leads_it, given_of}
 use Rattle.std.specs.Prelude.{Option}
-use Rattle.ids.specs.Refusal.{refused_by}
-
--- ---- tests
-
-module _ (start exec commit slots : ℕ) where
-  pub far_start : 281474976710655 < start → false ≡ bars_in_range start exec commit slots
-  far_start h = sym (simp (lt-leb start 281474976710655 h))
-
-  module _ (h : start ≤ 281474976710655) where
-    pub low_exec : exec < start → false ≡ bars_in_range start exec commit slots
-    low_exec g = sym (simp (le-leb start 281474976710655 h, lt-leb start exec g))
-
-    module _ (g : start ≤ exec) where
-      pub low_commit : commit < exec → false ≡ bars_in_range start exec commit slots
-      low_commit k = sym (simp (le-leb start 281474976710655 h, le-leb start exec g, lt-leb exec commit k))
-
-      module _ (k : exec ≤ commit) where
-        pub many_slots : window < slots → false ≡ bars_in_range start exec commit slots
-        many_slots l = sym (simp (le-leb start 281474976710655 h, le-leb start exec g, le-leb exec commit k, lt-leb slots window l))
-
-        pub commit_held : slots ≤ window → leb commit (start + slots) ≡ bars_in_range start exec commit slots
-        commit_held l = sym (simp (le-leb start 281474976710655 h, le-leb start exec g, le-leb exec commit k, le-leb slots window l))
-
-and_assoc : (a b c : Bool) → (a && b) && c ≡ a && (b && c)
-and_assoc true b c = refl
-and_assoc false b c = refl
-
-module _ (len id population quorum count start exec commit slots : ℕ) (t : Bool) (e : t ≡ leb size len && in_range id population quorum) where
-  whole : (leb size len && in_range id population quorum) && (leb count 64 && bars_in_range start exec commit slots) ≡ sound len id population quorum count start exec commit slots
-  whole = and_assoc (leb size len) (in_range id population quorum) (leb count 64 && bars_in_range start exec commit slots)
-
-  pub unsound_start : not t ≡ true → false ≡ sound len id population quorum count start exec commit slots
-  unsound_start f = sym (sym whole ∙ ap (λ (b : Bool). b && (leb count 64 && bars_in_range start exec commit slots)) (sym e ∙ not-true t f))
-
-  module _ (f : not t ≡ false) where
-    begun : (b : Bool) → leb count 64 && bars_in_range start exec commit slots ≡ b → b ≡ sound len id population quorum count start exec commit slots
-    begun b g = sym (sym whole ∙ ap (λ (x : Bool). x && (leb count 64 && bars_in_range start exec commit slots)) (sym e ∙ not-false t f) ∙ g)
-
-    pub unsound_count : 64 < count → false ≡ sound len id population quorum count start exec commit slots
-    unsound_count h = begun false (simp (lt-leb count 64 h))
-
-    pub sound_bars : (b : Bool) → count ≤ 64 → b ≡ bars_in_range start exec commit slots → b ≡ sound len id population quorum count start exec commit slots
-    sound_bars b h g = begun b (simp (le-leb count 64 h) (sym g))
-
-pub leads_by : (l : Option Replica) (x id : Replica) → l ≡ Some x → eqb x.0 id.0 ≡ leads_it (leader_of l) id.0
-leads_by l x id e = sym (ap (λ (k : Option Replica). leads_it (leader_of k) id.0) e)
+use Rattle.ids.specs.Refusal.{number_of}
+use Rattle.ids.specs.declared.Refusal.{Refusal}
+use Rattle.ids.specs.declared.Refusal.TheVariants.{Malformed, NotReady, NoSuchReplica, MaskTooWide, KeyTooLong, UnreadBound, RangeReversed, SlotTooLarge, BatchTooLarge, OwnGuard, BarsBroken, RosterMissing, BallotNotCurrent, SlotEnded, WindowFull, SlotNotHeld, TooManyRanges, TooManyKeys, TooManyReads, AreaTooSmall}
 
 -- ---- what is known of a ready node
 
@@ -89,10 +47,10 @@ pub record Ready (n : Node) (m : List ℕ) : Type 0 where
   pub window : n.slots ≤ window
   pub commit_end_lem : n.commit_bar.0 ≤ n.start_slot.0 + n.slots
 
-pub is_ready : (n : Node) (m : List ℕ) (t : Bool) → t ≡ ready n m → not t ≡ false → Ready n m
+pub is_ready : (n : Node) (m : List ℕ) (t : Bool) → t ≡ ready n m → t ≡ true → Ready n m
 unfolding ready
 is_ready n m t e f =
-    let r = and_both (leb size (length m)) _ (sym e ∙ not-false t f) in
+    let r = and_both (leb size (length m)) _ (sym e ∙ f) in
     let s = and_both (in_range n.id.0 n.population n.quorum) _ r.1 in
     let a = and_both (ltb 0 n.quorum) _ s.0 in
     let b = and_both (leb n.quorum n.population) _ a.1 in
@@ -137,14 +95,13 @@ made_ready n m r =
 -- ---- what is due
 
 module _ (c : machine.Call) (n : Node) (m area : List ℕ) (t : Bool) (e : t ≡ ready n m) where
-  pub gives_2 : not t ≡ true → Answers ready view c n m area (record { number = 2; count = 0; node = n }) m area
+  pub not_ready : t ≡ false → Answers ready view c n m area (given_of n (Err NotReady)) m area
   unfolding due
-  gives_2 f = rw (sym e ∙ not-true t f) (record { number = refl; count = refl; same_node = refl; same_mem = refl; same_area = refl })
+  not_ready f = rw (sym e ∙ f) (record { number = refl; count = refl; same_node = refl; same_mem = refl; same_area = refl })
 
-  module _ (f : not t ≡ false) where
-    pub refused : (k : ℕ) → refusal_of (view n m) c (places area) ≡ Some k → Answers ready view c n m area (record { number = k; count = 0; node = n }) m area
-    unfolding due step
-    refused k g = rw (sym e ∙ not-false t f, g) (record { number = refl; count = refl; same_node = refl; same_mem = refl; same_area = refl })
+  refused : t ≡ true → (x : Refusal) → refusal_of (view n m) c (places area) ≡ Some (number_of x) → Answers ready view c n m area (given_of n (Err x)) m area
+  unfolding due step
+  refused f x g = rw (sym e ∙ f, g) (record { number = refl; count = refl; same_node = refl; same_mem = refl; same_area = refl })
 
 -- ---- grounds by number
 
@@ -168,35 +125,62 @@ none_refuse : (gs hs : List Ground) → NoneApply gs → refusal (gs ++ hs) ≡ 
 none_refuse [] hs n = refl
 none_refuse (g ∷ gs) hs n = rw n.0 (none_refuse gs hs n.1)
 
-module _ (c : machine.Call) (n : Node) (m : List ℕ) where
-  -- where the code found no ground, none applies
-  pub none_applies : (k : ℕ) → k ≡ lowest (grounds (view n m) c) → k ≡ 0 → NoneApply (grounds (view n m) c)
-  none_applies k g z = no_lowest (grounds (view n m) c) (positive (view n m) c) (sym g ∙ z)
+-- a refusal has a number
+pub number-not-0 : (x : Refusal) → number_of x ≡ 0 → ⊥
+number-not-0 Malformed e = omega arith
+number-not-0 NotReady e = omega arith
+number-not-0 NoSuchReplica e = omega arith
+number-not-0 MaskTooWide e = omega arith
+number-not-0 KeyTooLong e = omega arith
+number-not-0 UnreadBound e = omega arith
+number-not-0 RangeReversed e = omega arith
+number-not-0 SlotTooLarge e = omega arith
+number-not-0 BatchTooLarge e = omega arith
+number-not-0 OwnGuard e = omega arith
+number-not-0 BarsBroken e = omega arith
+number-not-0 RosterMissing e = omega arith
+number-not-0 BallotNotCurrent e = omega arith
+number-not-0 SlotEnded e = omega arith
+number-not-0 WindowFull e = omega arith
+number-not-0 SlotNotHeld e = omega arith
+number-not-0 TooManyRanges e = omega arith
+number-not-0 TooManyKeys e = omega arith
+number-not-0 TooManyReads e = omega arith
+number-not-0 AreaTooSmall e = omega arith
 
-  module _ (area : List ℕ) (t : Bool) (e : t ≡ ready n m) (f : not t ≡ false) (k : ℕ) (g : k ≡ lowest (grounds (view n m) c)) where
-    pub refused_by : (k ≡ 0 → ⊥) → Answers ready view c n m area (record { number = k; count = 0; node = n }) m area
+module _ (c : machine.Call) (n : Node) (m area : List ℕ) (t : Bool) (e : t ≡ ready n m) (f : t ≡ true) where
+  -- where the test of the grounds refused with x, at the exit by `?`
+  pub refused_by : (x : Refusal) (r : Result Taken Refusal) → number_of x ≡ lowest (grounds (view n m) c) → IsErrAnd r (λ y. y ≡ x) → Answers ready view c n m area (given_of n r) m area
+  unfolding refusal_of
+  refused_by x (Ok y) g w = absurd w
+  refused_by x (Err y) g w =
+      let l : lowest (grounds (view n m) c) ≡ number_of x = sym g in
+      rw w
+      (refused c n m area t e f x
+      (some_lowest (grounds (view n m) c) (20 when ltb (places area) (length (effect (view n m) c).items) or []) (λ z. number-not-0 x (g ∙ z)) ∙ ap Some l))
+
+-- where it found no ground
+module _ (c : machine.Call) (n : Node) (m : List ℕ) (g : 0 ≡ lowest (grounds (view n m) c)) where
+  pub none_applies : NoneApply (grounds (view n m) c)
+  none_applies = no_lowest (grounds (view n m) c) (positive (view n m) c) (sym g)
+
+  module _ (area : List ℕ) (t : Bool) (e : t ≡ ready n m) (f : t ≡ true) where
+    last_ground : refusal_of (view n m) c (places area) ≡ (if ltb (places area) (length (effect (view n m) c).items) then Some 20 else None)
     unfolding refusal_of
-    refused_by h =
-        refused c n m area t e f k
-        (some_lowest (grounds (view n m) c) (20 when ltb (places area) (length (effect (view n m) c).items) or []) (λ z. h (g ∙ z)) ∙ ap Some (sym g))
+    last_ground = none_refuse (grounds (view n m) c) (20 when ltb (places area) (length (effect (view n m) c).items) or []) none_applies
 
-    module _ (z : k ≡ 0) where
-      last_ground : refusal_of (view n m) c (places area) ≡ (if ltb (places area) (length (effect (view n m) c).items) then Some 20 else None)
-      unfolding refusal_of
-      last_ground = none_refuse (grounds (view n m) c) (20 when ltb (places area) (length (effect (view n m) c).items) or []) (none_applies k g z)
+    pub few_places : places area < length (effect (view n m) c).items → Answers ready view c n m area (given_of n (Err AreaTooSmall)) m area
+    few_places h = refused c n m area t e f AreaTooSmall (last_ground ∙ ap (λ (x : Bool). if x then Some 20 else None) (lt-ltb (places area) (length (effect (view n m) c).items) h))
 
-      pub few_places : places area < length (effect (view n m) c).items → Answers ready view c n m area (record { number = 20; count = 0; node = n }) m area
-      few_places h = refused c n m area t e f 20 (last_ground ∙ ap (λ (x : Bool). if x then Some 20 else None) (lt-ltb (places area) (length (effect (view n m) c).items) h))
+    pub taken_with : (r : machine.Replica) (l : List Item) (d : Node) (m' area' : List ℕ) → effect (view n m) c ≡ machine.done r l → length l ≤ places area → view d m' ≡ r
+        → area' ≡ writes area 0 (encode l) → length m' ≡ length m → Untouched node_words m m' → ready d m' ≡ true
+        → Answers ready view c n m area (given_of n (Ok (record { node = d; count = length l }))) m' area'
+    unfolding due step
+    taken_with r l d m' area' y p v w s u b =
+        rw (sym e ∙ f, last_ground, y, le-ltb (places area) (length l) p) (record { number = refl; count = refl; next = v; items = w; size = s; beyond = u; ready_again = b })
 
-      pub taken_with : (r : machine.Replica) (l : List Item) (d : Node) (m' area' : List ℕ) → effect (view n m) c ≡ machine.done r l → length l ≤ places area → view d m' ≡ r
-          → area' ≡ writes area 0 (encode l) → length m' ≡ length m → Untouched node_words m m' → ready d m' ≡ true
-          → Answers ready view c n m area (record { number = 0; count = length l; node = d }) m' area'
-      unfolding due step
-      taken_with r l d m' area' x p v w s u y =
-          rw (sym e ∙ not-false t f, last_ground, x, le-ltb (places area) (length l) p) (record { number = refl; count = refl; next = v; items = w; size = s; beyond = u; ready_again = y })
-
-      -- a call without items
-      pub taken_by : (r : machine.Replica) (d : Node) (m' : List ℕ) → effect (view n m) c ≡ machine.done r [] → view d m' ≡ r → length m' ≡ length m → Untouched node_words m m' → ready d m' ≡ true
-          → Answers ready view c n m area (record { number = 0; count = 0; node = d }) m' area
-      unfolding encode
-      taken_by r d m' x v s u y = taken_with r [] d m' area x (omega arith) v refl s u y
+    -- a call without items
+    pub taken_by : (r : machine.Replica) (d : Node) (m' : List ℕ) → effect (view n m) c ≡ machine.done r [] → view d m' ≡ r → length m' ≡ length m → Untouched node_words m m' → ready d m' ≡ true
+        → Answers ready view c n m area (given_of n (Ok (record { node = d; count = 0 }))) m' area
+    unfolding encode
+    taken_by r d m' x v s u y = taken_with r [] d m' area x (omega arith) v refl s u y

@@ -26,43 +26,7 @@ use Rattle.words.specs.Tab.{tab, words_from, tab_ext}
 use Rattle.words.proofs.Tests.{and_both}
 use Rattle.layout.specs.Layout.{replica_places, written_places, bars_at, written_row, written_words, roster_words, pair_words, execs_at, rows_at, written_at, node_words}
 use Rattle.std.specs.Prelude.{Ok, Err}
-
--- ---- tests
-
-module _ (id population quorum : ℕ) where
-  pub no_quorum : quorum ≡ 0 → false ≡ in_range id population quorum
-  no_quorum e = sym (simp (le-ltb 0 quorum (omega arith)))
-
-  module _ (h : quorum ≡ 0 → ⊥) where
-    pub large_quorum : population < quorum → false ≡ in_range id population quorum
-    large_quorum g = sym (simp (lt-ltb 0 quorum (omega arith), lt-leb quorum population g))
-
-    pub many : quorum ≤ population → replicas < population → false ≡ in_range id population quorum
-    many g k = sym (simp (lt-ltb 0 quorum (omega arith), le-leb quorum population g, lt-leb population replicas k))
-
-    pub own_number : quorum ≤ population → population ≤ replicas → ltb id population ≡ in_range id population quorum
-    own_number g k = sym (simp (lt-ltb 0 quorum (omega arith), le-leb quorum population g, le-leb population replicas k))
-
-  pub short_buffer : (len : ℕ) → len < node_words → false ≡ leb size len && in_range id population quorum
-  short_buffer len h = sym (simp (lt-leb node_words len h))
-
-  pub long_buffer : (len : ℕ) (t : Bool) → node_words ≤ len → t ≡ in_range id population quorum → t ≡ leb size len && in_range id population quorum
-  long_buffer len t h e = e ∙ sym (simp (le-leb node_words len h))
-
--- ---- words filled
-
-one_more : (v n : ℕ) → replicate n v ++ (v ∷ []) ≡ replicate (suc n) v
-one_more v zero = refl
-one_more v (suc n) = ap (λ (l : List ℕ). v ∷ l) (one_more v n)
-
-pub fill_step : (l : List ℕ) (i v : ℕ) → i < length l → take i l ≡ replicate i v → take (i + 1) (set l i v) ≡ replicate (i + 1) v
-fill_step l i v h e =
-    ap (λ (k : ℕ). take k (set l i v)) (add-one i) ∙ take-suc-set l i v h ∙ ap (λ (x : List ℕ). x ++ (v ∷ [])) e ∙ one_more v i ∙ sym (ap (λ (k : ℕ). replicate k v) (add-one i))
-
-pub fill_end : (l : List ℕ) (i n v : ℕ) → length l ≤ i → i ≤ length l → length l ≡ n → take i l ≡ replicate i v → l ≡ replicate n v
-fill_end l i n v f g k e =
-    let z : i ≡ length l = omega arith in
-    sym (take-length l) ∙ ap (λ (j : ℕ). take j l) (sym z) ∙ e ∙ ap (λ (j : ℕ). replicate j v) (z ∙ k)
+use Rattle.ids.specs.declared.Refusal.TheVariants.{NotReady}
 
 -- ---- three parts filled, and one word cleared
 
@@ -179,12 +143,12 @@ fresh_execs : (n : ℕ) → n ≤ replicas → words_from n (replicate replica_p
 fresh_execs n h = tab_ext (λ i. get_or (replicate replica_places 0) i 0) (λ i. 0) 0 n (λ j a b. get_or-replicate {A = ℕ} replicas j 0 0 (omega arith)) ∙ tab_const 0 0 n
 
 module _ (id population quorum : ℕ) (s : List ℕ) (t : Bool) (e : t ≡ leb size (length s) && in_range id population quorum) where
-  pub not_begun : not t ≡ true → Gives (leb size (length s) && in_range id population quorum) id population quorum s (Err 2) s
-  not_begun f = rw (sym e ∙ not-true t f) (refl, refl)
+  pub not_begun : t ≡ false → Gives (leb size (length s) && in_range id population quorum) id population quorum s (Err NotReady) s
+  not_begun f = rw (sym e ∙ f) (refl, refl)
 
-  module _ (f : not t ≡ false) where
+  module _ (f : t ≡ true) where
     holds : (leb size (length s) ≡ true) × (in_range id population quorum ≡ true)
-    holds = and_both (leb size (length s)) (in_range id population quorum) (sym e ∙ not-false t f)
+    holds = and_both (leb size (length s)) (in_range id population quorum) (sym e ∙ f)
 
     pub long_enough : node_words ≤ length s
     long_enough = leb-true node_words (length s) holds.0
@@ -221,7 +185,7 @@ module _ (id population quorum : ℕ) (s : List ℕ) (t : Bool) (e : t ≡ leb s
       pub begun : (n : Node) → Zero n → ((rows : List ℕ) → roster_of n.bodega_conf rows ≡ empty) × (n.bodega_conf.count ≤ 64)
           → Gives (leb size (length s) && in_range id population quorum) id population quorum s (Ok n) s'
       unfolding view fresh ready insts_of
-      begun n z c = rw (sym e ∙ not-false t f) (record { replica = replica; readied = readied; beyond = r.rest })
+      begun n z c = rw (sym e ∙ f) (record { replica = replica; readied = readied; beyond = r.rest })
         where
           replica : view n s' ≡ fresh id population quorum
           replica =

@@ -41,112 +41,47 @@ pub struct Taken {
 fn in_range(id: Replica, population: u8, quorum: u8) -> bool
     ensures { result ≡ in_range id.0 population quorum }
 {
-    if quorum == 0 {
-        return false;
-    }
-    if population < quorum {
-        return false;
-    }
-    if Node::REPLICAS < population {
-        return false;
-    }
-    id.0 < population
+    0 < quorum && quorum <= population && population <= Node::REPLICAS && id.0 < population
 }
 
 fn begins(len: usize, id: Replica, population: u8, quorum: u8) -> bool
     ensures { result ≡ leb size len && in_range id.0 population quorum }
 {
-    if len < Node::WORDS {
-        return false;
-    }
-    in_range(id, population, quorum)
+    Node::WORDS <= len && in_range(id, population, quorum)
 }
 
-fn bars_in_range(start: Slot, exec: Slot, commit: Slot, slots: usize) -> bool
-    ensures { result ≡ bars_in_range start.0 exec.0 commit.0 slots }
+fn bars_in_range(node: Node) -> bool
+    ensures { result ≡ bars_in_range node.start_slot.0 node.exec_bar.0 node.commit_bar.0 node.slots }
 {
-    if Slot::TOP < start {
-        return false;
-    }
-    if exec.0 < start.0 {
-        return false;
-    }
-    if commit.0 < exec.0 {
-        return false;
-    }
-    if Node::WINDOW < slots {
-        return false;
-    }
-    commit.0 <= start.0 + slots as u64
-}
-
-fn is_sound(
-    len: usize,
-    id: Replica,
-    population: u8,
-    quorum: u8,
-    count: usize,
-    start: Slot,
-    exec: Slot,
-    commit: Slot,
-    slots: usize,
-) -> bool
-    ensures { result ≡ sound len id.0 population quorum count start.0 exec.0 commit.0 slots }
-{
-    if !begins(len, id, population, quorum) {
-        return false;
-    }
-    if RespondersConf::RANGES < count {
-        return false;
-    }
-    bars_in_range(start, exec, commit, slots)
+    node.start_slot <= Slot::TOP
+        && node.start_slot <= node.exec_bar
+        && node.exec_bar <= node.commit_bar
+        && node.slots <= Node::WINDOW
+        && node.commit_bar.0 <= node.start_slot.0 + node.slots as u64
 }
 
 // Whether a call can have made the node, and the buffer is long enough.
+#[tactic(auto, unfolding(crate::specs::View::ready))]
 pub fn is_ready(node: Node, mem: &[u64]) -> bool
     ensures { result ≡ ready node mem.now }
 {
-    is_sound(
-        mem.len(),
-        node.id,
-        node.population,
-        node.quorum,
-        node.bodega_conf.count,
-        node.start_slot,
-        node.exec_bar,
-        node.commit_bar,
-        node.slots,
-    )
+    begins(mem.len(), node.id, node.population, node.quorum)
+        && node.bodega_conf.count <= RespondersConf::RANGES
+        && bars_in_range(node)
 }
 
 // Whether a roster's leader is this replica.
 pub fn leads(leader: Option<Replica>, id: Replica) -> bool
     ensures { result ≡ leads_it (leader_of leader) id.0 }
 {
-    let Some(l) = leader else {
-        return false;
-    };
-    l.0 == id.0
+    leader == Some(id)
 }
 
 // `is_leader`.
 pub fn is_leader(node: Node) -> bool
     ensures { (m : List ℕ) → result ≡ is_leader (view node m) }
 {
-    let conf = node.bodega_conf;
-    let leader = conf.leader;
-    let id = node.id;
-    leads(leader, id)
-}
-
-fn fill(words: &mut [u64], v: u64)
-    ensures { words.new ≡ replicate (length words.old) v }
-{
-    let mut i = 0;
-    while i < words.len() {
-        words[i] = v;
-        i += 1;
-    }
+    leads(node.bodega_conf.leader, node.id)
 }
 
 // No guard and no exec bar heard, no key written.
@@ -154,9 +89,9 @@ fn reset(mem: &mut [u64])
     requires { node_words ≤ length mem.old }
     ensures { Reset mem.old mem.new }
 {
-    fill(&mut mem[0..layout::BARS_AT], 0);
-    fill(&mut mem[layout::BARS_AT..layout::EXECS_AT], Slot::BEYOND.0);
-    fill(&mut mem[layout::EXECS_AT..layout::ROWS_AT], 0);
+    mem[..layout::BARS_AT].fill(0);
+    mem[layout::BARS_AT..layout::EXECS_AT].fill(Slot::BEYOND.0);
+    mem[layout::EXECS_AT..layout::ROWS_AT].fill(0);
     mem[layout::WRITTEN_AT] = 0;
 }
 
@@ -180,24 +115,20 @@ impl Node {
             return Err(Refusal::NotReady);
         }
         reset(mem);
-        let bodega_conf = RespondersConf::empty();
-        let none = Ballot(0);
-        let zero = Slot(0);
-        let beyond = Slot::BEYOND;
         Ok(Node {
             id,
             population,
             quorum,
-            bodega_conf,
-            bal_max_seen: none,
-            bal_prep_sent: none,
-            bal_prepared: none,
-            start_slot: zero,
-            accept_bar: zero,
-            commit_bar: zero,
-            exec_bar: zero,
-            snap_bar: zero,
-            peer_accept_max: beyond,
+            bodega_conf: RespondersConf::empty(),
+            bal_max_seen: Ballot(0),
+            bal_prep_sent: Ballot(0),
+            bal_prepared: Ballot(0),
+            start_slot: Slot(0),
+            accept_bar: Slot(0),
+            commit_bar: Slot(0),
+            exec_bar: Slot(0),
+            snap_bar: Slot(0),
+            peer_accept_max: Slot::BEYOND,
             slots: 0,
         })
     }

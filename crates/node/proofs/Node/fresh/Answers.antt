@@ -1,8 +1,5 @@
+use Rattle.std.proofs.Common.{refl, rules}
 use Rattle.node.proofs.Laws as law
-use mathlib.Core.Path.{refl}
-use borrow.Author.Rules.{rules}
-use mathlib.Core.Path.{ap}
-use mathlib.Core.Bool.{not}
 use Rattle.node.proofs.Node.fresh.Goals as goal
 
 pub returns-then-not-begins : goal.returns-then-not-begins
@@ -15,4 +12,4 @@ pub returns : goal.returns
 returns c =
     let r = c.reset in
     let a = c.args in
-    law.begun a.id.0 a.population a.quorum _ _ c.begins.ensures (ap not c.if-not-begins.false) _ r.ensures r.auto.mem _ (record { own = refl; members = refl; enough = refl; seen = refl; sent = refl; prepared = refl; start = refl; accept = refl; commit = refl; exec = refl; snap = refl; figure = refl; none = refl }) c.empty-bodega_conf.ensures
+    law.begun a.id.0 a.population a.quorum _ _ c.begins.ensures c.if-not-begins.false _ r.ensures r.auto.mem _ (record { own = refl; members = refl; enough = refl; seen = refl; sent = refl; prepared = refl; start = refl; accept = refl; commit = refl; exec = refl; snap = refl; figure = refl; none = refl }) c.empty.ensures
