@@ -5,16 +5,16 @@ use mathlib.Core.Path.{◌≡◌, refl, sym, ap, ◌∙◌}
 use mathlib.Core.Bool.{Bool, true, false, not, ◌&&◌}
 use mathlib.Core.List.{List}
 use Rattle.std.specs.Prelude.{Option, None, Some}
-use Prim.Native.Nat.{ℕ, ◌*◌, ◌≤◌, ◌<◌}
+use Prim.Native.Nat.{ℕ, ◌≤◌, ◌<◌}
 use native.Mathlib.Omega.{arith}
 use lib.Dec.{ltb, leb}
 use lib.ListN.{length}
-use borrow.Author.Tests.{lt-ltb, le-ltb, le-leb, lt-leb, leb-true, leb-false, eq-eqb, ne_eqb, not-true, not-false}
+use borrow.Author.Tests.{lt-ltb, le-ltb, le-leb, lt-leb, leb-true, leb-false, not-true, not-false}
 use Rattle.words.specs.Choice.{if_none◌then◌else◌}
 use Rattle.words.proofs.Tests.{and_both}
 use Rattle.ids.specs.declared.Replica.{Replica}
 use Rattle.ids.specs.Leader.{leader_of}
-use Rattle.layout.specs.Layout.{roster_row, roster_words}
+use Rattle.layout.specs.Layout.{roster_words}
 use Rattle.inty.specs.declared.Inty.{Inty}
 use Rattle.inty.specs.Value.{value_of}
 use Rattle.bitmap.specs.Bitmap.{fits, set_to}
@@ -27,70 +27,54 @@ use Rattle.roster_conf.specs.Conf.{Conf, get_responders_by_key, leader_without, 
 use Rattle.roster_conf.specs.Ground.{refusal}
 use Rattle.roster_conf.specs.Edit.{Edit, SetLeader, SetResponders, SetFull, IntoFiltered, ResetFull, edit, grounds, too_many, refused, taken, edit_result}
 use Rattle.roster_conf.specs.Edits.{view, holds_rows, in_range, due, Leaves, Gives, lookup}
-use Rattle.roster_conf.specs.Asks.{stored, storing, Asks}
-use Rattle.std.specs.Prelude.{Result, Ok, Err}
+use Rattle.roster_conf.specs.Asks.{ready, stored, storing, Asks}
+use Rattle.std.specs.Prelude.{Result, Ok, Err, ok_or}
 use Rattle.ids.specs.declared.Refusal.{Refusal}
 use Rattle.ids.specs.declared.Refusal.TheVariants.{NotReady, NoSuchReplica, MaskTooWide, KeyTooLong, UnreadBound, RangeReversed, TooManyRanges}
 use Rattle.ids.specs.Refusal.{number_of}
 
--- ---- tests
+-- ---- whether the edit can begin
 
-and_false : (a : Bool) → a && false ≡ false
-and_false true = refl
-and_false false = refl
+zero_one : ◌≡◌ {A = ℕ} 0 1 → ⊥
+zero_one e = omega arith
 
-module _ (len count : ℕ) where
-  pub short_rows : len < roster_words → false ≡ holds_rows len count
-  short_rows h = sym (simp (lt-leb roster_words len h))
+module _ (len count p : ℕ) where
+  was_ready : (v : Unit {0}) → Ok v ≡ ready count len p → holds_rows len count && in_range p ≡ true
+  was_ready v e = go (holds_rows len count && in_range p) refl
+    where
+      go : (b : Bool) → holds_rows len count && in_range p ≡ b → holds_rows len count && in_range p ≡ true
+      go true f = f
+      go false f = let k : Ok v ≡ Err NotReady = e ∙ simp f in let z : ◌≡◌ {A = ℕ} 0 1 = cc in absurd (zero_one z)
 
-  pub long_rows : roster_words ≤ len → leb count 64 ≡ holds_rows len count
-  long_rows h = sym (simp (le-leb roster_words len h))
+  was_unready : (x : Refusal) → Err x ≡ ready count len p → (holds_rows len count && in_range p ≡ false) × (x ≡ NotReady)
+  was_unready x e = go (holds_rows len count && in_range p) refl
+    where
+      go : (b : Bool) → holds_rows len count && in_range p ≡ b → (holds_rows len count && in_range p ≡ false) × (x ≡ NotReady)
+      go true f = let k : Err x ≡ Ok tt = e ∙ simp f in let z : ◌≡◌ {A = ℕ} 0 1 = cc in absurd (zero_one z)
+      go false f = let k : Err x ≡ Err NotReady = e ∙ simp f in (f, cc)
 
-  module _ (t : Bool) (e : t ≡ holds_rows len count) (p : ℕ) where
-    pub not_whole : not t ≡ true → false ≡ holds_rows len count && in_range p
-    not_whole f = sym (ap (λ (b : Bool). b && in_range p) (sym e ∙ not-true t f))
+  pub ready_rows : (v : Unit {0}) → Ok v ≡ ready count len p → (count ≤ 64) × (roster_words ≤ len)
+  ready_rows v e =
+      let w = and_both (leb roster_words len) (leb count 64) (and_both (holds_rows len count) (in_range p) (was_ready v e)).0 in
+      (leb-true count 64 w.1, leb-true roster_words len w.0)
 
-    pub nobody : not t ≡ false → p < 1 → false ≡ holds_rows len count && in_range p
-    nobody f g = sym (ap (λ (b : Bool). b && in_range p) (sym e ∙ not-false t f) ∙ simp (lt-leb 1 p g))
-
-    pub somebody : not t ≡ false → 1 ≤ p → leb p 64 ≡ holds_rows len count && in_range p
-    somebody f g = sym (ap (λ (b : Bool). b && in_range p) (sym e ∙ not-false t f) ∙ simp (le-leb 1 p g))
-
-  whole_few : holds_rows len count ≡ true → count ≤ 64
-  whole_few e = leb-true count 64 (and_both (leb roster_words len) (leb count 64) e).1
-
-  whole_long : holds_rows len count ≡ true → roster_words ≤ len
-  whole_long e = leb-true roster_words len (and_both (leb roster_words len) (leb count 64) e).0
-
-  module _ (t : Bool) (p : ℕ) (e : t ≡ holds_rows len count && in_range p) (f : not t ≡ false) where
-    ready_whole : holds_rows len count ≡ true
-    ready_whole = (and_both (holds_rows len count) (in_range p) (sym e ∙ not-false t f)).0
-
-    pub ready_few : count ≤ 64
-    ready_few = whole_few ready_whole
-
-    pub ready_long : roster_words ≤ len
-    ready_long = whole_long ready_whole
-
-    pub ready : (count ≤ 64) × (roster_words ≤ len)
-    ready = (ready_few, ready_long)
-
-  pub whole_rows : (t : Bool) → t ≡ holds_rows len count → not t ≡ false → count * roster_row ≤ len
-  whole_rows t e f =
-      let w : holds_rows len count ≡ true = sym e ∙ not-false t f in
-      omega (arith, whole_few w, whole_long w)
+-- what `ok_or` was given, where it is a refusal
+module _ {A : Type 0} where
+  none_or : (o : Option A) (e x : Refusal) → Err x ≡ ok_or o e → (o ≡ None) × (x ≡ e)
+  none_or None e x h = (refl, cc)
+  none_or (Some y) e x h = let z : ◌≡◌ {A = ℕ} 0 1 = cc in absurd (zero_one z)
 
 -- ---- what is due
 
-module _ (p : ℕ) (c : RespondersConf) (s : List ℕ) (e : Edit) (t : Bool) (r : t ≡ holds_rows (length s) c.count && in_range p) where
-  pub unready : not t ≡ true → Gives (due p c s e) (Err NotReady) s s
+module _ (p : ℕ) (c : RespondersConf) (s : List ℕ) (e : Edit) where
+  pub unready : (x : Refusal) → Err x ≡ ready c.count (length s) p → Gives (due p c s e) (Err x) s s
   unfolding due
-  unready f = rw (sym r ∙ not-true t f) (refl, refl)
+  unready x r = let k = was_unready (length s) c.count p x r in rw (k.0, k.1) (refl, refl)
 
-  module _ (f : not t ≡ false) where
+  module _ (v : Unit {0}) (r : Ok v ≡ ready c.count (length s) p) where
     due_answer : due p c s e ≡ edit_result p (view c s) e
     unfolding due
-    due_answer = ap (λ (b : Bool). if b then edit_result p (view c s) e else refused 2) (sym r ∙ not-false t f)
+    due_answer = ap (λ (b : Bool). if b then edit_result p (view c s) e else refused 2) (was_ready (length s) c.count p v r)
 
     refuses : (n : Refusal) → refusal (grounds p (view c s) e) ≡ Some (number_of n) → Gives (due p c s e) (Err n) s s
     unfolding edit_result
@@ -101,19 +85,19 @@ module _ (p : ℕ) (c : RespondersConf) (s : List ℕ) (e : Edit) (t : Bool) (r 
     takes d after g l = rw (due_answer ∙ ap (λ (o : Option ℕ). if_none o then taken (edit (view c s) e) else refused) g) l
 
 -- the words are the same, and so is the number of rows or there is none
-module _ (p : ℕ) (c : RespondersConf) (s : List ℕ) (t : Bool) (r : t ≡ holds_rows (length s) c.count && in_range p) (f : not t ≡ false) where
+module _ (p : ℕ) (c : RespondersConf) (s : List ℕ) (v : Unit {0}) (r : Ok v ≡ ready c.count (length s) p) where
   pub leader_3 : (l : ℕ) → p ≤ l → Gives (due p c s (SetLeader l)) (Err NoSuchReplica) s s
   unfolding grounds
-  leader_3 l h = refuses p c s (SetLeader l) t r f NoSuchReplica (simp (le-leb p l h))
+  leader_3 l h = refuses p c s (SetLeader l) v r NoSuchReplica (simp (le-leb p l h))
 
   pub leader_set : (l : Replica) → l.0 < p → Gives (due p c s (SetLeader l.0)) (Ok (record { leader = Some l; count = c.count; default = c.default })) s s
   unfolding grounds edit view
   leader_set l h =
-      takes p c s (SetLeader l.0) t r f _ s (simp (lt-leb p l.0 h)) (record { roster = refl; few = ready_few (length s) c.count t p r f; beyond = λ j k. refl })
+      takes p c s (SetLeader l.0) v r _ s (simp (lt-leb p l.0 h)) (record { roster = refl; few = (ready_rows (length s) c.count p v r).0; beyond = λ j k. refl })
 
   pub reset : Gives (due p c s ResetFull) (Ok (record { leader = None; count = 0; default = c.default })) s s
   unfolding grounds edit view ranges_of
-  reset = takes p c s ResetFull t r f _ s refl (record { roster = refl; few = omega arith; beyond = λ j k. refl })
+  reset = takes p c s ResetFull v r _ s refl (record { roster = refl; few = omega arith; beyond = λ j k. refl })
 
 -- ---- what is stored
 
@@ -141,24 +125,25 @@ module _ (l : List Range) (s after : List ℕ) (r : Option ℕ) (w : Stores l s 
       (k.0, k.1, rw e at w.few)
 
 -- a roster whose ranges are the l that was stored
-module _ (p : ℕ) (c : RespondersConf) (s : List ℕ) (e : Edit) (t : Bool) (r : t ≡ holds_rows (length s) c.count && in_range p) (f : not t ≡ false)
+module _ (p : ℕ) (c : RespondersConf) (s : List ℕ) (e : Edit) (v : Unit {0}) (r : Ok v ≡ ready c.count (length s) p)
     (l : List Range) (after : List ℕ) (st : Option ℕ) (w : Stores l s after st) where
   rows : (n : ℕ) (d : Option Replica) (m : ℕ) → st ≡ Some n → (ltb 64 (length l) ≡ false → refusal (grounds p (view c s) e) ≡ None)
       → edit (view c s) e ≡ record { leader = leader_of d; ranges = l; default = m } → Gives (due p c s e) (Ok (record { leader = d; count = n; default = m })) s after
   unfolding view
   rows n d m g h k =
       let q = stored_some l s after st w n g in
-      takes p c s e t r f _ after (h q.0)
+      takes p c s e v r _ after (h q.0)
       (record { roster = ap (λ (x : List Range). record { leader = leader_of d; ranges = x; default = m }) q.1 ∙ sym k; few = q.2; beyond = w.beyond })
 
 -- ---- a range: what is asked for, and what is stored
 
 module _ (c : RespondersConf) (s : List ℕ) (w : Row) (after : List ℕ) (st : Option ℕ) (x : Stores (overwrite (ranges_of s c.count) (range_of w)) s after st) where
-  pub store_17 : st ≡ None → Gives (storing (stored (view c s) w)) (Err TooManyRanges) s after
+  pub store_17 : (y : Refusal) → Err y ≡ ok_or st TooManyRanges → Gives (storing (stored (view c s) w)) (Err y) s after
   unfolding set_responders view
-  store_17 e =
-      let k = stored_none _ s after st x e in
-      rw k.0 (refl, k.1)
+  store_17 y e =
+      let q = none_or st TooManyRanges y e in
+      let k = stored_none _ s after st x q.0 in
+      rw (k.0, q.1) (refl, k.1)
 
   pub store_taken : (n : ℕ) → st ≡ Some n → Gives (storing (stored (view c s) w)) (Ok (record { leader = c.leader; count = n; default = c.default })) s after
   unfolding set_responders view
@@ -168,20 +153,20 @@ module _ (c : RespondersConf) (s : List ℕ) (w : Row) (after : List ℕ) (st : 
       (record { roster = ap (λ (l : List Range). record { leader = leader_of c.leader; ranges = l; default = c.default }) k.1; few = k.2; beyond = x.beyond })
 
 -- an answer that no roster changes, or the row stored
-module _ (p : ℕ) (c : RespondersConf) (s : List ℕ) (e : Edit) (t : Bool) (r : t ≡ holds_rows (length s) c.count && in_range p) (f : not t ≡ false) where
+module _ (p : ℕ) (c : RespondersConf) (s : List ℕ) (e : Edit) (v : Unit {0}) (r : Ok v ≡ ready c.count (length s) p) where
   pub asked_refused : (n : Refusal) → ((d : Conf) → edit_result p d e ≡ refused (number_of n)) → Gives (due p c s e) (Err n) s s
-  asked_refused n h = rw (due_answer p c s e t r f ∙ h (view c s)) (refl, refl)
+  asked_refused n h = rw (due_answer p c s e v r ∙ h (view c s)) (refl, refl)
 
   pub asked_stored : (w : Row) (d : Result RespondersConf Refusal) (after : List ℕ) → ((x : Conf) → edit_result p x e ≡ storing (stored x w)) → Gives (storing (stored (view c s) w)) d s after
       → Gives (due p c s e) d s after
-  asked_stored w d after h g = rw (due_answer p c s e t r f ∙ h (view c s)) g
+  asked_stored w d after h g = rw (due_answer p c s e v r ∙ h (view c s)) g
 
-module _ (p : ℕ) (c : RespondersConf) (s start end : List ℕ) (mask : ℕ) (t : Bool) (r : t ≡ holds_rows (length s) c.count && in_range p) (f : not t ≡ false) (k : Result Row Refusal) (a : Asks p start end mask k) where
-  pub range_refused : (n : Refusal) → k ≡ Err n → Gives (due p c s (SetResponders start end mask)) (Err n) s s
-  range_refused n e = asked_refused p c s (SetResponders start end mask) t r f n (rw e at a)
+module _ (p : ℕ) (c : RespondersConf) (s start end : List ℕ) (mask : ℕ) (v : Unit {0}) (r : Ok v ≡ ready c.count (length s) p) where
+  pub range_refused : (n : Refusal) → Asks p start end mask (Err n) → Gives (due p c s (SetResponders start end mask)) (Err n) s s
+  range_refused n a = asked_refused p c s (SetResponders start end mask) v r n a
 
-  pub range_stored : (w : Row) → k ≡ Ok w → (d : Result RespondersConf Refusal) (after : List ℕ) → Gives (storing (stored (view c s) w)) d s after → Gives (due p c s (SetResponders start end mask)) d s after
-  range_stored w e d after g = asked_stored p c s (SetResponders start end mask) t r f w d after (rw e at a) g
+  pub range_stored : (w : Row) → Asks p start end mask (Ok w) → (d : Result RespondersConf Refusal) (after : List ℕ) → Gives (storing (stored (view c s) w)) d s after → Gives (due p c s (SetResponders start end mask)) d s after
+  range_stored w a d after g = asked_stored p c s (SetResponders start end mask) v r w d after a g
 
 -- the grounds up to 17 do not apply
 only_17 : (p : ℕ) (c : Conf) (e : Edit) → refusal (grounds p c e) ≡ (if too_many (edit c e) then Some 17 else None) → edit_result p c e ≡ storing (edit c e)
@@ -197,25 +182,25 @@ unfolding edit_result
 turned_away p c e n h = ap (λ (o : Option ℕ). if_none o then taken (edit c e) else refused) h
 
 module _ (p mask : ℕ) (t4 : Bool) (e4 : t4 ≡ fits mask p) where
-  pub full_4 : (c : RespondersConf) (s : List ℕ) (t : Bool) → t ≡ holds_rows (length s) c.count && in_range p → not t ≡ false → not t4 ≡ true
+  pub full_4 : (c : RespondersConf) (s : List ℕ) (v : Unit {0}) → Ok v ≡ ready c.count (length s) p → t4 ≡ false
       → Gives (due p c s (SetFull mask)) (Err MaskTooWide) s s
   unfolding grounds
-  full_4 c s t r f g = refuses p c s (SetFull mask) t r f MaskTooWide (simp (sym e4 ∙ not-true t4 g))
+  full_4 c s v r g = refuses p c s (SetFull mask) v r MaskTooWide (simp (sym e4 ∙ g))
 
-  pub range_4 : (start end : List ℕ) → not t4 ≡ true → Asks p start end mask (Err MaskTooWide)
+  pub range_4 : (start end : List ℕ) → t4 ≡ false → Asks p start end mask (Err MaskTooWide)
   unfolding grounds
-  range_4 start end g c = turned_away p c (SetResponders start end mask) 4 (simp (sym e4 ∙ not-true t4 g))
+  range_4 start end g c = turned_away p c (SetResponders start end mask) 4 (simp (sym e4 ∙ g))
 
-  module _ (f4 : not t4 ≡ false) where
+  module _ (f4 : t4 ≡ true) where
     ok4 : fits mask p ≡ true
-    ok4 = sym e4 ∙ not-false t4 f4
+    ok4 = sym e4 ∙ f4
 
-    pub full_stored : (c : RespondersConf) (s : List ℕ) (t : Bool) → t ≡ holds_rows (length s) c.count && in_range p → not t ≡ false → (d : Result RespondersConf Refusal) (after : List ℕ)
+    pub full_stored : (c : RespondersConf) (s : List ℕ) (v : Unit {0}) → Ok v ≡ ready c.count (length s) p → (d : Result RespondersConf Refusal) (after : List ℕ)
         → Gives (storing (stored (view c s) (record { start = record { hi = 0; lo = 0 }; end = record { hi = 18446744073709551615; lo = 18446744073709551615 }; mask = mask }))) d s after
         → Gives (due p c s (SetFull mask)) d s after
     unfolding grounds edit
-    full_stored c s t r f d after g =
-        asked_stored p c s (SetFull mask) t r f (record { start = record { hi = 0; lo = 0 }; end = record { hi = 18446744073709551615; lo = 18446744073709551615 }; mask = mask }) d after
+    full_stored c s v r d after g =
+        asked_stored p c s (SetFull mask) v r (record { start = record { hi = 0; lo = 0 }; end = record { hi = 18446744073709551615; lo = 18446744073709551615 }; mask = mask }) d after
         (λ x. only_17 p x (SetFull mask) (simp ok4)) g
 
     module _ (start end : List ℕ) where
@@ -229,21 +214,23 @@ module _ (p mask : ℕ) (t4 : Bool) (e4 : t4 ≡ fits mask p) where
         range_5_end h c = turned_away p c (SetResponders start end mask) 5 (simp (ok4, le-ltb 48 (length start) g, lt-ltb 48 (length end) h))
 
         module _ (h : length end ≤ 48) (ka : Option Inty) (ea : option_map value_of ka ≡ read_key start) where
-          pub range_6 : ka ≡ None → Asks p start end mask (Err UnreadBound)
+          pub range_6 : (x : Refusal) → Err x ≡ ok_or ka UnreadBound → Asks p start end mask (Err x)
           unfolding grounds
-          range_6 k c =
-              let q : read_key start ≡ None = sym ea ∙ ap (option_map value_of) k in
-              turned_away p c (SetResponders start end mask) 6 (simp (ok4, le-ltb 48 (length start) g, le-ltb 48 (length end) h, q))
+          range_6 x k c =
+              let n = none_or ka UnreadBound x k in
+              let q : read_key start ≡ None = sym ea ∙ ap (option_map value_of) n.0 in
+              rw n.1 (turned_away p c (SetResponders start end mask) 6 (simp (ok4, le-ltb 48 (length start) g, le-ltb 48 (length end) h, q)))
 
           module _ (a : Inty) (fa : ka ≡ Some a) (kb : Option Inty) (eb : option_map value_of kb ≡ read_key end) where
             start_is : read_key start ≡ Some (value_of a)
             start_is = sym ea ∙ ap (option_map value_of) fa
 
-            pub range_6_end : kb ≡ None → Asks p start end mask (Err UnreadBound)
+            pub range_6_end : (x : Refusal) → Err x ≡ ok_or kb UnreadBound → Asks p start end mask (Err x)
             unfolding grounds
-            range_6_end k c =
-                let q : read_key end ≡ None = sym eb ∙ ap (option_map value_of) k in
-                turned_away p c (SetResponders start end mask) 6 (simp (ok4, le-ltb 48 (length start) g, le-ltb 48 (length end) h, start_is, q))
+            range_6_end x k c =
+                let n = none_or kb UnreadBound x k in
+                let q : read_key end ≡ None = sym eb ∙ ap (option_map value_of) n.0 in
+                rw n.1 (turned_away p c (SetResponders start end mask) 6 (simp (ok4, le-ltb 48 (length start) g, le-ltb 48 (length end) h, start_is, q)))
 
             module _ (b : Inty) (fb : kb ≡ Some b) (t7 : Bool) (e7 : t7 ≡ ltb (value_of b) (value_of a)) where
               end_is : read_key end ≡ Some (value_of b)
@@ -261,16 +248,10 @@ module _ (p mask : ℕ) (t4 : Bool) (e4 : t4 ≡ fits mask p) where
 
 -- ---- the filter
 
-pub leader_goes : (l : Option Replica) (x id : Replica) → l ≡ Some x → x.0 ≡ id.0 → None ≡ leader_without id.0 (leader_of l)
-leader_goes l x id e f = sym (ap (λ (k : Option Replica). leader_without id.0 (leader_of k)) e ∙ simp (eq-eqb x.0 id.0 f))
-
-pub leader_stays : (l : Option Replica) (x id : Replica) → l ≡ Some x → (x.0 ≡ id.0 → ⊥) → Some x.0 ≡ leader_without id.0 (leader_of l)
-leader_stays l x id e f = sym (ap (λ (k : Option Replica). leader_without id.0 (leader_of k)) e ∙ simp (ne_eqb x.0 id.0 f))
-
-module _ (p : ℕ) (c : RespondersConf) (s : List ℕ) (t : Bool) (r : t ≡ holds_rows (length s) c.count && in_range p) (f : not t ≡ false) (id : Replica) where
+module _ (p : ℕ) (c : RespondersConf) (s : List ℕ) (v : Unit {0}) (r : Ok v ≡ ready c.count (length s) p) (id : Replica) where
   pub filter_3 : p ≤ id.0 → Gives (due p c s (IntoFiltered id.0)) (Err NoSuchReplica) s s
   unfolding grounds
-  filter_3 h = refuses p c s (IntoFiltered id.0) t r f NoSuchReplica (simp (le-leb p id.0 h))
+  filter_3 h = refuses p c s (IntoFiltered id.0) v r NoSuchReplica (simp (le-leb p id.0 h))
 
   pub filter_set : (n m : ℕ) (d : Option Replica) (after : List ℕ) → id.0 < p → Stores (remasked (λ k. set_to k id.0 false) (ranges_of s c.count)) s after (Some n)
       → leader_of d ≡ leader_without id.0 (leader_of c.leader) → m ≡ set_to c.default id.0 false
@@ -278,7 +259,7 @@ module _ (p : ℕ) (c : RespondersConf) (s : List ℕ) (t : Bool) (r : t ≡ hol
   unfolding grounds edit into_filtered view
   filter_set n m d after h w e g =
       let l = remasked (λ k. set_to k id.0 false) (ranges_of s c.count) in
-      rows p c s (IntoFiltered id.0) t r f l after (Some n) w n d m refl (λ k. simp (lt-leb p id.0 h))
+      rows p c s (IntoFiltered id.0) v r l after (Some n) w n d m refl (λ k. simp (lt-leb p id.0 h))
       (λ i. record { leader = sym e i; ranges = l; default = sym g i })
 
 -- ---- lookup

@@ -1,12 +1,17 @@
--- Bridge: `set_responders` and `set_full` in two parts, the range that is asked for and what storing it leaves; tied
+-- Bridge: whether an edit can begin; `set_responders` and `set_full` in two parts, the range that is asked for and what storing it leaves; tied
 -- to `edit_result` by proofs/Laws.
-use Rattle.std.specs.Prelude.{ℕ, List, ◌≡◌, if◌then◌else◌, Result, Ok, Err}
+use Rattle.std.specs.Prelude.{ℕ, List, ◌≡◌, ◌&&◌, if◌then◌else◌, Result, Ok, Err}
 use Rattle.inty.specs.Value.{value_of}
 use Rattle.roster_map.specs.declared.Row.{Row}
 use Rattle.ids.specs.declared.Refusal.{Refusal}
+use Rattle.ids.specs.declared.Refusal.TheVariants.{NotReady}
 use Rattle.ids.specs.Refusal.{number_of}
 use Rattle.roster_conf.specs.Conf.{Conf, set_responders}
+use Rattle.roster_conf.specs.Edits.{holds_rows, in_range}
 use Rattle.roster_conf.specs.Edit.{SetResponders, EditResult, refused, taken, edit_result, too_many}
+
+abbrev pub ready : ℕ → ℕ → ℕ → Result (Unit {0}) Refusal
+ready count len population = if holds_rows len count && in_range population then Ok tt else Err NotReady
 
 abbrev pub stored : Conf → Row → Conf
 stored c w = set_responders (value_of w.start) (value_of w.end) w.mask c

@@ -1,6 +1,6 @@
 -- Trusted: the one statement that every public edit meets: a roster is the struct and its lent words, 64 rows of five.
-use Rattle.std.specs.Prelude.{ℕ, ◌*◌, ◌≤◌, ◌≡◌, Bool, ◌&&◌, List, leb, length, if◌then◌else◌, Result, Ok, Err}
-use Rattle.std.specs.Prelude.{Option, None, Some}
+use Rattle.std.specs.Prelude.{ℕ, ◌≤◌, ◌≡◌, Bool, ◌&&◌, List, leb, length, if◌then◌else◌, Result, Ok, Err}
+use Rattle.std.specs.Prelude.{Option}
 use Rattle.ids.specs.Leader.{leader_of}
 use Rattle.ids.specs.Limits.{ranges, replicas}
 use Rattle.words.specs.Part.{Untouched}

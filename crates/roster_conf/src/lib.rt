@@ -1,13 +1,13 @@
 // `RespondersConf` of keyrange.rs: a roster. Its ranges are rows in lent words; the short part goes by value.
 #![tactic(auto)]
 
-ghost use Rattle.std.specs.Prelude.{◌≡◌, ◌&&◌, List, ℕ, ◌≤◌, length};
+ghost use Rattle.std.specs.Prelude.{◌≡◌, List, ℕ, ◌≤◌, length};
 ghost use Rattle.ids.specs.Leader.{leader_of};
 ghost use Rattle.layout.specs.Layout.{roster_words};
 ghost use Rattle.roster_conf.specs.Conf.{empty, leader_without};
 ghost use Rattle.roster_conf.specs.Edit.{SetLeader, SetResponders, SetFull, IntoFiltered, ResetFull};
-ghost use Rattle.roster_conf.specs.Edits.{view, holds_rows, in_range, Gives, Edits, lookup};
-ghost use Rattle.roster_conf.specs.Asks.{stored, storing, Asks};
+ghost use Rattle.roster_conf.specs.Edits.{view, holds_rows, Gives, Edits, lookup};
+ghost use Rattle.roster_conf.specs.Asks.{ready, stored, storing, Asks};
 
 use ids::{Refusal, Replica};
 use inty::Inty;
@@ -24,51 +24,25 @@ pub struct RespondersConf {
 pub fn is_whole(len: usize, count: usize) -> bool
     ensures { result ≡ holds_rows len count }
 {
-    if len < RespondersConf::WORDS {
-        return false;
-    }
-    count <= RespondersConf::RANGES
+    len >= RespondersConf::WORDS && count <= RespondersConf::RANGES
 }
 
-fn is_ready(len: usize, count: usize, population: u8) -> bool
-    ensures { result ≡ holds_rows len count && in_range population }
-{
-    if !is_whole(len, count) {
-        return false;
-    }
-    if population < 1 {
-        return false;
-    }
-    population <= Replica::LIMIT
-}
-
-// 4, 5, 6, 7: whether a range can be stored in some roster.
+// 4, 5, 6, 7: a range that can be stored in some roster.
 fn ask(population: u8, start: &[u8], end: &[u8], mask: u64) -> Result<Row, Refusal>
     ensures { Asks population start.now end.now mask result }
 {
     if !bitmap::fits(mask, population) {
         return Err(Refusal::MaskTooWide);
     }
-    if keys::KEY_BYTES < start.len() {
+    if start.len() > keys::KEY_BYTES || end.len() > keys::KEY_BYTES {
         return Err(Refusal::KeyTooLong);
     }
-    if keys::KEY_BYTES < end.len() {
-        return Err(Refusal::KeyTooLong);
-    }
-    let Some(a) = keys::key_to_inty(start) else {
-        return Err(Refusal::UnreadBound);
-    };
-    let Some(b) = keys::key_to_inty(end) else {
-        return Err(Refusal::UnreadBound);
-    };
-    if b < a {
+    let start = keys::key_to_inty(start).ok_or(Refusal::UnreadBound)?;
+    let end = keys::key_to_inty(end).ok_or(Refusal::UnreadBound)?;
+    if end < start {
         return Err(Refusal::RangeReversed);
     }
-    Ok(Row {
-        start: a,
-        end: b,
-        mask,
-    })
+    Ok(Row { start, end, mask })
 }
 
 // 17: the row over those of a roster, where they stay 64 or fewer.
@@ -76,28 +50,15 @@ fn store(conf: RespondersConf, rows: &mut [u64], w: Row) -> Result<RespondersCon
     requires { (conf.count ≤ 64) × (roster_words ≤ length rows.old) }
     ensures { Gives (storing (stored (view conf rows.old) w)) result rows.old rows.new }
 {
-    let Some(n) = roster_map::set(rows, conf.count, w) else {
-        return Err(Refusal::TooManyRanges);
-    };
-    let leader = conf.leader;
-    Ok(RespondersConf {
-        leader,
-        count: n,
-        default: conf.default,
-    })
+    let count = roster_map::set(rows, conf.count, w).ok_or(Refusal::TooManyRanges)?;
+    Ok(RespondersConf { count, ..conf })
 }
 
 // No leader where id is it.
 fn leader_without(leader: Option<Replica>, id: Replica) -> Option<Replica>
     ensures { leader_of result ≡ leader_without id.0 (leader_of leader) }
 {
-    let Some(l) = leader else {
-        return None;
-    };
-    if l.0 == id.0 {
-        return None;
-    }
-    Some(l)
+    leader.filter(|l| *l != id)
 }
 
 impl RespondersConf {
@@ -116,19 +77,32 @@ impl RespondersConf {
         }
     }
 
-    pub fn set_leader(self, rows: &[u64], population: u8, leader: Replica) -> Result<RespondersConf, Refusal>
+    // 2: whether an edit finds whole rows, and the population is 1 to 64.
+    fn check_ready(self, len: usize, population: u8) -> Result<(), Refusal>
+        ensures { result ≡ ready self.count len population }
+    {
+        if is_whole(len, self.count) && population >= 1 && population <= Replica::LIMIT {
+            Ok(())
+        } else {
+            Err(Refusal::NotReady)
+        }
+    }
+
+    pub fn set_leader(
+        self,
+        rows: &[u64],
+        population: u8,
+        leader: Replica,
+    ) -> Result<RespondersConf, Refusal>
         ensures { Edits (SetLeader leader.0) population self rows.now result rows.now }
     {
-        if !is_ready(rows.len(), self.count, population) {
-            return Err(Refusal::NotReady);
-        }
-        if population <= leader.0 {
+        self.check_ready(rows.len(), population)?;
+        if leader.0 >= population {
             return Err(Refusal::NoSuchReplica);
         }
         Ok(RespondersConf {
             leader: Some(leader),
-            count: self.count,
-            default: self.default,
+            ..self
         })
     }
 
@@ -143,64 +117,60 @@ impl RespondersConf {
     ) -> Result<RespondersConf, Refusal>
         ensures { Edits (SetResponders start.now end.now mask) population self rows.old result rows.new }
     {
-        if !is_ready(rows.len(), self.count, population) {
-            return Err(Refusal::NotReady);
-        }
+        self.check_ready(rows.len(), population)?;
         let w = ask(population, start, end, mask)?;
         store(self, rows, w)
     }
 
     // For all keys.
-    pub fn set_full(self, rows: &mut [u64], population: u8, mask: u64) -> Result<RespondersConf, Refusal>
+    pub fn set_full(
+        self,
+        rows: &mut [u64],
+        population: u8,
+        mask: u64,
+    ) -> Result<RespondersConf, Refusal>
         ensures { Edits (SetFull mask) population self rows.old result rows.new }
     {
-        if !is_ready(rows.len(), self.count, population) {
-            return Err(Refusal::NotReady);
-        }
+        self.check_ready(rows.len(), population)?;
         if !bitmap::fits(mask, population) {
             return Err(Refusal::MaskTooWide);
         }
-        let a = Inty { hi: 0, lo: 0 };
-        let b = Inty {
-            hi: 0xffff_ffff_ffff_ffff,
-            lo: 0xffff_ffff_ffff_ffff,
-        };
         let w = Row {
-            start: a,
-            end: b,
+            start: Inty::ZERO,
+            end: Inty::MAX,
             mask,
         };
         store(self, rows, w)
     }
 
-    pub fn into_filtered(self, rows: &mut [u64], population: u8, id: Replica) -> Result<RespondersConf, Refusal>
+    pub fn into_filtered(
+        self,
+        rows: &mut [u64],
+        population: u8,
+        id: Replica,
+    ) -> Result<RespondersConf, Refusal>
         ensures { Edits (IntoFiltered id.0) population self rows.old result rows.new }
     {
-        if !is_ready(rows.len(), self.count, population) {
-            return Err(Refusal::NotReady);
-        }
-        if population <= id.0 {
+        self.check_ready(rows.len(), population)?;
+        if id.0 >= population {
             return Err(Refusal::NoSuchReplica);
         }
-        let n = roster_map::filter(rows, self.count, id);
-        let leader = self.leader;
         Ok(RespondersConf {
-            leader: leader_without(leader, id),
-            count: n,
+            leader: leader_without(self.leader, id),
+            count: roster_map::filter(rows, self.count, id),
             default: bitmap::set(self.default, id, false),
         })
     }
 
+    // The default stays.
     pub fn reset_full(self, rows: &[u64], population: u8) -> Result<RespondersConf, Refusal>
         ensures { Edits ResetFull population self rows.now result rows.now }
     {
-        if !is_ready(rows.len(), self.count, population) {
-            return Err(Refusal::NotReady);
-        }
+        self.check_ready(rows.len(), population)?;
         Ok(RespondersConf {
             leader: None,
             count: 0,
-            default: self.default,
+            ..self
         })
     }
 

@@ -1,7 +1,7 @@
 use borrow.Author.Rules.{rules}
-use mathlib.Core.Path.{refl}
 use Rattle.roster_map.specs.Rows.{ranges_of}
 use Rattle.roster_conf.specs.Edits.{view}
+use mathlib.Core.Path.{refl}
 use Rattle.roster_conf.proofs.RespondersConf.empty.Goals as goal
 
 pub returns : goal.returns

@@ -8,8 +8,5 @@ returns-then-not-is_whole c = search (rules, law.lookup_2)
 pub returns-in_default : goal.returns-in_default
 returns-in_default c = search (rules, law.lookup_none)
 
-pub get-requires : goal.get-requires
-get-requires c = search (rules, law.whole_rows)
-
 pub returns : goal.returns
 returns c = search (rules, law.lookup_mask)

@@ -1,12 +1,13 @@
 use Rattle.roster_conf.proofs.Laws as law
 use borrow.Author.Rules.{rules}
+use Rattle.std.proofs.lemmas.Result.{err_from_is_err_and}
 use Rattle.roster_conf.proofs.RespondersConf.set_leader.Goals as goal
 
-pub returns-then-not-is_ready : goal.returns-then-not-is_ready
-returns-then-not-is_ready c = search (rules, law.unready)
+pub returns-in_err-check_ready : goal.returns-in_err-check_ready
+returns-in_err-check_ready c = let p = err_from_is_err_and c.from_residual.result c.from_residual.ensures.1 in rw (p.1, p.2) (search (rules, law.unready))
 
-pub returns-then-population-leader : goal.returns-then-population-leader
-returns-then-population-leader c = search (rules, law.leader_3)
+pub returns-then-leader-population : goal.returns-then-leader-population
+returns-then-leader-population c = search (rules, law.leader_3)
 
 pub returns : goal.returns
 returns c = search (rules, law.leader_set)

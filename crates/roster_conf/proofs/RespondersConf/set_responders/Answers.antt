@@ -1,15 +1,13 @@
 use Rattle.roster_conf.proofs.Laws as law
 use borrow.Author.Rules.{rules}
+use Rattle.std.proofs.lemmas.Result.{err_from_is_err_and}
 use Rattle.roster_conf.proofs.RespondersConf.set_responders.Goals as goal
 
-pub returns-then-not-is_ready : goal.returns-then-not-is_ready
-returns-then-not-is_ready c = search (rules, law.unready)
+pub returns-in_err-check_ready : goal.returns-in_err-check_ready
+returns-in_err-check_ready c = let p = err_from_is_err_and c.from_residual.result c.from_residual.ensures.1 in rw (p.1, p.2) (search (rules, law.unready))
 
-pub store-requires : goal.store-requires
-store-requires c = search (rules, law.ready_few, law.ready_long)
+pub returns-in_err-w : goal.returns-in_err-w
+returns-in_err-w c = let p = err_from_is_err_and c.from_residual-in_err-w.result c.from_residual-in_err-w.ensures.1 in rw (p.1, p.2) (search (rules, law.range_refused))
 
-pub returns-in-Store : goal.returns-in-Store
-returns-in-Store c = search (rules, law.range_stored)
-
-pub returns-in-Refused : goal.returns-in-Refused
-returns-in-Refused c = search (rules, law.range_refused)
+pub returns : goal.returns
+returns c = search (rules, law.range_stored)
