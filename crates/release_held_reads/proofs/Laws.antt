@@ -1,87 +1,50 @@
 -- A slot's held reads answered one by one, and its queue emptied.
 use mathlib.Core.Path.{◌≡◌, refl, sym, ap, ◌∙◌}
-use mathlib.Core.Bool.{Bool, true, false, not}
+use mathlib.Core.Bool.{Bool, false, not}
 use mathlib.Core.List.{List, [], ◌∷◌, ◌++◌, map}
-use Rattle.std.specs.Prelude.{Option, None, Some}
+use Rattle.std.specs.Prelude.{Option, None, Some, if◌then◌else◌}
 use Prim.Native.Nat.{ℕ, ◌+◌, ◌*◌, ◌≤◌, ◌<◌}
 use native.Mathlib.Nat.{zero-add}
 use native.Mathlib.Omega.{arith}
 use lib.Dec.{leb}
 use lib.ListN.{length, take, drop, length-map}
+use Rattle.std.specs.Option.{is_some}
 use Rattle.words.specs.Choice.{if_none◌then◌else◌}
 use Rattle.words.specs.Tab.{tab, length_tab, tab_snoc, map_tab}
 use Rattle.words.specs.Part.{part}
 use Rattle.words.specs.Writes.{writes}
 use Rattle.layout.specs.Layout.{held_places, batch_words, held_words}
 use Rattle.bitmap.specs.Bitmap.{count}
-use Rattle.items.specs.Item.{Item, Value, Retry, encode, places}
+use Rattle.items.specs.Item.{Item, encode, places}
 use Rattle.items.specs.Area.{Put, put_item}
 use Rattle.items.proofs.Laws.{put_after}
 use Rattle.bodega.specs.Replica as machine
-use Rattle.bodega.specs.Localread.{is_bound, last_put}
+use Rattle.bodega.specs.Localread.{is_bound}
 use Rattle.inst_cell.specs.Cell.{Notices, Short, cell_of, book_of}
 use Rattle.inst_cell.specs.declared.Cell.{Cell}
 use Rattle.inst_cell.specs.declared.NoticeBook.{NoticeBook}
-use Rattle.inst_cell.specs.declared.Status.TheVariants.{Null, Preparing, Accepting, Committed, Executed}
 use Rattle.inst_reqs.specs.Batch.{requests_of}
 use Rattle.inst_holding.specs.Held.{read_at}
 use Rattle.inst_holding.proofs.Laws.{reads_are}
+use Rattle.insts.specs.Slots as slots
 use Rattle.insts.specs.Slots.{batch_start, reads_start, short_at, batch_at, reads_at, inst_of, inst_in, Puts}
 use Rattle.release_held_reads.specs.Release.{answer_to, holding_of, answers_of, Releases}
 
 -- ---- whether the write is bound to commit
 
-pub quorum_is : (bk : Option NoticeBook) (b : NoticeBook) (q w n : ℕ) → bk ≡ Some b → w ≡ q → n ≡ count b.notices
-    → leb w n ≡ (if_none book_of bk then false else λ x. leb q (count x.notices))
-quorum_is bk b q w n e f g = rw (e, f, g)
-
-module _ (cell : Cell) (quorum : ℕ) (reqs : List machine.Request) (reads : List machine.ReadReq) where
-  abbrev Bound : Bool → Type 0
-  Bound r = r ≡ is_bound quorum (inst_of (cell_of cell) reqs reads)
-
-  pub null_open : cell.status ≡ Null → Bound false
-  unfolding is_bound
-  null_open e = rw e
-
-  pub preparing_open : cell.status ≡ Preparing → Bound false
-  unfolding is_bound
-  preparing_open e = rw e
-
-  pub accepting_by_lem : (r : Bool) → cell.status ≡ Accepting → r ≡ (if_none book_of cell.replica_bk then false else λ b. leb quorum (count b.notices)) → Bound r
-  unfolding is_bound
-  accepting_by_lem r e f = rw e (f ∙ go (book_of cell.replica_bk))
-    where
-      go : (o : Option Notices) → (if_none o then false else λ b. leb quorum (count b.notices))
-          ≡ (if_none (if_none o then None else λ b. Some (record { bal = b.bal; notices = b.notices; holding = reads })) then false else λ (b : machine.Book). leb quorum (count b.notices))
-      go None = refl
-      go (Some b) = refl
-
-  pub committed_bound : cell.status ≡ Committed → Bound true
-  unfolding is_bound
-  committed_bound e = rw e
-
-  pub executed_bound : cell.status ≡ Executed → Bound true
-  unfolding is_bound
-  executed_bound e = rw e
-
--- ---- what a read gets
-
-module _ (bound : Bool) (leader : Option ℕ) (reqs : List machine.Request) (q : machine.ReadReq) where
-  pub open_retry : not bound ≡ true → Retry q.client q.request leader ≡ answer_to bound leader reqs q
-  open_retry h = rw h
-
-  module _ (h : not bound ≡ false) (o : Option ℕ) (e : o ≡ last_put q.key reqs) where
-    pub put_value : (v : ℕ) → o ≡ Some v → Value q.client q.request v ≡ answer_to bound leader reqs q
-    put_value v f = rw (h, ← e, f)
-
-    pub put_retry : o ≡ None → Retry q.client q.request leader ≡ answer_to bound leader reqs q
-    put_retry f = rw (h, ← e, f)
+-- a slot's held reads say nothing of that
+pub bound_by : (quorum : ℕ) (x : Short) (reqs : List machine.Request) (reads : List machine.ReadReq) → is_bound quorum (inst_of x reqs reads)
+    ≡ (if machine.is_accepting x.status then (if_none x.replica_bk then false else λ b. leb quorum (count b.notices)) else not (machine.is_open x.status))
+unfolding is_bound
+bound_by quorum x reqs reads = go x.replica_bk
+  where
+    go : (o : Option Notices)
+        → (if machine.is_accepting x.status then (if_none slots.book_of o reads then false else λ b. leb quorum (count b.notices)) else not (machine.is_open x.status))
+        ≡ (if machine.is_accepting x.status then (if_none o then false else λ b. leb quorum (count b.notices)) else not (machine.is_open x.status))
+    go None = refl
+    go (Some b) = refl
 
 -- ---- items from a place on, one by one
-
-pub no_item : (f : ℕ → Item) (area : List ℕ) (at : ℕ) → area ≡ writes area at (encode (tab f 0 0))
-unfolding encode
-no_item f area at = refl
 
 -- the i-th item is what g says of the i-th read
 pub next_item : (g : machine.ReadReq → Item) (r : ℕ → machine.ReadReq) (area now after : List ℕ) (place i n : ℕ) (t : Bool) (x : Item) (q : machine.ReadReq)
@@ -97,9 +60,6 @@ next_item g r area now after place i n t x q p w h k e d =
     ∙ ap (λ (j : ℕ). (put_item (writes area (place * 6) (encode l)) (place + j) x).area) (sym long) ∙ put_after area place l x room
     ∙ ap (λ (y : Item). writes area (place * 6) (encode (l ++ (y ∷ [])))) (e ∙ ap g d) ∙ ap (λ (z : List Item). writes area (place * 6) (encode z)) (sym more)
 
-pub all_items : (f : ℕ → Item) (area s : List ℕ) (at i n : ℕ) → n ≤ i → i ≤ n → s ≡ writes area at (encode (tab f 0 i)) → s ≡ writes area at (encode (tab f 0 n))
-all_items f area s at i n g h e = let z : i ≡ n = omega arith in rw z at e
-
 -- ---- the slot at place c
 
 pub length_answers : (quorum : ℕ) (leader : Option ℕ) (i : machine.Instance) → length (answers_of quorum leader i) ≡ length (holding_of i)
@@ -109,20 +69,13 @@ module _ (s : List ℕ) (c : ℕ) (cell : Cell) (e : cell_of cell ≡ short_at s
   book_here : (short_at s c).replica_bk ≡ book_of cell.replica_bk
   book_here = sym (ap (λ (x : Short). x.replica_bk) e)
 
-  pub holds_none : cell.replica_bk ≡ None → holding_of (inst_in s c) ≡ []
+  pub held_by : holding_of (inst_in s c) ≡ (if is_some cell.replica_bk then reads_at s c else [])
   unfolding inst_in
-  holds_none f = rw (book_here, f)
-
-  pub holds_some : (b : NoticeBook) → cell.replica_bk ≡ Some b → holding_of (inst_in s c) ≡ reads_at s c
-  unfolding inst_in
-  holds_some b f = rw (book_here, f)
-
-  pub holding_none : cell.replica_bk ≡ None → (0 ≡ length (holding_of (inst_in s c))) × (0 ≤ held_places)
-  holding_none f = (rw (holds_none f), omega arith)
-
-  pub holding_some : (b : NoticeBook) (n : ℕ) → cell.replica_bk ≡ Some b → (n ≡ length (reads_at s c)) × (n ≤ held_places)
-      → (n ≡ length (holding_of (inst_in s c))) × (n ≤ held_places)
-  holding_some b n f h = (h.0 ∙ ap (λ (l : List machine.ReadReq). length l) (sym (holds_some b f)), h.1)
+  held_by = rw book_here (go cell.replica_bk)
+    where
+      go : (o : Option NoticeBook) → (if_none slots.book_of (book_of o) (reads_at s c) then [] else λ (b : machine.Book). b.holding) ≡ (if is_some o then reads_at s c else [])
+      go None = refl
+      go (Some b) = refl
 
 module _ (quorum : ℕ) (leader : Option ℕ) (s area : List ℕ) (c place n : ℕ) (cell : Cell) (bound : Bool)
     (h : (n ≡ length (holding_of (inst_in s c))) × (n ≤ held_places)) (e : cell_of cell ≡ short_at s c)
@@ -140,11 +93,11 @@ module _ (quorum : ℕ) (leader : Option ℕ) (s area : List ℕ) (c place n : �
     where
       go : (bk : Option NoticeBook) → cell.replica_bk ≡ bk → map (answer_to bound leader (batch_at s c)) (holding_of (inst_in s c)) ≡ tab answer_at 0 n
       go None f =
-          let z : n ≡ 0 = h.0 ∙ ap (λ (l : List machine.ReadReq). length l) (holds_none s c cell e f) in
-          ap (map (answer_to bound leader (batch_at s c))) (holds_none s c cell e f) ∙ ap (tab answer_at 0) (sym z)
+          let q : holding_of (inst_in s c) ≡ [] = held_by s c cell e ∙ simp f in
+          ap (map (answer_to bound leader (batch_at s c))) q ∙ ap (tab answer_at 0) (sym (h.0 ∙ ap length q))
       go (Some k) f =
-          let q = holds_some s c cell e k f in
-          ap (map (answer_to bound leader (batch_at s c))) (q ∙ reads_are (part s (reads_start c) held_words) n (h.0 ∙ ap (λ (l : List machine.ReadReq). length l) q))
+          let q : holding_of (inst_in s c) ≡ reads_at s c = held_by s c cell e ∙ simp f in
+          ap (map (answer_to bound leader (batch_at s c))) (q ∙ reads_are (part s (reads_start c) held_words) n (h.0 ∙ ap length q))
           ∙ map_tab (answer_to bound leader (batch_at s c)) (read_at (part s (reads_start c) held_words)) 0 n
 
   abbrev Written : ℕ → ℕ → ℕ → ℕ → List ℕ

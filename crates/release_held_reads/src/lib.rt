@@ -27,24 +27,17 @@ use items::Item;
 pub fn has_quorum(book: Option<NoticeBook>, quorum: u8) -> bool
     ensures { result ≡ (if_none book_of book then false else λ b. leb quorum (count b.notices)) }
 {
-    let Some(b) = book else {
-        return false;
-    };
-    u64::from(quorum) <= bitmap::count(b.notices)
+    book.is_some_and(|b| u64::from(quorum) <= bitmap::count(b.notices))
 }
 
 // Committed or later, or Accepting with a quorum of notices.
 pub fn is_bound(cell: Cell, quorum: u8) -> bool
     ensures { (reqs : List Request) (reads : List Held) → result ≡ is_bound quorum (inst_of (cell_of cell) reqs reads) }
 {
-    let status = cell.status;
-    let book = cell.replica_bk;
-    match status {
-        Status::Null => false,
-        Status::Preparing => false,
-        Status::Accepting => has_quorum(book, quorum),
-        Status::Committed => true,
-        Status::Executed => true,
+    match cell.status {
+        Status::Null | Status::Preparing => false,
+        Status::Accepting => has_quorum(cell.replica_bk, quorum),
+        Status::Committed | Status::Executed => true,
     }
 }
 
@@ -53,26 +46,23 @@ fn answer_to(bound: bool, leader: Option<Replica>, batch: &[u64], read: ReadReq)
     requires { batch_words ≤ length batch.now }
     ensures { item_of result ≡ answer_to bound (leader_of leader) (requests_of batch.now) (read_of read) }
 {
-    if !bound {
-        return Item::Retry {
-            client: read.client,
-            request: read.request,
-            leader,
-        };
-    }
-    let key = read.key;
-    let put = inst_reqs::last_put(batch, key);
-    match put {
-        Some(value) => Item::Value {
-            client: read.client,
-            request: read.request,
+    let ReadReq {
+        client,
+        request,
+        key,
+    } = read;
+    if bound && let Some(value) = inst_reqs::last_put(batch, key) {
+        Item::Value {
+            client,
+            request,
             value,
-        },
-        None => Item::Retry {
-            client: read.client,
-            request: read.request,
+        }
+    } else {
+        Item::Retry {
+            client,
+            request,
             leader,
-        },
+        }
     }
 }
 
@@ -89,12 +79,9 @@ fn put_answers(
     requires { (batch_words ≤ length batch.now) × (held_words ≤ length reads.now) × (n ≤ held_places) × (place + n ≤ places area.old) }
     ensures { area.new ≡ writes area.old (place * 6) (encode (tab (λ i. answer_to bound (leader_of leader) (requests_of batch.now) (read_at reads.now i)) 0 n)) }
 {
-    let mut i = 0;
-    while i < n {
-        let read = inst_holding::get(reads, i);
-        let item = answer_to(bound, leader, batch, read);
+    for i in 0..n {
+        let item = answer_to(bound, leader, batch, inst_holding::get(reads, i));
         items::put_item(area, place + i, item);
-        i += 1;
     }
 }
 
@@ -103,12 +90,11 @@ pub fn holding(s: &[u64], c: usize) -> usize
     requires { (c < slot_places) × (slot_words ≤ length s.now) }
     ensures { (result ≡ length (holding_of (inst_in s.now c))) × (result ≤ held_places) }
 {
-    let cell = insts::load(s, c);
-    let book = cell.replica_bk;
-    let Some(_b) = book else {
-        return 0;
-    };
-    insts::count_reads(s, c)
+    if insts::load(s, c).replica_bk.is_some() {
+        insts::count_reads(s, c)
+    } else {
+        0
+    }
 }
 
 // `release_held_read_reqs` for the slot at place c: its items from a place of the area on, and its queue emptied.
@@ -125,13 +111,18 @@ pub fn release(
     ensures { Releases quorum (leader_of leader) c place s.old area.old result s.new area.new }
 {
     let n = holding(s, c);
-    let cell = insts::load(s, c);
-    let bound = is_bound(cell, quorum);
-    let a = insts::batch_at(c);
-    let e = a + layout::BATCH_WORDS;
-    let b = insts::reads_at(c);
-    let f = b + layout::HELD_WORDS;
-    put_answers(bound, leader, &s[a..e], &s[b..f], n, area, place);
+    let bound = is_bound(insts::load(s, c), quorum);
+    let batch = insts::batch_at(c);
+    let reads = insts::reads_at(c);
+    put_answers(
+        bound,
+        leader,
+        &s[batch..batch + layout::BATCH_WORDS],
+        &s[reads..reads + layout::HELD_WORDS],
+        n,
+        area,
+        place,
+    );
     insts::clear_reads(s, c);
     n
 }

@@ -1,11 +1,13 @@
+use Rattle.std.proofs.Common.{◌∙◌, sym, arith}
 use Rattle.release_held_reads.proofs.Laws as law
 use Rattle.release_held_reads.proofs.holding.Goals as goal
 
-pub returns-in_default : goal.returns-in_default
-returns-in_default c =
-    let a = c.args in law.holding_none a.s.now a.c c.load-cell.result c.load-cell.ensures c.in_default.is
+pub returns-then-is_some : goal.returns-then-is_some
+returns-then-is_some c =
+    let h = law.held_by c.args.s.now c.args.c c.load.result c.load.ensures in
+    (c.count_reads.ensures.0 ∙ (simp (h, sym c.if-is_some.ensures)), c.count_reads.ensures.1)
 
-pub returns : goal.returns
-returns c =
-    let a = c.args in
-    law.holding_some a.s.now a.c c.load-cell.result c.load-cell.ensures _ _ c.in-Some.is c.count_reads.ensures
+pub returns-else-is_some : goal.returns-else-is_some
+returns-else-is_some c =
+    let h = law.held_by c.args.s.now c.args.c c.load.result c.load.ensures in
+    (simp (h, sym c.if-is_some.ensures), omega arith)
