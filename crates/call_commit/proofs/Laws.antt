@@ -1,13 +1,18 @@
 -- *commit*: its grounds, and the walk at the node's view.
+use Rattle.std.specs.Prelude.{Result, Ok, Err, IsErrAnd}
 use mathlib.Core.Path.{◌≡◌, refl, sym, ◌∙◌}
-use mathlib.Core.Bool.{Bool, false, not}
+use mathlib.Core.Bool.{true, false, not}
 use mathlib.Core.List.{List}
 use Prim.Native.Nat.{ℕ, ◌+◌, ◌≤◌, ◌<◌}
 use native.Mathlib.Nat.{zero-add}
 use native.Mathlib.Omega.{arith}
 use lib.ListN.{length, take, drop}
-use borrow.Author.Tests.{eq-eqb, ne_eqb, not-false}
+use lib.Dec.{eqb}
+use borrow.Author.Tests.{not-true, not-false}
 use Rattle.words.specs.Part.{part, splice, length_part}
+use Rattle.ids.specs.Refusal.{number_of}
+use Rattle.ids.specs.declared.Refusal.{Refusal}
+use Rattle.ids.specs.declared.Refusal.TheVariants.{AreaTooSmall}
 use Rattle.layout.specs.Layout.{slot_places, slot_words, slots_at}
 use Rattle.items.specs.Item.{Item, places}
 use Rattle.bodega.specs.Replica as machine
@@ -19,12 +24,13 @@ use Rattle.insts.specs.Slots.{insts_of}
 use Rattle.advance_commit_bar.specs.Walk.{walked, Advances}
 use Rattle.advance_commit_bar.proofs.Laws.{advance_is}
 use Rattle.node.specs.declared.Node.{Node}
-use Rattle.node.specs.View.{view, ready}
+use Rattle.node.specs.declared.Taken.{Taken}
+use Rattle.node.specs.View.{view, ready, given_of}
 use Rattle.node.proofs.Calls.{Ready, is_ready, refused_by, few_places, taken_by, taken_with}
 use Rattle.node.proofs.Frames.{slots_back, slots_size, slots_beyond, slots_ready}
 use Rattle.call_commit.specs.Commit.{commit_refusal}
 
-module _ (n : Node) (m area : List ℕ) (peer ballot bar : ℕ) (t : Bool) (e : t ≡ ready n m) (f : not t ≡ false) where
+module _ (n : Node) (m area : List ℕ) (peer ballot bar : ℕ) (y : ready n m ≡ true) where
   abbrev call : machine.Call
   call = machine.CommitNotice peer ballot bar
 
@@ -35,44 +41,47 @@ module _ (n : Node) (m area : List ℕ) (peer ballot bar : ℕ) (t : Bool) (e : 
   items = (walked n.start_slot.0 n.slots n.commit_bar.0 ballot bar words).items
 
   r : Ready n m
-  r = is_ready n m t e f
+  r = is_ready n m true (sym y) refl
 
   words_long : length words ≡ slot_words
   unfolding part
   words_long = length_part m slots_at slot_words (omega (arith, r.long))
 
+  pub long : slots_at + slot_words ≤ length m
+  long = omega (arith, r.long)
+
   pub asked : (n.start_slot.0 ≤ n.commit_bar.0) × (n.commit_bar.0 ≤ n.start_slot.0 + n.slots) × (n.start_slot.0 ≤ 281474976710655) × (n.slots ≤ slot_places) × (slot_words ≤ length words)
   asked = let a = r.start_exec_lem in let b = r.exec_commit_lem in (omega arith, r.commit_end_lem, r.start_low_lem, r.window, omega (arith, words_long))
 
-  module _ (k : ℕ) (g : k ≡ commit_refusal n.population peer bar) where
-    pub commit_refused : (k ≡ 0 → ⊥) → Answers ready view call n m area (record { number = k; count = 0; node = n }) m area
-    unfolding grounds view
-    commit_refused h = refused_by call n m area t e f k g h
+  pub commit_refused : (x : Refusal) (z : Result Taken Refusal) → number_of x ≡ commit_refusal n.population peer bar → IsErrAnd z (λ u. u ≡ x)
+      → Answers ready view call n m area (given_of n z) m area
+  unfolding grounds view
+  commit_refused = refused_by call n m area true (sym y) refl
 
-    module _ (z : k ≡ 0) where
-      pub other_ballot : (ballot ≡ n.bal_max_seen.0 → ⊥) → Answers ready view call n m area (record { number = 0; count = 0; node = n }) m area
-      unfolding effect heard_commit_notice grounds view
-      other_ballot h = taken_by call n m area t e f k g z (view n m) n m (rw (ne_eqb ballot n.bal_max_seen.0 h)) refl refl (λ j l. refl) (sym e ∙ not-false t f)
+  module _ (g : 0 ≡ commit_refusal n.population peer bar) where
+    pub other_ballot : true ≡ not (eqb ballot n.bal_max_seen.0) → Answers ready view call n m area (given_of n (Ok (record { node = n; count = 0 }))) m area
+    unfolding effect heard_commit_notice grounds view
+    other_ballot h = taken_by call n m g area true (sym y) refl (view n m) n m (rw (not-true (eqb ballot n.bal_max_seen.0) (sym h))) refl refl (λ j l. refl) y
 
-      module _ (b : ballot ≡ n.bal_max_seen.0) (c : ℕ) (q : c ≡ length items) where
-        walks : effect (view n m) call ≡ advance_commit_bar (view n m) ballot bar
-        unfolding effect heard_commit_notice view
-        walks = rw (eq-eqb ballot n.bal_max_seen.0 b)
+    module _ (b : false ≡ not (eqb ballot n.bal_max_seen.0)) (c : ℕ) (q : c ≡ length items) where
+      walks : effect (view n m) call ≡ advance_commit_bar (view n m) ballot bar
+      unfolding effect heard_commit_notice view
+      walks = rw (not-false (eqb ballot n.bal_max_seen.0) (sym b))
 
-        pub commit_20 : places area < c → Answers ready view call n m area (record { number = 20; count = 0; node = n }) m area
-        unfolding grounds view part advance_commit_bar
-        commit_20 h = few_places call n m area t e f k g z (rw walks (rw q at h))
+      pub commit_20 : places area < c → Answers ready view call n m area (given_of n (Err AreaTooSmall)) m area
+      unfolding grounds view part advance_commit_bar
+      commit_20 h = few_places call n m g area true (sym y) refl (rw walks (rw q at h))
 
-        pub room : c ≤ places area
-            → (n.start_slot.0 ≤ n.commit_bar.0) × (n.commit_bar.0 ≤ n.start_slot.0 + n.slots) × (n.start_slot.0 ≤ 281474976710655) × (n.slots ≤ slot_places) × (slot_words ≤ length words) × (0 + length items ≤ places area)
-        room h = let a = asked in (a.0, a.1, a.2, a.3, a.4, rw (zero-add (length items), ← q) h)
+      pub room : c ≤ places area
+          → (n.start_slot.0 ≤ n.commit_bar.0) × (n.commit_bar.0 ≤ n.start_slot.0 + n.slots) × (n.start_slot.0 ≤ 281474976710655) × (n.slots ≤ slot_places) × (slot_words ≤ length words) × (0 + length items ≤ places area)
+      room h = let a = asked in (a.0, a.1, a.2, a.3, a.4, rw (zero-add (length items), ← q) h)
 
-        pub commit_taken : c ≤ places area → (s' area' : List ℕ) (x : ℕ) → Advances 0 n.start_slot.0 n.slots n.commit_bar.0 ballot bar words area x s' area'
-            → Answers ready view call n m area (record { number = 0; count = c; node = n }) (splice m slots_at slot_words s') area'
-        unfolding grounds view part
-        commit_taken h s' area' x a =
-            let long : length s' ≡ slot_words = a.size ∙ words_long in
-            rw q
-            (taken_with call n m area t e f k g z (machine.with_insts (insts_of n.start_slot.0 n.slots s') (view n m)) items n (splice m slots_at slot_words s') area'
-            (walks ∙ advance_is (view n m) refl refl refl a) (rw (← q) h) (slots_back n m r.long s' long) a.items
-            (slots_size n m r.long s' long) (slots_beyond n m r.long s' long) (slots_ready n m r.long s' long ∙ sym e ∙ not-false t f))
+      pub commit_taken : c ≤ places area → (s' area' : List ℕ) (x : ℕ) → Advances 0 n.start_slot.0 n.slots n.commit_bar.0 ballot bar words area x s' area'
+          → Answers ready view call n m area (given_of n (Ok (record { node = n; count = c }))) (splice m slots_at slot_words s') area'
+      unfolding grounds view part
+      commit_taken h s' area' x a =
+          let size : length s' ≡ slot_words = a.size ∙ words_long in
+          rw q
+          (taken_with call n m g area true (sym y) refl (machine.with_insts (insts_of n.start_slot.0 n.slots s') (view n m)) items n (splice m slots_at slot_words s') area'
+          (walks ∙ advance_is (view n m) refl refl refl a) (rw (← q) h) (slots_back n m r.long s' size) a.items
+          (slots_size n m r.long s' size) (slots_beyond n m r.long s' size) (slots_ready n m r.long s' size ∙ y))

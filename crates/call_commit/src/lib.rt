@@ -9,9 +9,9 @@ ghost use Rattle.call_commit.specs.Commit.{commit_refusal};
 ghost use Rattle.ids.specs.Refusal.{refused_by};
 
 use ids::{Ballot, Refusal, Replica, Slot};
-use node::{Taken, Node};
+use node::{Node, Taken};
 
-// The number of the refusal, 0 where there is none.
+// Refusals 3 and 8.
 fn commit_refusal(population: u8, peer: Replica, bar: Slot) -> Result<(), Refusal>
     ensures { refused_by result ≡ commit_refusal population peer.0 bar.0 }
 {
@@ -38,7 +38,7 @@ pub fn commit(
         return Err(Refusal::NotReady);
     }
     commit_refusal(node.population, peer, bar)?;
-    if ballot.0 != node.bal_max_seen.0 {
+    if ballot != node.bal_max_seen {
         return Ok(Taken { node, count: 0 });
     }
     let count = advance_commit_bar::count_commits(
@@ -62,5 +62,5 @@ pub fn commit(
         ballot,
         bar,
     );
-    Ok(Taken { node, count: count })
+    Ok(Taken { node, count })
 }

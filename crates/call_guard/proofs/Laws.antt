@@ -1,12 +1,16 @@
 -- *guard*: its grounds, the pair it alters and the reading bar worked out anew.
+use Rattle.std.specs.Prelude.{Result, Ok, IsErrAnd}
 use mathlib.Core.Path.{◌≡◌, refl, sym, ap, ◌∙◌}
-use mathlib.Core.Bool.{Bool, false, not}
+use mathlib.Core.Bool.{true}
 use mathlib.Core.List.{List}
-use Prim.Native.Nat.{ℕ, ◌<◌}
+use Prim.Native.Nat.{ℕ, ◌≤◌, ◌<◌}
 use native.Mathlib.Omega.{arith}
 use lib.ListN.{length, take}
-use borrow.Author.Tests.{leb-false, not-false}
+use borrow.Author.Tests.{leb-false}
 use Rattle.words.specs.Part.{part, splice, length_part}
+use Rattle.ids.specs.Limits.{replicas}
+use Rattle.ids.specs.Refusal.{number_of}
+use Rattle.ids.specs.declared.Refusal.{Refusal}
 use Rattle.layout.specs.Layout.{pair_words}
 use Rattle.bodega.specs.Replica.{Replica, PeerAccept, Guard, with_peer_accept}
 use Rattle.bodega.specs.Conflease.{guard_accept_bar}
@@ -16,39 +20,47 @@ use Rattle.bodega.specs.Answers.{Answers}
 use Rattle.peer_accept_bar.specs.Pairs.{peer_accept, guarded}
 use Rattle.peer_accept_bar.proofs.Laws.{guards}
 use Rattle.node.specs.declared.Node.{Node}
-use Rattle.node.specs.View.{view, ready}
+use Rattle.node.specs.declared.Taken.{Taken}
+use Rattle.node.specs.View.{view, ready, given_of}
 use Rattle.node.proofs.Calls.{Ready, is_ready, refused_by, taken_by, none_applies}
 use Rattle.node.proofs.Frames.{pairs_back, pairs_size, pairs_beyond, pairs_ready}
 use Rattle.call_guard.specs.Guard.{guard_refusal}
 
-module _ (n : Node) (m area : List ℕ) (peer num bar : ℕ) (t : Bool) (e : t ≡ ready n m) (f : not t ≡ false)
-    (k : ℕ) (g : k ≡ guard_refusal n.population n.id.0 peer bar) where
-  pub guard_refused : (k ≡ 0 → ⊥) → Answers ready view (Guard peer num bar) n m area (record { number = k; count = 0; node = n }) m area
-  unfolding grounds view
-  guard_refused h = refused_by (Guard peer num bar) n m area t e f k g h
+module _ (n : Node) (m : List ℕ) (y : ready n m ≡ true) (peer num bar : ℕ) where
+  r : Ready n m
+  r = is_ready n m true (sym y) refl
 
-  module _ (z : k ≡ 0) where
-    pub below : peer < n.population
+  pub long : pair_words ≤ length m
+  long = omega (arith, r.long)
+
+  module _ (area : List ℕ) where
+    pub guard_refused : (x : Refusal) (z : Result Taken Refusal) → number_of x ≡ guard_refusal n.population n.id.0 peer bar → IsErrAnd z (λ u. u ≡ x)
+        → Answers ready view (Guard peer num bar) n m area (given_of n z) m area
     unfolding grounds view
-    below = leb-false n.population peer (none_applies (Guard peer num bar) n m k g z).0
+    guard_refused = refused_by (Guard peer num bar) n m area true (sym y) refl
 
-    r : Ready n m
-    r = is_ready n m t e f
+  module _ (g : 0 ≡ guard_refusal n.population n.id.0 peer bar) where
+    below : peer < n.population
+    unfolding grounds view
+    below = leb-false n.population peer (none_applies (Guard peer num bar) n m g).0
 
-    module _ (p : List ℕ) (l : length p ≡ length (take pair_words m)) where
-      long : length p ≡ pair_words
-      unfolding part
-      long = l ∙ length_part m 0 pair_words (omega (arith, r.long))
+    pairs_long : length (take pair_words m) ≡ pair_words
+    unfolding part
+    pairs_long = length_part m 0 pair_words (omega (arith, r.long))
 
-      abbrev m' : List ℕ
-      m' = splice m 0 pair_words p
+    pub asked : (0 < n.quorum) × (n.quorum ≤ n.population) × (n.population ≤ replicas) × (peer < n.population) × (pair_words ≤ length (take pair_words m))
+    asked = (r.quorate, r.enough, r.few, below, omega (arith, pairs_long))
 
-      pub guard_taken : (d : Node) (max : ℕ) → peer_accept n.population p max ≡ guarded n.quorum n.bal_max_seen.0 peer num bar (peer_accept n.population (take pair_words m) n.peer_accept_max.0)
-          → view d m' ≡ with_peer_accept (record { bar = (view n m').peer_accept.bar; max = max }) (view n m') → ready d m' ≡ ready n m'
-          → Answers ready view (Guard peer num bar) n m area (record { number = 0; count = 0; node = d }) m' area
-      unfolding effect grounds view part
-      guard_taken d max x v y =
-          taken_by (Guard peer num bar) n m area t e f k g z (guard_accept_bar (view n m) peer num bar) d m' refl
-          (v ∙ ap (λ (a : Replica). with_peer_accept (record { bar = a.peer_accept.bar; max = max }) a) (pairs_back n m r.long p long)
-          ∙ ap (λ (a : PeerAccept). with_peer_accept a (view n m)) x ∙ sym (guards (view n m) peer num bar))
-          (pairs_size n m r.long p long) (pairs_beyond n m r.long p long) (y ∙ pairs_ready n m r.long p long ∙ sym e ∙ not-false t f)
+    pub guard_taken : (area p : List ℕ) (max : ℕ) (d : Node)
+        → peer_accept n.population p max ≡ guarded n.quorum n.bal_max_seen.0 peer num bar (peer_accept n.population (take pair_words m) n.peer_accept_max.0)
+        → length p ≡ length (take pair_words m)
+        → view d (splice m 0 pair_words p) ≡ with_peer_accept (record { bar = (view n (splice m 0 pair_words p)).peer_accept.bar; max = max }) (view n (splice m 0 pair_words p))
+        → ready d (splice m 0 pair_words p) ≡ ready n (splice m 0 pair_words p)
+        → Answers ready view (Guard peer num bar) n m area (given_of n (Ok (record { node = d; count = 0 }))) (splice m 0 pair_words p) area
+    unfolding effect grounds view part
+    guard_taken area p max d x l v z =
+        let size = l ∙ pairs_long in
+        taken_by (Guard peer num bar) n m g area true (sym y) refl (guard_accept_bar (view n m) peer num bar) d (splice m 0 pair_words p) refl
+        (v ∙ ap (λ (a : Replica). with_peer_accept (record { bar = a.peer_accept.bar; max = max }) a) (pairs_back n m r.long p size)
+        ∙ ap (λ (a : PeerAccept). with_peer_accept a (view n m)) x ∙ sym (guards (view n m) peer num bar))
+        (pairs_size n m r.long p size) (pairs_beyond n m r.long p size) (z ∙ pairs_ready n m r.long p size ∙ y)

@@ -9,9 +9,9 @@ ghost use Rattle.call_guard.specs.Guard.{guard_refusal};
 ghost use Rattle.ids.specs.Refusal.{refused_by};
 
 use ids::{Ballot, Refusal, Replica, Slot};
-use node::{Taken, Node};
+use node::{Node, Taken};
 
-// The number of a guard's refusal, 0 where there is none.
+// Refusals 3, 8 and 10.
 fn guard_refusal(population: u8, id: Replica, peer: Replica, bar: Slot) -> Result<(), Refusal>
     ensures { refused_by result ≡ guard_refusal population id.0 peer.0 bar.0 }
 {
@@ -21,7 +21,7 @@ fn guard_refusal(population: u8, id: Replica, peer: Replica, bar: Slot) -> Resul
     if Slot::TOP < bar {
         return Err(Refusal::SlotTooLarge);
     }
-    if peer.0 == id.0 {
+    if peer == id {
         return Err(Refusal::OwnGuard);
     }
     Ok(())
@@ -41,19 +41,21 @@ pub fn guard(
         return Err(Refusal::NotReady);
     }
     guard_refusal(node.population, node.id, peer, bar)?;
-    let ballot = node.bal_max_seen;
-    let old = node.peer_accept_max;
-    let max = peer_accept_bar::guard_accept_bar(
+    let peer_accept_max = peer_accept_bar::guard_accept_bar(
         &mut mem[0..layout::EXECS_AT],
         node.population,
         node.quorum,
-        ballot,
-        old,
+        node.bal_max_seen,
+        node.peer_accept_max,
         peer,
         number,
         bar,
     );
-    let mut next = node;
-    next.peer_accept_max = max;
-    Ok(Taken { node: next, count: 0 })
+    Ok(Taken {
+        node: Node {
+            peer_accept_max,
+            ..node
+        },
+        count: 0,
+    })
 }

@@ -9,19 +9,12 @@ ghost use Rattle.node.specs.View.{view, ready, given_of};
 ghost use Rattle.call_prepared.specs.Prepared.{may_prepare};
 
 use ids::{Ballot, Refusal};
-use node::{Taken, Node};
+use node::{Node, Taken};
 
 fn may_prepare(node: Node, ballot: Ballot) -> bool
     ensures { result ≡ may_prepare (leader_of node.bodega_conf.leader) node.id.0 node.bal_prep_sent.0 ballot.0 }
 {
-    let sent = node.bal_prep_sent;
-    if !node::is_leader(node) {
-        return false;
-    }
-    if ballot.0 == 0 {
-        return false;
-    }
-    ballot.0 == sent.0
+    node::is_leader(node) && ballot.0 != 0 && ballot == node.bal_prep_sent
 }
 
 pub fn prepared(node: Node, mem: &[u64], area: &[u64], ballot: Ballot) -> Result<Taken, Refusal>
@@ -33,7 +26,11 @@ pub fn prepared(node: Node, mem: &[u64], area: &[u64], ballot: Ballot) -> Result
     if !may_prepare(node, ballot) {
         return Err(Refusal::BallotNotCurrent);
     }
-    let mut next = node;
-    next.bal_prepared = ballot;
-    Ok(Taken { node: next, count: 0 })
+    Ok(Taken {
+        node: Node {
+            bal_prepared: ballot,
+            ..node
+        },
+        count: 0,
+    })
 }

@@ -1,38 +1,33 @@
-use Rattle.call_guard.proofs.Laws as law
-use Rattle.node.proofs.Calls.{gives_2, is_ready}
-use native.Mathlib.Omega.{arith}
-use lib.Seq.{length-take-le}
-use mathlib.Core.Path.{refl}
+use mathlib.Core.Path.{sym, refl}
 use Rattle.bodega.specs.Replica.{Guard}
 use Rattle.node.specs.View.{view, ready}
-use mathlib.Core.Path.{ap}
-use mathlib.Core.Bool.{not}
+use Rattle.node.proofs.Calls.{not_ready}
+use Rattle.call_guard.proofs.Laws as law
 use Rattle.call_guard.proofs.guard.Goals as goal
 
 pub returns-then-not-is_ready : goal.returns-then-not-is_ready
 returns-then-not-is_ready c =
     let a = c.args in
-    rw c.refused.ensures (gives_2 (Guard a.peer.0 a.number.0 a.bar.0) a.node a.mem.now a.area.now _ c.is_ready.ensures (ap not c.if-not-is_ready.true))
+    not_ready (Guard a.peer.0 a.number.0 a.bar.0) a.node a.mem.now a.area.now _ c.if-not-is_ready.ensures refl
 
-pub returns-then-refusal-ne0 : goal.returns-then-refusal-ne0
-returns-then-refusal-ne0 c =
+pub returns-in_err-guard_refusal : goal.returns-in_err-guard_refusal
+returns-in_err-guard_refusal c =
     let a = c.args in
-    rw c.refused-then-refusal-ne0.ensures (law.guard_refused a.node a.mem.now a.area.now a.peer.0 a.number.0 a.bar.0 _ c.is_ready.ensures (ap not c.if-not-is_ready.false) _ c.guard_refusal-refusal.ensures c.if-refusal-ne0.true)
+    law.guard_refused a.node a.mem.now (sym c.if-not-is_ready.ensures) a.peer.0 a.number.0 a.bar.0 a.area.now _ _ c.in_err-guard_refusal.ensures c.from_residual.ensures.1
 
 pub slice_bounds-guard_accept_bar-end : goal.slice_bounds-guard_accept_bar-end
 slice_bounds-guard_accept_bar-end c =
     let a = c.args in
-    omega (arith, is_ready a.node a.mem.now _ c.is_ready.ensures (ap not c.if-not-is_ready.false))
+    law.long a.node a.mem.now (sym c.if-not-is_ready.ensures) a.peer.0 a.number.0 a.bar.0
 
-pub guard_accept_bar-max-requires : goal.guard_accept_bar-max-requires
-guard_accept_bar-max-requires c =
+pub guard_accept_bar-peer_accept_max-requires : goal.guard_accept_bar-peer_accept_max-requires
+guard_accept_bar-peer_accept_max-requires c =
     let a = c.args in
-    let r = is_ready a.node a.mem.now _ c.is_ready.ensures (ap not c.if-not-is_ready.false) in
-    (r.quorate, r.enough, r.few, law.below a.node a.mem.now a.area.now a.peer.0 a.number.0 a.bar.0 _ c.is_ready.ensures (ap not c.if-not-is_ready.false) _ c.guard_refusal-refusal.ensures c.if-refusal-ne0.false, rw (length-take-le 128 a.mem.now (omega (arith, r.long))) (omega arith))
+    law.asked a.node a.mem.now (sym c.if-not-is_ready.ensures) a.peer.0 a.number.0 a.bar.0 c.in_ok-guard_refusal.ensures
 
 pub returns : goal.returns
 unfolding view ready
 returns c =
     let a = c.args in
-    let p = c.guard_accept_bar-max.ensures in
-    rw c.taken.ensures (law.guard_taken a.node a.mem.now a.area.now a.peer.0 a.number.0 a.bar.0 _ c.is_ready.ensures (ap not c.if-not-is_ready.false) _ c.guard_refusal-refusal.ensures c.if-refusal-ne0.false _ p.1 _ _ p.0 refl refl)
+    let p = c.guard_accept_bar-peer_accept_max.ensures in
+    law.guard_taken a.node a.mem.now (sym c.if-not-is_ready.ensures) a.peer.0 a.number.0 a.bar.0 c.in_ok-guard_refusal.ensures a.area.now _ _ _ p.0 p.1 refl refl
