@@ -1,65 +1,38 @@
--- Words as a cell, one case at a time; a cell that is stored is read back, and the others stay.
-use Rattle.std.specs.Prelude.{if◌then◌else◌}
-use mathlib.Core.Path.{◌≡◌, refl, sym}
-use mathlib.Core.Logic.{inl, inr, ◌≢◌}
-use mathlib.Core.Bool.{Bool, true, false, not}
-use mathlib.Core.List.{List, [], ◌∷◌}
-use Rattle.std.specs.Prelude.{Option, None, Some}
-use Prim.Native.Nat.{ℕ, zero, suc, ◌+◌, ◌*◌, ◌≤◌, ◌<◌}
-use native.Mathlib.Omega.{arith}
-use native.Mathlib.Decide.{dec_lt}
-use lib.Dec.{ltb, eqb}
-use lib.ListN.{length, get_or, set}
-use lib.Seq.{get_or-set_same, get_or-set_other}
-use borrow.Author.Tests.{le-ltb, eq-eqb, ne_eqb}
+-- Words as a cell; a cell that is stored is read back, and the others stay.
+use Rattle.std.proofs.Common.{◌≡◌, refl, sym, ◌≢◌, inl, inr, Bool, true, false, not, List, [], ◌∷◌, Option, None, Some, ℕ, zero, suc, ◌+◌, ◌-◌, ◌*◌, ◌≤◌, ◌<◌, arith, eqb, ltb, length, get_or, set, get_or-set_same, get_or-set_other, le-ltb, ne_eqb}
+use Rattle.std.specs.Prelude.{if◌then◌else◌, is_some}
+use Rattle.std.specs.Option.{unwrap_or}
+use Rattle.std.specs.Bool.{then_some}
+use Rattle.std.specs.Int.{from_bool}
+use Rattle.std.proofs.Math.Decide.{dec_lt}
+use Rattle.std.proofs.lemmas.List.{drop-drop}
+use borrow.Rule.Slice.PartMut.{put_mid}
 use Rattle.words.specs.Choice.{if_none◌then◌else◌}
 use Rattle.words.specs.Writes.{writes, Agrees, writes_same, writes_other}
+use Rattle.words.proofs.Laws.{writes_is}
 use Rattle.layout.specs.Layout.{cell_row}
 use Rattle.bodega.specs.Replica as machine
-use Rattle.inst_cell.specs.Cell.{Notices, Short, status_named, acks_named, book_named, present, acks_in, bal_in, notices_in, cell_at, cell_words, with_status, has_book}
-
--- ---- the code's tests
-
-module _ (w : ℕ) where
-  pub named_0 : w ≡ 0 → machine.Null ≡ status_named w
-  named_0 e = sym (simp (eq-eqb w 0 e))
-
-  module _ (n0 : w ≡ 0 → ⊥) where
-    pub named_1 : w ≡ 1 → machine.Preparing ≡ status_named w
-    named_1 e = sym (simp (ne_eqb w 0 n0, eq-eqb w 1 e))
-
-    module _ (n1 : w ≡ 1 → ⊥) where
-      pub named_2 : w ≡ 2 → machine.Accepting ≡ status_named w
-      named_2 e = sym (simp (ne_eqb w 0 n0, ne_eqb w 1 n1, eq-eqb w 2 e))
-
-      module _ (n2 : w ≡ 2 → ⊥) where
-        pub named_3 : w ≡ 3 → machine.Committed ≡ status_named w
-        named_3 e = sym (simp (ne_eqb w 0 n0, ne_eqb w 1 n1, ne_eqb w 2 n2, eq-eqb w 3 e))
-
-        pub named_4 : (w ≡ 3 → ⊥) → machine.Executed ≡ status_named w
-        named_4 n3 = sym (simp (ne_eqb w 0 n0, ne_eqb w 1 n1, ne_eqb w 2 n2, ne_eqb w 3 n3))
-
-module _ (has : ℕ) where
-  pub no_acks : (m : ℕ) → has ≡ 0 → None ≡ acks_named has m
-  no_acks m e = sym (simp (eq-eqb has 0 e))
-
-  pub some_acks : (m : ℕ) → (has ≡ 0 → ⊥) → Some m ≡ acks_named has m
-  some_acks m e = sym (simp (ne_eqb has 0 e))
-
-  pub no_book : (bal m : ℕ) → has ≡ 0 → None ≡ book_named has bal m
-  no_book bal m e = sym (simp (eq-eqb has 0 e))
-
-  pub some_book : (bal m : ℕ) → (has ≡ 0 → ⊥) → ◌≡◌ {A = Option Notices} (Some (record { bal = bal; notices = m })) (book_named has bal m)
-  some_book bal m e = sym (simp (ne_eqb has 0 e))
+use Rattle.inst_cell.specs.declared.Status.{Status}
+use Rattle.inst_cell.specs.declared.NoticeBook.{NoticeBook}
+use Rattle.inst_cell.specs.declared.Cell.{Cell}
+use Rattle.inst_cell.specs.Cell.{Notices, Short, status_of, status_named, book_of, cell_of, acks_named, book_named, present, acks_in, bal_in, notices_in, cell_at, cell_words, with_status, has_book}
 
 -- ---- load and store
 
-pub loaded : (s : List ℕ) (p : ℕ) (st : machine.Status) (a : Option ℕ) (b : Option Notices) → st ≡ status_named (get_or s (p + 1) 0)
-    → a ≡ acks_named (get_or s (p + 1 + 1) 0) (get_or s (p + 1 + 1 + 1) 0)
-    → b ≡ book_named (get_or s (p + 1 + 1 + 1 + 1) 0) (get_or s (p + 1 + 1 + 1 + 1 + 1) 0) (get_or s (p + 1 + 1 + 1 + 1 + 1 + 1) 0)
-    → ◌≡◌ {A = Short} (record { bal = get_or s p 0; status = st; leader_bk = a; replica_bk = b }) (cell_at s p)
+acks_then : (b : Bool) (m : ℕ) → then_some (not b) m ≡ (if b then None else Some m)
+acks_then true m = refl
+acks_then false m = refl
+
+book_then : (b : Bool) (k : NoticeBook) → book_of (then_some (not b) k) ≡ (if b then None else Some (record { bal = k.bal.0; notices = k.notices }))
+book_then true k = refl
+book_then false k = refl
+
+pub loaded : (s : List ℕ) (p : ℕ) (st : Status) (a : Option ℕ) (b : Option NoticeBook) → status_of st ≡ status_named (get_or s (p + 1) 0)
+    → a ≡ then_some (not (eqb (get_or s (p + 2) 0) 0)) (get_or s (p + 3) 0)
+    → b ≡ then_some (not (eqb (get_or s (p + 4) 0) 0)) (record { bal = record { 0 = get_or s (p + 5) 0 }; notices = get_or s (p + 6) 0 })
+    → cell_of (record { bal = record { 0 = get_or s p 0 }; status = st; leader_bk = a; replica_bk = b }) ≡ cell_at s p
 unfolding cell_at
-loaded s p st a b e f g = λ i. record { bal = get_or s p 0; status = e i; leader_bk = f i; replica_bk = g i }
+loaded s p st a b e f g = rw (e, f, g, acks_then, book_then)
 
 named_status : (s : machine.Status) → status_named (machine.order s) ≡ s
 named_status machine.Null = refl
@@ -83,11 +56,11 @@ cell_near t s p h =
     simp (
       h p (omega arith) (omega arith),
       h (p + 1) (omega arith) (omega arith),
-      h (p + 1 + 1) (omega arith) (omega arith),
-      h (p + 1 + 1 + 1) (omega arith) (omega arith),
-      h (p + 1 + 1 + 1 + 1) (omega arith) (omega arith),
-      h (p + 1 + 1 + 1 + 1 + 1) (omega arith) (omega arith),
-      h (p + 1 + 1 + 1 + 1 + 1 + 1) (omega arith) (omega arith),
+      h (p + 2) (omega arith) (omega arith),
+      h (p + 3) (omega arith) (omega arith),
+      h (p + 4) (omega arith) (omega arith),
+      h (p + 5) (omega arith) (omega arith),
+      h (p + 6) (omega arith) (omega arith),
     )
 
 -- a cell that is stored is read back
@@ -101,11 +74,11 @@ module _ (s : List ℕ) (c : ℕ) (x : Short) (h : c * cell_row + cell_row ≤ l
       simp (
         stored (c * cell_row) 0 (omega arith) (omega arith),
         stored (c * cell_row + 1) 1 (omega arith) (omega arith),
-        stored (c * cell_row + 1 + 1) 2 (omega arith) (omega arith),
-        stored (c * cell_row + 1 + 1 + 1) 3 (omega arith) (omega arith),
-        stored (c * cell_row + 1 + 1 + 1 + 1) 4 (omega arith) (omega arith),
-        stored (c * cell_row + 1 + 1 + 1 + 1 + 1) 5 (omega arith) (omega arith),
-        stored (c * cell_row + 1 + 1 + 1 + 1 + 1 + 1) 6 (omega arith) (omega arith),
+        stored (c * cell_row + 2) 2 (omega arith) (omega arith),
+        stored (c * cell_row + 3) 3 (omega arith) (omega arith),
+        stored (c * cell_row + 4) 4 (omega arith) (omega arith),
+        stored (c * cell_row + 5) 5 (omega arith) (omega arith),
+        stored (c * cell_row + 6) 6 (omega arith) (omega arith),
       )
       (λ i. record { bal = x.bal; status = named_status x.status i; leader_bk = named_acks x.leader_bk i; replica_bk = named_book x.replica_bk i })
 
@@ -119,11 +92,31 @@ module _ (s : List ℕ) (c : ℕ) (x : Short) (h : c * cell_row + cell_row ≤ l
   pub cell_other : (d : ℕ) → d ≢ c → cell_at (writes s (c * cell_row) (cell_words x)) (d * cell_row) ≡ cell_at s (d * cell_row)
   cell_other d n = cell_near (writes s (c * cell_row) (cell_words x)) s (d * cell_row) (λ q f g. apart d q n f g)
 
+present_is : {A : Type 0} (o : Option A) → from_bool (is_some o) ≡ present o
+present_is None = refl
+present_is (Some x) = refl
+
+acks_are : (o : Option ℕ) → unwrap_or o 0 ≡ acks_in o
+acks_are None = refl
+acks_are (Some m) = refl
+
+abbrev no_book : NoticeBook
+no_book = record { bal = record { 0 = 0 }; notices = 0 }
+
+book_is_in : (o : Option NoticeBook) → ((unwrap_or o no_book).bal.0 ≡ bal_in (book_of o)) × ((unwrap_or o no_book).notices ≡ notices_in (book_of o)) × (from_bool (is_some o) ≡ present (book_of o))
+book_is_in None = (refl, refl, refl)
+book_is_in (Some b) = (refl, refl, refl)
+
 -- the words that the code stores
-pub words_are : (s : List ℕ) (p bal w a₀ a₁ b₀ b₁ b₂ : ℕ) (st : machine.Status) (a : Option ℕ) (b : Option Notices) → w ≡ machine.order st → (a₀ ≡ present a) × (a₁ ≡ acks_in a)
-    → (b₀ ≡ present b) × (b₁ ≡ bal_in b) × (b₂ ≡ notices_in b)
-    → writes s p (bal ∷ w ∷ a₀ ∷ a₁ ∷ b₀ ∷ b₁ ∷ b₂ ∷ []) ≡ writes s p (cell_words (record { bal = bal; status = st; leader_bk = a; replica_bk = b }))
-words_are s p bal w a₀ a₁ b₀ b₁ b₂ st a b e f g = λ i. writes s p (bal ∷ e i ∷ f.0 i ∷ f.1 i ∷ g.0 i ∷ g.1 i ∷ g.2 i ∷ [])
+pub stores : (s t : List ℕ) (p w a₀ a₁ b₀ : ℕ) (b : NoticeBook) (x : Cell) → p + 7 ≤ length s → w ≡ machine.order (status_of x.status)
+    → a₀ ≡ from_bool (is_some x.leader_bk) → a₁ ≡ unwrap_or x.leader_bk 0 → b₀ ≡ from_bool (is_some x.replica_bk) → b ≡ unwrap_or x.replica_bk no_book
+    → t ≡ x.bal.0 ∷ w ∷ a₀ ∷ a₁ ∷ b₀ ∷ b.bal.0 ∷ b.notices ∷ []
+    → put_mid p (p + 7 - p) s t ≡ writes s p (cell_words (cell_of x))
+stores s t p w a₀ a₁ b₀ b x h e₁ e₂ e₃ e₄ e₅ e =
+    let k = book_is_in x.replica_bk in
+    let f : t ≡ cell_words (cell_of x) = rw (e, e₁, e₂, e₃, e₄, e₅, present_is, acks_are, k.0, k.1, k.2) in
+    let n : p + 7 - p ≡ 7 = omega arith in
+    rw (n, f, drop-drop) (sym (writes_is s p (cell_words (cell_of x)) h))
 
 -- ---- one word of a cell
 
@@ -148,8 +141,8 @@ named_there false x = refl
 pub book_is : (s : List ℕ) (p : ℕ) → not (eqb (get_or s (p + 4) 0) 0) ≡ has_book (cell_at s p)
 unfolding cell_at
 book_is s p =
-    let e : p + 4 ≡ p + 1 + 1 + 1 + 1 = omega arith in
-    rw e (named_there (eqb (get_or s (p + 1 + 1 + 1 + 1) 0) 0) (record { bal = get_or s (p + 1 + 1 + 1 + 1 + 1) 0; notices = get_or s (p + 1 + 1 + 1 + 1 + 1 + 1) 0 }))
+    let e : p + 4 ≡ p + 4 = omega arith in
+    rw e (named_there (eqb (get_or s (p + 4) 0) 0) (record { bal = get_or s (p + 5) 0; notices = get_or s (p + 6) 0 }))
 
 -- a status that is stored is read back, and all else stays as it was
 module _ (s : List ℕ) (c : ℕ) (st : machine.Status) (h : c * cell_row + cell_row ≤ length s) where
@@ -162,11 +155,11 @@ module _ (s : List ℕ) (c : ℕ) (st : machine.Status) (h : c * cell_row + cell
       simp (
         word_stays (c * cell_row) (omega arith),
         get_or-set_same s (c * cell_row + 1) (machine.order st) 0 (omega arith),
-        word_stays (c * cell_row + 1 + 1) (omega arith),
-        word_stays (c * cell_row + 1 + 1 + 1) (omega arith),
-        word_stays (c * cell_row + 1 + 1 + 1 + 1) (omega arith),
-        word_stays (c * cell_row + 1 + 1 + 1 + 1 + 1) (omega arith),
-        word_stays (c * cell_row + 1 + 1 + 1 + 1 + 1 + 1) (omega arith),
+        word_stays (c * cell_row + 2) (omega arith),
+        word_stays (c * cell_row + 3) (omega arith),
+        word_stays (c * cell_row + 4) (omega arith),
+        word_stays (c * cell_row + 5) (omega arith),
+        word_stays (c * cell_row + 6) (omega arith),
         named_status st,
       )
 

@@ -61,8 +61,8 @@ cell_at s p =
     record {
       bal = get_or s p 0;
       status = status_named (get_or s (p + 1) 0);
-      leader_bk = acks_named (get_or s (p + 1 + 1) 0) (get_or s (p + 1 + 1 + 1) 0);
-      replica_bk = book_named (get_or s (p + 1 + 1 + 1 + 1) 0) (get_or s (p + 1 + 1 + 1 + 1 + 1) 0) (get_or s (p + 1 + 1 + 1 + 1 + 1 + 1) 0);
+      leader_bk = acks_named (get_or s (p + 2) 0) (get_or s (p + 3) 0);
+      replica_bk = book_named (get_or s (p + 4) 0) (get_or s (p + 5) 0) (get_or s (p + 6) 0);
     }
 
 abbrev pub present : {A : Type 0} → Option A → ℕ
