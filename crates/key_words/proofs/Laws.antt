@@ -1,16 +1,19 @@
 -- The laws of packed keys: put and get, bytes and words, and that keys are compared as their bytes are. Assumes
 -- nothing.
 use Rattle.std.specs.Prelude.{if◌then◌else◌}
+use Rattle.std.specs.Bool.{then_some}
 use mathlib.Core.Path.{◌≡◌, refl, sym, ap, ◌∙◌}
-use mathlib.Core.Bool.{Bool, true, false, and-true}
+use mathlib.Core.Bool.{Bool, true, false, ◌&&◌, and-true}
 use mathlib.Core.List.{List, [], ◌∷◌, ◌++◌}
 use Rattle.std.specs.Prelude.{Option, None, Some}
 use Prim.Native.Nat.{ℕ, zero, suc, ◌+◌, ◌-◌, ◌*◌, ◌/◌, ◌%◌, ◌^◌, ◌≤◌, ◌<◌, min}
-use native.Mathlib.Nat.{zero-add, one-mul, not-suc-le-zero, div-lt_iff_lt-mul}
+use native.Mathlib.Nat.{div-div-eq-div-mul, zero-add, one-mul, not-suc-le-zero, div-lt_iff_lt-mul}
 use native.Mathlib.Numerals.{add-one}
 use native.Mathlib.Omega.{arith}
-use borrow.Author.Tests.{eqb-true, eq-eqb, le-leb, lt-leb}
-use lib.Dec.{eqb}
+use borrow.Author.Tests.{eqb-true, le-leb, lt-leb}
+use lib.Dec.{eqb, leb}
+use mir.Syntax.{w64}
+use Rattle.std.specs.Int.{to_le_bytes}
 use lib.ListN.{length, get_or, take, replicate, length-take, get_or-eq_default}
 use lib.Pow.{pow_pos, shr_lt}
 use lib.Seq.{ext_get_or, length-take-le, get_or-take, take-take, take_all}
@@ -19,7 +22,7 @@ use Rattle.words.specs.Writes.{writes, Agrees, writes_append, run_writes, run_ag
 use Rattle.keys.specs.Read.{is_k, strip, sign, is_digit, number, digits, read_key}
 use Rattle.keys.specs.Same.{same_bytes}
 use Rattle.keys.proofs.Same.{same_refl, same_true}
-use Rattle.key_words.specs.Key.{words_of, key_of, key_at, same_key, le_word, le_bytes, pack_of, all_bytes, unpack_of, is_packed, bytes_of, at_most_48}
+use Rattle.key_words.specs.Key.{words_of, key_of, key_at, same_key, le_word, le_bytes, pack_of, all_bytes, unpack_of, is_packed, bytes_of, at_most_48, Unpacks}
 use Rattle.key_words.specs.declared.Key.{Key}
 
 -- ---- put and get
@@ -34,12 +37,6 @@ key_at_writes s at k h = ap key_of (run_writes s at (words_of k) h)
 
 -- ---- the same bytes, the same words
 
-pub same_last : (a b : Key) → a.len ≡ b.len → a.w0 ≡ b.w0 → a.w1 ≡ b.w1 → a.w2 ≡ b.w2 → a.w3 ≡ b.w3 → a.w4 ≡ b.w4
-    → eqb a.w5 b.w5 ≡ same_key a b
-unfolding same_key same_bytes
-same_last a b f g h i j k =
-    sym (rw (eq-eqb _ _ f, eq-eqb _ _ g, eq-eqb _ _ h, eq-eqb _ _ i, eq-eqb _ _ j, eq-eqb _ _ k) (and-true (eqb a.w5 b.w5)))
-
 same_key_true : (a b : Key) → same_key a b ≡ true → a ≡ b
 unfolding same_key
 same_key_true a b h = ap key_of (same_true (words_of a) (words_of b) h)
@@ -48,7 +45,17 @@ same_key_refl : (a : Key) → same_key a a ≡ true
 unfolding same_key
 same_key_refl a = same_refl (words_of a)
 
+-- `==` on keys is of each word
+pub same_eq : (a b : Key) (r : Bool)
+    → r ≡ (eqb a.len b.len && (eqb a.w0 b.w0 && (eqb a.w1 b.w1 && (eqb a.w2 b.w2 && (eqb a.w3 b.w3 && (eqb a.w4 b.w4 && eqb a.w5 b.w5)))))) → r ≡ same_key a b
+unfolding same_key same_bytes
+same_eq a b r h = h ∙ rw and-true
+
 -- ---- bytes of words
+
+-- `to_le_bytes` of a word
+pub low_first : (v : ℕ) → to_le_bytes w64 v ≡ le_bytes 8 v
+low_first v = simp div-div-eq-div-mul
 
 abbrev pub Bytes : List ℕ → Type 0
 Bytes k = (i : ℕ) → get_or k i 0 < 256
@@ -154,14 +161,14 @@ le_word_past zero s at h = refl
 le_word_past (suc m) s at h = omega (arith, get_or-eq_default s 0 h, le_word_past m s (at + 1) (omega arith))
 
 -- at most eight bytes: they stand in the first word
-pub few_packed : (k : List ℕ) (n w : ℕ) → length k ≤ 8 → n ≡ length k → w ≡ le_word 8 k 0 → record { len = n; w0 = w; w1 = 0; w2 = 0; w3 = 0; w4 = 0; w5 = 0 } ≡ pack_of k
+pub few_packed : (k : List ℕ) (w : ℕ) → length k ≤ 8 → w ≡ le_word 8 k 0 → record { len = length k; w0 = w; w1 = 0; w2 = 0; w3 = 0; w4 = 0; w5 = 0 } ≡ pack_of k
 unfolding pack_of
-few_packed k n w h e f =
-    put e f (le_word_past 8 k 8 h) (le_word_past 8 k 16 (omega arith)) (le_word_past 8 k 24 (omega arith)) (le_word_past 8 k 32 (omega arith)) (le_word_past 8 k 40 (omega arith))
+few_packed k w h f =
+    put f (le_word_past 8 k 8 h) (le_word_past 8 k 16 (omega arith)) (le_word_past 8 k 24 (omega arith)) (le_word_past 8 k 32 (omega arith)) (le_word_past 8 k 40 (omega arith))
   where
-    put : {l v a b c d e : ℕ} → n ≡ l → w ≡ v → a ≡ 0 → b ≡ 0 → c ≡ 0 → d ≡ 0 → e ≡ 0
-        → ◌≡◌ {A = Key} (record { len = n; w0 = w; w1 = 0; w2 = 0; w3 = 0; w4 = 0; w5 = 0 }) (record { len = l; w0 = v; w1 = a; w2 = b; w3 = c; w4 = d; w5 = e })
-    put p q x y z s t = rw (p, q, x, y, z, s, t)
+    put : {v a b c d e : ℕ} → w ≡ v → a ≡ 0 → b ≡ 0 → c ≡ 0 → d ≡ 0 → e ≡ 0
+        → ◌≡◌ {A = Key} (record { len = length k; w0 = w; w1 = 0; w2 = 0; w3 = 0; w4 = 0; w5 = 0 }) (record { len = length k; w0 = v; w1 = a; w2 = b; w3 = c; w4 = d; w5 = e })
+    put q x y z s t = rw (q, x, y, z, s, t)
 
 -- a word that is no more than n bytes
 le_word_le_bytes : (m n v : ℕ) → n ≤ m → v < 2 ^ (8 * n) → le_word m (le_bytes n v) 0 ≡ v
@@ -177,7 +184,14 @@ key_is : (k : Key) (a b c d e f g : ℕ) → a ≡ k.len → b ≡ k.w0 → c �
     → ◌≡◌ {A = Key} (record { len = a; w0 = b; w1 = c; w2 = d; w3 = e; w4 = f; w5 = g }) k
 key_is k a b c d e f g p q r s t u v = rw (p, q, r, s, t, u, v)
 
-module _ (k : Key) (z₁ : k.w1 ≡ 0) (z₂ : k.w2 ≡ 0) (z₃ : k.w3 ≡ 0) (z₄ : k.w4 ≡ 0) (z₅ : k.w5 ≡ 0) where
+-- `==` with the words past the first cleared says that they were 0
+module _ (k : Key) (r : Bool)
+    (e : r
+    ≡ (eqb k.len k.len && (eqb k.w0 k.w0 && (eqb k.w1 0 && (eqb k.w2 0 && (eqb k.w3 0 && (eqb k.w4 0 && eqb k.w5 0)))))))
+    (f : r ≡ true) where
+  first_only : k ≡ record { len = k.len; w0 = k.w0; w1 = 0; w2 = 0; w3 = 0; w4 = 0; w5 = 0 }
+  first_only = same_key_true k _ (sym (same_eq k _ r e) ∙ f)
+
   short_bytes : k.len ≤ 8 → unpack_of k ≡ le_bytes k.len k.w0
   unfolding unpack_of all_bytes
   short_bytes h =
@@ -192,7 +206,8 @@ module _ (k : Key) (z₁ : k.w1 ≡ 0) (z₂ : k.w2 ≡ 0) (z₃ : k.w3 ≡ 0) (
       let e : pack_of (unpack_of k) ≡ k =
       ap pack_of (short_bytes h)
       ∙ key_is k _ _ _ _ _ _ _ (length_bytes k.len k.w0) (le_word_le_bytes 8 k.len k.w0 h b)
-      (past 8 (omega arith) _ z₁) (past 16 (omega arith) _ z₂) (past 24 (omega arith) _ z₃) (past 32 (omega arith) _ z₄) (past 40 (omega arith) _ z₅) in
+      (past 8 (omega arith) _ (ap (λ (x : Key). x.w1) first_only)) (past 16 (omega arith) _ (ap (λ (x : Key). x.w2) first_only)) (past 24 (omega arith) _ (ap (λ (x : Key). x.w3) first_only))
+      (past 32 (omega arith) _ (ap (λ (x : Key). x.w4) first_only)) (past 40 (omega arith) _ (ap (λ (x : Key). x.w5) first_only)) in
       rw e (same_key_refl k)
 
   -- the word shifted by its bytes is 0, or it has eight
@@ -246,8 +261,8 @@ packed_few k q =
     let d = ap (λ (x : Key). x.len) (same_key_true (pack_of (unpack_of k)) k q) in
     omega (arith, d, short k)
 
-pub packed_long : (k : Key) → 48 < k.len → false ≡ is_packed k
-packed_long k h = go (is_packed k) refl
+pub packed_long : (k : Key) → 48 < k.len → leb k.len 48 ≡ is_packed k
+packed_long k h = lt-leb k.len 48 h ∙ go (is_packed k) refl
   where
     go : (u : Bool) → is_packed k ≡ u → false ≡ is_packed k
     go false q = sym q
@@ -269,19 +284,15 @@ module _ (k : Key) (s t : List ℕ) (fits : 48 ≤ length s) (e : t ≡ writes s
       let l = length_all k in
       rw e (front s (all_bytes k) 48 (omega (arith, l)) (omega (arith, l)) ∙ take_all 48 (all_bytes k) (omega (arith, l)))
 
-  module _ (u : Bool) (told : u ≡ is_packed k) where
-    pub unpack_yes : u ≡ true → ◌≡◌ {A = Option (List ℕ)} (Some (take k.len t)) (at_most_48 (bytes_of k))
-    unfolding bytes_of
-    unpack_yes q =
-        let p : is_packed k ≡ true = sym told ∙ q in
-        rw (p, unpacked_front k t (packed_few k p) stored_front, le-leb (length (unpack_of k)) 48 (short k))
-
-    pub unpack_few : u ≡ true → k.len ≤ 48
-    unpack_few q = packed_few k (sym told ∙ q)
-
-    pub unpack_no : u ≡ false → None ≡ at_most_48 (bytes_of k)
-    unfolding bytes_of
-    unpack_no q = rw (sym told ∙ q)
+  pub unpacks : (u : Bool) (r : Option ℕ) → u ≡ is_packed k → r ≡ then_some u k.len → Unpacks k s t r
+  unfolding bytes_of
+  unpacks false r told h = record { stored = e; told = rw (h, ← told) refl; few = rw h (omega arith) }
+  unpacks true r told h =
+      record {
+        stored = e;
+        told = rw (h, ← told, unpacked_front k t (packed_few k (sym told)) stored_front, le-leb (length (unpack_of k)) 48 (short k)) refl;
+        few = rw h (packed_few k (sym told));
+      }
 
 -- ---- a key that no bytes are does not read
 

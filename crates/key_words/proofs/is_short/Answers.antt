@@ -1,30 +1,9 @@
-use native.Mathlib.Omega.{arith}
-use mathlib.Core.Path.{sym}
-use mathlib.Core.Bool.{true≢false}
+use Rattle.std.proofs.Common.{rules}
 use Rattle.key_words.proofs.Laws as law
 use Rattle.key_words.proofs.is_short.Goals as goal
 
-pub returns-then-k-ne0 : goal.returns-then-k-ne0
-returns-then-k-ne0 c e = absurd (true≢false (sym e))
-
-pub returns-then-k-ne0-2 : goal.returns-then-k-ne0-2
-returns-then-k-ne0-2 c e = absurd (true≢false (sym e))
-
-pub returns-then-k-ne0-3 : goal.returns-then-k-ne0-3
-returns-then-k-ne0-3 c e = absurd (true≢false (sym e))
-
-pub returns-then-k-ne0-4 : goal.returns-then-k-ne0-4
-returns-then-k-ne0-4 c e = absurd (true≢false (sym e))
-
-pub returns-then-k-ne0-5 : goal.returns-then-k-ne0-5
-returns-then-k-ne0-5 c e = absurd (true≢false (sym e))
-
 pub returns-then-k-lt8 : goal.returns-then-k-lt8
-returns-then-k-lt8 c e =
-    let k = c.args.k in
-    law.short_shifted k (omega arith) (omega arith) (omega arith) (omega arith) (omega arith) (omega arith) e
+returns-then-k-lt8 c = law.short_shifted c.args.k _ c.eq.ensures c.if-eq.true c.if-k-lt8.true
 
-pub returns : goal.returns
-returns c e =
-    let k = c.args.k in
-    law.short_eight k (omega arith) (omega arith) (omega arith) (omega arith) (omega arith) (omega arith) e
+pub returns-else-k-lt8 : goal.returns-else-k-lt8
+returns-else-k-lt8 c = law.short_eight c.args.k _ c.eq.ensures c.if-eq.true (search rules)

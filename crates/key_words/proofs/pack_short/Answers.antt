@@ -1,7 +1,6 @@
-use Rattle.key_words.proofs.Laws as law
-use native.Mathlib.Omega.{arith}
-use mathlib.Core.Path.{ap, ◌∙◌}
+use Rattle.std.proofs.Common.{arith, ap, ◌∙◌}
 use Rattle.key_words.specs.Key.{bytes_of}
+use Rattle.key_words.proofs.Laws as law
 use Rattle.key_words.proofs.pack_short.Goals as goal
 
 pub returns : goal.returns
