@@ -44,10 +44,8 @@ fn word_of(name: &[u8]) -> u64
     ensures { result ≡ word_of name.now }
 {
     let mut w: u64 = 0;
-    let mut i = 0;
-    while i < name.len() {
-        w = w * 256 + u64::from(name[i]);
-        i += 1;
+    for c in name {
+        w = w * 256 + u64::from(*c);
     }
     w
 }
