@@ -1,7 +1,7 @@
 // A sum over a whole node, or over a roster, to compare with one made elsewhere.
 #![tactic(auto)]
 
-ghost use Rattle.std.specs.Prelude.{◌≡◌, ◌+◌, ◌-◌, ◌<◌, ◌≤◌, min, get_or};
+ghost use Rattle.std.specs.Prelude.{◌≡◌, ◌+◌, ◌-◌, ◌<◌, ◌≤◌, get_or};
 ghost use Rattle.words.specs.Tab.{words_from};
 ghost use Rattle.layout.specs.Layout.{written_places, slot_places};
 ghost use Rattle.decimal.specs.Digits.{decimal};
@@ -17,65 +17,58 @@ const BATCHES_AT: usize = layout::SLOTS_AT + layout::BATCHES_FROM;
 
 const READS_AT: usize = layout::SLOTS_AT + layout::READS_FROM;
 
+// What the sums are modulo.
+const PRIME: u64 = 4_294_967_291;
+
 // ---- sums
 
-fn plus_byte(sum: u32, b: u64) -> u32
-    requires { b < 256 }
+fn plus_byte(sum: u32, b: u8) -> u32
     ensures { result ≡ plus_byte sum b }
 {
-    ((sum as u64 * 257 + b + 1) % 4_294_967_291) as u32
+    ((u64::from(sum) * 257 + u64::from(b) + 1) % PRIME) as u32
 }
 
+#[tactic(auto, using(crate::proofs::Laws::digit_one, crate::proofs::Laws::digit_more))]
 fn plus_digits(sum: u32, n: u64) -> u32
     ensures { result ≡ plus_bytes sum (decimal n) }
 {
-    let q = n / 10;
-    let last = 48 + n % 10;
-    if q == 0 {
-        return plus_byte(sum, last);
+    if n < 10 {
+        plus_byte(sum, b'0' + n as u8)
+    } else {
+        plus_byte(plus_digits(sum, n / 10), b'0' + (n % 10) as u8)
     }
-    let s = plus_digits(sum, q);
-    plus_byte(s, last)
 }
 
 fn plus(sum: u32, n: u64) -> u32
     ensures { result ≡ plus_number sum n }
 {
-    let s = plus_byte(sum, 44);
-    plus_digits(s, n)
+    plus_digits(plus_byte(sum, b','), n)
+}
+
+fn plus_all(sum: u32, numbers: &[u64]) -> u32
+    ensures { result ≡ plus_numbers sum numbers.now }
+{
+    numbers.iter().fold(sum, |s, n| plus(s, *n))
 }
 
 // The word at an index, 0 past the end.
 fn word(m: &[u64], i: usize) -> u64
     ensures { result ≡ get_or m.now i 0 }
 {
-    if i < m.len() {
-        return m[i];
-    }
-    0
+    m.get(i).copied().unwrap_or(0)
 }
 
 // The n words from an index on.
+#[tactic(auto, using(crate::proofs::Laws::words_turn), unfolding(crate::specs::Sum::plus_numbers))]
 fn plus_words(sum: u32, m: &[u64], at: usize, n: usize) -> u32
     requires { at + n < 65536 }
     ensures { result ≡ plus_numbers sum (words_from n m.now at) }
 {
     let mut s = sum;
-    let mut i = 0;
-    while i < n {
+    for i in 0..n {
         s = plus(s, word(m, at + i));
-        i += 1;
     }
     s
-}
-
-fn least(a: usize, b: usize) -> usize
-    ensures { result ≡ min a b }
-{
-    if a < b {
-        return a;
-    }
-    b
 }
 
 // A count, and at most so many rows of w words.
@@ -83,7 +76,7 @@ fn plus_table(sum: u32, m: &[u64], at: usize, w: usize, most: usize) -> u32
     requires { (at < 10000) × (w < 16) × (most ≤ written_places) }
     ensures { result ≡ plus_numbers sum (table_of m.now at w most) }
 {
-    let n = least(word(m, at) as usize, most);
+    let n = most.min(word(m, at) as usize);
     plus_words(sum, m, at, 1 + w * n)
 }
 
@@ -92,23 +85,20 @@ fn plus_table(sum: u32, m: &[u64], at: usize, w: usize, most: usize) -> u32
 fn leader_number(leader: Option<Replica>) -> u64
     ensures { result ≡ leader_number leader }
 {
-    match leader {
-        None => 0,
-        Some(l) => u64::from(l.0) + 1,
-    }
+    leader.map_or(0, |l| u64::from(l.0) + 1)
 }
 
+#[tactic(auto, using(crate::proofs::Laws::append), unfolding(crate::specs::Numbers::roster_numbers, crate::specs::Sum::plus_numbers))]
 pub fn of_roster(conf: RespondersConf, rows: &[u64]) -> u32
     ensures { result ≡ sum_of (roster_numbers conf rows.now) }
 {
-    let leader = conf.leader;
-    let short = [leader_number(leader), conf.count as u64, conf.default];
-    let s = plus_words(0, &short, 0, 3);
+    let short = [leader_number(conf.leader), conf.count as u64, conf.default];
+    let s = plus_all(0, &short);
     plus_words(
         s,
         rows,
         0,
-        layout::ROSTER_ROW * least(conf.count, RespondersConf::RANGES),
+        layout::ROSTER_ROW * conf.count.min(RespondersConf::RANGES),
     )
 }
 
@@ -117,12 +107,10 @@ pub fn of_roster(conf: RespondersConf, rows: &[u64]) -> u32
 fn if_any(has: u64, v: u64) -> u64
     ensures { result ≡ if_any has v }
 {
-    if has == 0 {
-        return 0;
-    }
-    v
+    if has == 0 { 0 } else { v }
 }
 
+#[tactic(auto, unfolding(crate::specs::Numbers::cell_of))]
 fn plus_cell(sum: u32, m: &[u64], at: usize) -> u32
     requires { at < 10000 }
     ensures { result ≡ plus_numbers sum (cell_of m.now at) }
@@ -138,25 +126,28 @@ fn plus_cell(sum: u32, m: &[u64], at: usize) -> u32
         if_any(book, word(m, at + 5)),
         if_any(book, word(m, at + 6)),
     ];
-    plus_words(sum, &cell, 0, 7)
+    plus_all(sum, &cell)
 }
 
+#[tactic(auto, unfolding(crate::specs::Numbers::reads_of, crate::specs::Sum::plus_numbers))]
 fn plus_reads(sum: u32, m: &[u64], c: usize) -> u32
     requires { c < slot_places }
     ensures { result ≡ plus_numbers sum (reads_of m.now c) }
 {
     if word(m, layout::SLOTS_AT + layout::CELL_ROW * c + 4) == 0 {
-        return plus(sum, 0);
+        plus(sum, 0)
+    } else {
+        plus_table(
+            sum,
+            m,
+            READS_AT + layout::HELD_WORDS * c,
+            layout::HELD_ROW,
+            layout::HELD_PLACES,
+        )
     }
-    plus_table(
-        sum,
-        m,
-        READS_AT + layout::HELD_WORDS * c,
-        layout::HELD_ROW,
-        layout::HELD_PLACES,
-    )
 }
 
+#[tactic(auto, using(crate::proofs::Laws::append), unfolding(crate::specs::Numbers::slot_of))]
 fn plus_slot(sum: u32, m: &[u64], c: usize) -> u32
     requires { c < slot_places }
     ensures { result ≡ plus_numbers sum (slot_of m.now c) }
@@ -172,33 +163,31 @@ fn plus_slot(sum: u32, m: &[u64], c: usize) -> u32
     plus_reads(b, m, c)
 }
 
+#[tactic(auto, using(crate::proofs::Laws::slots_turn), unfolding(crate::specs::Sum::plus_numbers, crate::specs::Numbers::slots_of))]
 fn plus_slots(sum: u32, m: &[u64], start: Slot, n: usize) -> u32
     requires { n ≤ slot_places }
     ensures { result ≡ plus_numbers sum (slots_of m.now start.0 n) }
 {
-    let from = start.0;
-    let first = (from % layout::PLACES) as usize;
+    let first = (start.0 % layout::PLACES) as usize;
     let mut s = sum;
-    let mut i = 0;
-    while i < n {
+    for i in 0..n {
         s = plus_slot(s, m, (first + i) % layout::SLOT_PLACES);
-        i += 1;
     }
     s
 }
 
 // ---- a node
 
+#[tactic(auto, unfolding(crate::specs::Numbers::short_of))]
 fn of_short(node: Node) -> u32
     ensures { result ≡ sum_of (short_of node) }
 {
     let conf = node.bodega_conf;
-    let leader = conf.leader;
     let short = [
         u64::from(node.id.0),
         u64::from(node.population),
         u64::from(node.quorum),
-        leader_number(leader),
+        leader_number(conf.leader),
         conf.count as u64,
         conf.default,
         node.bal_max_seen.0,
@@ -212,31 +201,23 @@ fn of_short(node: Node) -> u32
         node.peer_accept_max.0,
         node.slots as u64,
     ];
-    plus_words(0, &short, 0, 16)
-}
-
-// How many replicas have a number above the own.
-fn above(id: usize, population: usize) -> usize
-    ensures { result ≡ population - (id + 1) }
-{
-    if id < population {
-        return population - id - 1;
-    }
-    0
+    plus_all(0, &short)
 }
 
 // All guard pairs, and the exec bars but for the own one.
+#[tactic(auto, using(crate::proofs::Laws::append), unfolding(crate::specs::Numbers::peers_of))]
 fn plus_peers(sum: u32, m: &[u64], id: Replica, population: u8) -> u32
     ensures { result ≡ plus_numbers sum (peers_of id.0 population m.now) }
 {
-    let me = id.0 as usize;
-    let n = population as usize;
+    let me = usize::from(id.0);
+    let n = usize::from(population);
     let a = plus_words(sum, m, 0, n);
     let b = plus_words(a, m, layout::BARS_AT, n);
     let c = plus_words(b, m, layout::EXECS_AT, me);
-    plus_words(c, m, layout::EXECS_AT + (me + 1), above(me, n))
+    plus_words(c, m, layout::EXECS_AT + (me + 1), n.saturating_sub(me + 1))
 }
 
+#[tactic(auto, using(crate::proofs::Laws::append), unfolding(crate::specs::Numbers::node_numbers))]
 pub fn of_node(node: Node, mem: &[u64]) -> u32
     ensures { result ≡ sum_of (node_numbers node mem.now) }
 {
@@ -246,13 +227,8 @@ pub fn of_node(node: Node, mem: &[u64]) -> u32
         b,
         mem,
         layout::ROWS_AT,
-        layout::ROSTER_ROW * least(node.bodega_conf.count, RespondersConf::RANGES),
+        layout::ROSTER_ROW * node.bodega_conf.count.min(RespondersConf::RANGES),
     );
-    let d = plus_slots(
-        c,
-        mem,
-        node.start_slot,
-        least(node.slots, layout::SLOT_PLACES),
-    );
+    let d = plus_slots(c, mem, node.start_slot, node.slots.min(layout::SLOT_PLACES));
     plus_table(d, mem, layout::WRITTEN_AT, layout::WRITTEN_ROW, Node::KEYS)
 }

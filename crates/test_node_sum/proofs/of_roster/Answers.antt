@@ -1,6 +1,0 @@
-use borrow.Author.Rules.{rules}
-use Rattle.test_node_sum.proofs.Laws as law
-use Rattle.test_node_sum.proofs.of_roster.Goals as goal
-
-pub returns : goal.returns
-returns c = search (rules, law.roster)
