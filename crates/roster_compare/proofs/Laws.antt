@@ -8,13 +8,13 @@ use Prim.Native.Nat.{ℕ, suc, ◌+◌, ◌*◌, ◌≤◌, ◌<◌}
 use native.Mathlib.Omega.{arith}
 use lib.Dec.{ltb, leb, eqb}
 use lib.ListN.{length, take}
-use borrow.Author.Tests.{ltb-true, ltb-false, le-leb, lt-leb, not-true, not-false}
+use borrow.Author.Tests.{ltb-true, ltb-false, le-leb}
 use Rattle.words.specs.Writes.{writes}
 use Rattle.ids.specs.declared.Replica.{Replica}
 use Rattle.ids.specs.Leader.{leader_of}
 use Rattle.layout.specs.Layout.{roster_row, roster_words}
 use Rattle.bitmap.specs.Bitmap.{fits}
-use Rattle.roster_ranges.specs.Range.{Range, goes_on}
+use Rattle.roster_ranges.specs.Range.{Range}
 use Rattle.roster_ranges.specs.Canon.{heads, is_canon}
 use Rattle.roster_map.specs.Rows.{range_at, ranges_of}
 use Rattle.roster_map.proofs.Laws.{rows_from, from_first, from_none, from_all, length_ranges, rows_same}
@@ -22,28 +22,8 @@ use Rattle.roster_conf.specs.declared.RespondersConf.{RespondersConf}
 use Rattle.roster_conf.specs.Conf.{same, same_leader, same_range, same_ranges}
 use Rattle.roster_conf.specs.Edits.{view}
 use Rattle.bodega.specs.Grounds.{any, unformed, foreign_leader, foreign_mask}
-use Rattle.std.specs.Prelude.{Option, None}
-
--- ---- the leaders
-
-pub leader_is : (l : Option Replica) (x : Replica) (k : ℕ) → l ≡ Some x → eqb k x.0 ≡ same_leader (Some k) (leader_of l)
-leader_is l x k e = sym (ap (λ (y : Option Replica). same_leader (Some k) (leader_of y)) e)
-
-pub leader_of_lem : (a b : Option Replica) (x : Replica) (t : Bool) → a ≡ Some x → t ≡ same_leader (Some x.0) (leader_of b) → t ≡ same_leader (leader_of a) (leader_of b)
-leader_of_lem a b x t e f = f ∙ sym (ap (λ (y : Option Replica). same_leader (leader_of y) (leader_of b)) e)
-
--- ---- two rows: p and q are what was read, x and y the ranges
-
-module _ (p q x y : Range) (t : Bool) (e : p ≡ x) (f : q ≡ y) (g : t ≡ eqb p.from q.from) where
-  pub other_start : not t ≡ true → false ≡ same_range x y
-  other_start h = rw (← e, ← f) (sym (simp (sym g ∙ not-true t h)))
-
-  module _ (h : not t ≡ false) (u : Bool) (k : u ≡ eqb p.to q.to) where
-    pub other_end : not u ≡ true → false ≡ same_range x y
-    other_end l = rw (← e, ← f) (sym (simp (sym g ∙ not-false t h, sym k ∙ not-true u l)))
-
-    pub same_bounds : not u ≡ false → eqb p.mask q.mask ≡ same_range x y
-    same_bounds l = rw (← e, ← f) (sym (simp (sym g ∙ not-false t h, sym k ∙ not-false u l)))
+use Rattle.std.specs.Prelude.{Option, None, MatchOption}
+use Rattle.words.specs.Choice.{if_none◌then◌else◌}
 
 -- ---- the rows
 
@@ -61,15 +41,15 @@ rows_start s u n k e = rw (from_all s n, from_all u n) (ap (λ (z : ℕ). same_r
 
 -- m is the answer; t whether row i is the same in both
 module _ (s u : List ℕ) (n i : ℕ) (m : Bool) where
-  module _ (t : Bool) (h : i < n) (e : t ≡ same_range (range_at s (i * roster_row)) (range_at u (i * roster_row))) (g : same_ranges (rows_from s i n) (rows_from u i n) ≡ m) where
+  module _ (x y : Range) (t : Bool) (h : i < n) (p : x ≡ range_at s (i * roster_row)) (q : y ≡ range_at u (i * roster_row)) (e : t ≡ same_range x y) (g : same_ranges (rows_from s i n) (rows_from u i n) ≡ m) where
     cut : t && same_ranges (rows_from s (i + 1) n) (rows_from u (i + 1) n) ≡ m
-    cut = rw e (sym (rw (from_first s i n h, from_first u i n h)) ∙ g)
+    cut = rw (e, p, q) (sym (rw (from_first s i n h, from_first u i n h)) ∙ g)
 
-    pub row_differs : not t ≡ true → false ≡ m
-    row_differs f = sym (ap (λ (b : Bool). b && same_ranges (rows_from s (i + 1) n) (rows_from u (i + 1) n)) (not-true t f)) ∙ cut
+    pub row_differs : t ≡ false → false ≡ m
+    row_differs f = sym (ap (λ (b : Bool). b && same_ranges (rows_from s (i + 1) n) (rows_from u (i + 1) n)) f) ∙ cut
 
-    pub row_same : not t ≡ false → same_ranges (rows_from s (i + 1) n) (rows_from u (i + 1) n) ≡ m
-    row_same f = sym (ap (λ (b : Bool). b && same_ranges (rows_from s (i + 1) n) (rows_from u (i + 1) n)) (not-false t f)) ∙ cut
+    pub row_same : t ≡ true → same_ranges (rows_from s (i + 1) n) (rows_from u (i + 1) n) ≡ m
+    row_same f = sym (ap (λ (b : Bool). b && same_ranges (rows_from s (i + 1) n) (rows_from u (i + 1) n)) f) ∙ cut
 
   pub rows_end : n ≤ i → same_ranges (rows_from s i n) (rows_from u i n) ≡ m → true ≡ m
   rows_end h g = sym (rw (from_none s i n h, from_none u i n h)) ∙ g
@@ -77,41 +57,20 @@ module _ (s u : List ℕ) (n i : ℕ) (m : Bool) where
 -- ---- the rosters
 
 module _ (c d : RespondersConf) (s u : List ℕ) (t : Bool) (e : t ≡ same_leader (leader_of c.leader) (leader_of d.leader)) where
-  pub other_leader : not t ≡ true → false ≡ same (view c s) (view d u)
+  pub other_leader : t ≡ false → false ≡ same (view c s) (view d u)
   unfolding same view
-  other_leader f = sym (simp (sym e ∙ not-true t f))
+  other_leader f = sym (simp (sym e ∙ f))
 
-  module _ (f : not t ≡ false) (v : Bool) (g : v ≡ same_ranges (ranges_of s c.count) (ranges_of u d.count)) where
-    pub other_rows : not v ≡ true → false ≡ same (view c s) (view d u)
+  module _ (f : t ≡ true) (v : Bool) (g : v ≡ same_ranges (ranges_of s c.count) (ranges_of u d.count)) where
+    pub other_rows : v ≡ false → false ≡ same (view c s) (view d u)
     unfolding same view
-    other_rows h = sym (simp (sym e ∙ not-false t f, sym g ∙ not-true v h))
+    other_rows h = sym (simp (sym e ∙ f, sym g ∙ h))
 
-    pub same_default : not v ≡ false → eqb c.default d.default ≡ same (view c s) (view d u)
+    pub same_default : v ≡ true → eqb c.default d.default ≡ same (view c s) (view d u)
     unfolding same view
-    same_default h = sym (simp (sym e ∙ not-false t f, sym g ∙ not-false v h))
+    same_default h = sym (simp (sym e ∙ f, sym g ∙ h))
 
--- ---- rows that no edits make: p and q are what was read, x and y the ranges
-
-module _ (a b t : Bool) (e : t ≡ a) where
-  pub touches : not t ≡ true → false ≡ a && not b
-  touches f = sym (simp (sym e ∙ not-true t f))
-
-  pub apart : (u : Bool) → not t ≡ false → u ≡ b → not u ≡ a && not b
-  apart u f g = ap not g ∙ sym (simp (sym e ∙ not-false t f))
-
-module _ (p x : Range) (t : Bool) (e : p ≡ x) (f : t ≡ ltb p.to p.from) where
-  pub no_range : t ≡ true → (l : List Range) → false ≡ heads x l
-  no_range g l = rw (← e) (sym (simp (lt-leb p.from p.to (ltb-true p.to p.from (sym f ∙ g)))))
-
-  module _ (g : t ≡ false) where
-    is_range_lem : leb p.from p.to ≡ true
-    is_range_lem = le-leb p.from p.to (ltb-false p.to p.from (sym f ∙ g))
-
-    pub last_range : true ≡ heads x []
-    last_range = rw (← e) (sym (simp is_range_lem))
-
-    pub heads_next : (q y : Range) (u : Bool) → q ≡ y → u ≡ (ltb p.to q.from && not (goes_on p q)) → u ≡ heads x (y ∷ [])
-    heads_next q y u h k = rw (← e, ← h) (k ∙ sym (simp is_range_lem))
+-- ---- rows that no edits make
 
 pub canon_start : (s : List ℕ) (n : ℕ) → is_canon (rows_from s 0 n) ≡ is_canon (ranges_of s n)
 canon_start s n = rw (from_all s n)
@@ -132,11 +91,11 @@ module _ (s : List ℕ) (n i : ℕ) (m : Bool) where
     unfolding is_canon
     rest_too = ap (λ (b : Bool). b && is_canon (rows_from s (i + 1) n)) heads_rest ∙ sym (ap is_canon (from_first s i n h)) ∙ g
 
-    pub row_touches : not t ≡ true → false ≡ m
-    row_touches f = sym (ap (λ (b : Bool). b && is_canon (rows_from s (i + 1) n)) (not-true t f)) ∙ rest_too
+    pub row_touches : t ≡ false → false ≡ m
+    row_touches f = sym (ap (λ (b : Bool). b && is_canon (rows_from s (i + 1) n)) f) ∙ rest_too
 
-    pub row_heads : not t ≡ false → is_canon (rows_from s (i + 1) n) ≡ m
-    row_heads f = sym (ap (λ (b : Bool). b && is_canon (rows_from s (i + 1) n)) (not-false t f)) ∙ rest_too
+    pub row_heads : t ≡ true → is_canon (rows_from s (i + 1) n) ≡ m
+    row_heads f = sym (ap (λ (b : Bool). b && is_canon (rows_from s (i + 1) n)) f) ∙ rest_too
 
   pub canon_end : n ≤ i → is_canon (rows_from s i n) ≡ m → true ≡ m
   unfolding is_canon
@@ -148,16 +107,15 @@ unformed_is c s t h e = rw (length_ranges s c.count, le-leb c.count 64 h, ← e)
 
 -- ---- who is not there
 
-pub no_leader : (p : ℕ) (c : RespondersConf) → c.leader ≡ None → (rows : List ℕ) → false ≡ foreign_leader p (Some (view c rows))
+-- Q is what is known of the answer where there is a leader
+pub leader_is : (p : ℕ) (c : RespondersConf) (t : Bool) (Q : Replica → Type 0) → MatchOption c.leader (t ≡ false) Q → ((l : Replica) → Q l → t ≡ leb p l.0)
+    → (rows : List ℕ) → t ≡ foreign_leader p (Some (view c rows))
 unfolding view
-no_leader p c e rows = sym (rw e)
-
-pub a_leader : (p : ℕ) (c : RespondersConf) (x : Replica) → c.leader ≡ Some x → (rows : List ℕ) → leb p x.0 ≡ foreign_leader p (Some (view c rows))
-unfolding view
-a_leader p c x e rows = sym (rw e)
-
-pub mask_of_row : (r x : Range) (p : ℕ) (t : Bool) → r ≡ x → t ≡ fits r.mask p → not t ≡ not (fits x.mask p)
-mask_of_row r x p t e f = rw (← e) (ap not f)
+leader_is p c t Q m f rows = go c.leader m
+  where
+    go : (l : Option Replica) → MatchOption l (t ≡ false) Q → t ≡ if_none leader_of l then false else λ x. leb p x
+    go None m = m
+    go (Some x) m = f x m
 
 -- whether the mask of a range does not fit
 abbrev pub misfit : ℕ → Range → Bool
@@ -167,23 +125,23 @@ pub any_start : (s : List ℕ) (n p : ℕ) → any (misfit p) (rows_from s 0 n) 
 any_start s n p = rw (from_all s n)
 
 module _ (s : List ℕ) (n i p : ℕ) (m : Bool) where
-  module _ (t : Bool) (h : i < n) (e : t ≡ not (fits (range_at s (i * roster_row)).mask p)) (g : any (misfit p) (rows_from s i n) ≡ m) where
-    shorter : t || any (misfit p) (rows_from s (i + 1) n) ≡ m
-    shorter = rw e (sym (rw (from_first s i n h)) ∙ g)
+  module _ (r : Range) (t : Bool) (h : i < n) (q : r ≡ range_at s (i * roster_row)) (e : t ≡ fits r.mask p) (g : any (misfit p) (rows_from s i n) ≡ m) where
+    shorter : not t || any (misfit p) (rows_from s (i + 1) n) ≡ m
+    shorter = rw (e, q) (sym (rw (from_first s i n h)) ∙ g)
 
-    pub any_here : t ≡ true → true ≡ m
-    any_here f = sym (ap (λ (b : Bool). b || any (misfit p) (rows_from s (i + 1) n)) f) ∙ shorter
+    pub any_here : t ≡ false → true ≡ m
+    any_here f = sym (ap (λ (b : Bool). not b || any (misfit p) (rows_from s (i + 1) n)) f) ∙ shorter
 
-    pub any_later : t ≡ false → any (misfit p) (rows_from s (i + 1) n) ≡ m
-    any_later f = sym (ap (λ (b : Bool). b || any (misfit p) (rows_from s (i + 1) n)) f) ∙ shorter
+    pub any_later : t ≡ true → any (misfit p) (rows_from s (i + 1) n) ≡ m
+    any_later f = sym (ap (λ (b : Bool). not b || any (misfit p) (rows_from s (i + 1) n)) f) ∙ shorter
 
   pub any_end : n ≤ i → any (misfit p) (rows_from s i n) ≡ m → false ≡ m
   any_end h g = sym (rw (from_none s i n h)) ∙ g
 
 module _ (p : ℕ) (c : RespondersConf) (s : List ℕ) (t : Bool) (e : t ≡ any (misfit p) (ranges_of s c.count)) where
-  pub row_misfits : t ≡ true → true ≡ foreign_mask p (Some (view c s))
+  pub row_misfits : t ≡ true → t ≡ foreign_mask p (Some (view c s))
   unfolding view
-  row_misfits f = sym (simp (sym e ∙ f))
+  row_misfits f = f ∙ sym (simp (sym e ∙ f))
 
   pub rows_fit : (u : Bool) → t ≡ false → u ≡ fits c.default p → not u ≡ foreign_mask p (Some (view c s))
   unfolding view

@@ -1,11 +1,11 @@
 -- The listing, span by span.
 use mathlib.Core.Path.{◌≡◌, refl, sym, ap, ◌∙◌}
-use mathlib.Core.Bool.{Bool, true, false, not}
+use mathlib.Core.Bool.{Bool, true, false}
 use mathlib.Core.List.{List, ◌∷◌, ◌++◌, []}
 use Prim.Native.Nat.{ℕ, suc, ◌+◌, ◌*◌, ◌/◌, ◌≤◌, ◌<◌}
 use native.Mathlib.Omega.{arith}
 use lib.ListN.{length, length-append}
-use borrow.Author.Tests.{lt-ltb, le-ltb, not-true, not-false}
+use borrow.Author.Tests.{lt-ltb, le-ltb}
 use Rattle.words.specs.Writes.{writes}
 use Rattle.layout.specs.Layout.{roster_row}
 use Rattle.items.specs.Item.{Item, Rest, encode, places}
@@ -18,9 +18,7 @@ use Rattle.roster_conf.specs.declared.RespondersConf.{RespondersConf}
 use Rattle.roster_conf.specs.Edits.{view, holds_rows}
 use Rattle.roster_show.specs.Show.{span_of, spans_of, show, Listing, listing}
 use Rattle.std.specs.Prelude.{Ok, Err}
-
-pub span_is : (r x : Range) → r ≡ x → span_of r ≡ span_of x
-span_is r x e = ap span_of e
+use Rattle.ids.specs.declared.Refusal.TheVariants.{NotReady, AreaTooSmall}
 
 spans_snoc : (l : List Range) (r : Range) → spans_of (l ++ (r ∷ [])) ≡ spans_of l ++ (span_of r ∷ [])
 unfolding spans_of
@@ -54,9 +52,6 @@ pub no_span : (rows area : List ℕ) → area ≡ writes area 0 (encode (spans_o
 unfolding ranges_of spans_of encode
 no_span rows area = refl
 
-pub all_spans : (rows area s : List ℕ) (i n : ℕ) → n ≤ i → i ≤ n → s ≡ writes area 0 (encode (spans_of (ranges_of rows i))) → s ≡ writes area 0 (encode (spans_of (ranges_of rows n)))
-all_spans rows area s i n f g e = let z : i ≡ n = omega arith in rw z at e
-
 -- ---- the answer
 
 module _ (c : RespondersConf) (rows area : List ℕ) (t : Bool) (e : t ≡ holds_rows (length rows) c.count) where
@@ -69,16 +64,16 @@ module _ (c : RespondersConf) (rows area : List ℕ) (t : Bool) (e : t ≡ holds
       length-append (spans_of (ranges_of rows c.count)) (Rest c.default ∷ [])
       ∙ ap (λ (k : ℕ). k + 1) (length_spans (ranges_of rows c.count) ∙ length_ranges rows c.count)
 
-  pub show_2 : not t ≡ true → ◌≡◌ {A = Listing} (record { answer = Err 2; area = area }) (listing c rows area)
+  pub show_2 : t ≡ false → ◌≡◌ {A = Listing} (record { answer = Err NotReady; area = area }) (listing c rows area)
   unfolding listing
-  show_2 f = sym (simp (sym e ∙ not-true t f))
+  show_2 f = sym (simp (sym e ∙ f))
 
-  module _ (f : not t ≡ false) where
-    pub show_20 : length area / 6 ≤ c.count → ◌≡◌ {A = Listing} (record { answer = Err 20; area = area }) (listing c rows area)
+  module _ (f : t ≡ true) where
+    pub show_20 : length area / 6 ≤ c.count → ◌≡◌ {A = Listing} (record { answer = Err AreaTooSmall; area = area }) (listing c rows area)
     unfolding listing
     show_20 h =
         let few : places area < length items = rw length_show (omega arith) in
-        sym (simp (sym e ∙ not-false t f, lt-ltb (places area) (length items) few))
+        sym (simp (sym e ∙ f, lt-ltb (places area) (length items) few))
 
     pub show_all : (s after : List ℕ) (b : Bool) → c.count < length area / 6 → s ≡ writes area 0 (encode (spans_of (ranges_of rows c.count)))
         → ◌≡◌ {A = Put} (record { taken = b; area = after }) (put_item s c.count (Rest c.default))
@@ -89,4 +84,4 @@ module _ (c : RespondersConf) (rows area : List ℕ) (t : Bool) (e : t ≡ holds
         let room : length items ≤ places area = rw length_show (omega arith) in
         ap (λ (q : List ℕ). record { answer = Ok (c.count + 1); area = q }) all
         ∙ ap (λ (k : ℕ). record { answer = Ok k; area = writes area 0 (encode items) }) (sym length_show)
-        ∙ sym (simp (sym e ∙ not-false t f, le-ltb (places area) (length items) room))
+        ∙ sym (simp (sym e ∙ f, le-ltb (places area) (length items) room))

@@ -17,11 +17,9 @@ fn span(rows: &[u64], i: usize) -> Item
     ensures { item_of result ≡ span_of (range_at rows.now (i * roster_row)) }
 {
     let row = roster_map::get_row(rows, i);
-    let start = row.start;
-    let end = row.end;
     Item::Span {
-        start,
-        end,
+        start: row.start,
+        end: row.end,
         mask: row.mask,
     }
 }
@@ -30,10 +28,8 @@ fn put_spans(rows: &[u64], count: usize, area: &mut [u64])
     requires { (count * roster_row ≤ length rows.now) × (count ≤ places area.old) }
     ensures { area.new ≡ writes area.old 0 (encode (spans_of (ranges_of rows.now count))) }
 {
-    let mut i = 0;
-    while i < count {
+    for i in 0..count {
         items::put_item(area, i, span(rows, i));
-        i += 1;
     }
 }
 

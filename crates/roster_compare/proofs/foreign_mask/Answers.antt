@@ -5,5 +5,5 @@ use Rattle.roster_compare.proofs.foreign_mask.Goals as goal
 pub returns-then-foreign_rows : goal.returns-then-foreign_rows
 returns-then-foreign_rows c = search (rules, law.row_misfits)
 
-pub returns : goal.returns
-returns c = search (rules, law.rows_fit)
+pub returns-else-foreign_rows : goal.returns-else-foreign_rows
+returns-else-foreign_rows c = search (rules, law.rows_fit)

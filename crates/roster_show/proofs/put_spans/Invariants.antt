@@ -1,5 +1,4 @@
 use mathlib.Core.Path.{◌≡◌}
-use Prim.Native.Nat.{◌-◌, ◌≤◌}
 use lib.ListN.{length}
 use Rattle.words.specs.Writes.{writes}
 use Rattle.items.specs.Item.{encode}
@@ -9,7 +8,4 @@ use Rattle.roster_show.proofs.put_spans.Given as goal
 
 abbrev pub invariant-loop-i : goal.invariant-loop-i
 invariant-loop-i l =
-    (l.i ≤ l.count) × (length l.area ≡ length l.initial.area) × (l.area ≡ writes l.initial.area 0 (encode (spans_of (ranges_of l.rows l.i))))
-
-abbrev pub decreases-loop-i : goal.decreases-loop-i
-decreases-loop-i l = l.count - l.i
+    (length l.area ≡ length l.initial.area) × (l.area ≡ writes l.initial.area 0 (encode (spans_of (ranges_of l.rows l.i))))

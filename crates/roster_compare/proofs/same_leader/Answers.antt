@@ -1,6 +1,0 @@
-use Rattle.roster_compare.proofs.Laws as law
-use borrow.Author.Rules.{rules}
-use Rattle.roster_compare.proofs.same_leader.Goals as goal
-
-pub returns : goal.returns
-returns c = search (rules, law.leader_of_lem)

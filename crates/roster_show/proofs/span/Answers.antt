@@ -1,6 +1,0 @@
-use Rattle.roster_show.proofs.Listing as law
-use borrow.Author.Rules.{rules}
-use Rattle.roster_show.proofs.span.Goals as goal
-
-pub returns : goal.returns
-returns c = search (rules, law.span_is)
