@@ -11,9 +11,9 @@ use lib.ListN.{length, get_or, set, length-append, length-set}
 use lib.Seq.{get_or-set_other}
 use Rattle.words.specs.Counted.{count_of, length_counted, counted_push, counted_clear}
 use Rattle.words.specs.Tab.{tab}
-use Rattle.words.specs.Writes.{writes, Agrees, writes_other, writes_same}
+use Rattle.words.specs.Writes.{writes, Agrees, writes_other, writes_same, writes_append, length_writes}
 use Rattle.layout.specs.Layout.{held_row, held_places, held_words}
-use Rattle.key_words.specs.Key.{key_at}
+use Rattle.key_words.specs.Key.{key_at, words_of}
 use Rattle.key_words.proofs.Laws.{key_at_agrees, key_at_writes}
 use Rattle.bodega.specs.Replica as machine
 use Rattle.inst_holding.specs.Held.{read_of, read_words, read_from, read_at, reads_of, Pushes}
@@ -24,19 +24,23 @@ unfolding read_from
 near s' s p h =
     let a = h p (omega arith) (omega arith) in
     let b = h (p + 1) (omega arith) (omega arith) in
-    let k = key_at_agrees s' s (p + 1 + 1) (λ j x y. h j (omega arith) (omega arith)) in
+    let k = key_at_agrees s' s (p + 2) (λ j x y. h j (omega arith) (omega arith)) in
     rw (a, b, k)
 
 -- a read that is stored is read back
 read_back : (s : List ℕ) (p : ℕ) (x : ReadReq) → p + held_row ≤ length s → read_from (writes s p (read_words x)) p ≡ read_of x
 unfolding read_from
 read_back s p x h =
-    let s₂ : List ℕ = set (set s p x.client) (p + 1) x.request in
-    let l : length s₂ ≡ length s = simp length-set in
+    let xs : List ℕ = x.client ∷ x.request ∷ [] in
+    let w : writes (writes s p xs) (p + 2) (words_of x.key) ≡ writes s p (read_words x) = writes_append s p xs (words_of x.key) in
     let a : get_or (writes s p (read_words x)) p 0 ≡ x.client = rw add-zero at (writes_same s p (read_words x) 0 h (omega arith)) in
     let b : get_or (writes s p (read_words x)) (p + 1) 0 ≡ x.request = writes_same s p (read_words x) 1 h (omega arith) in
-    let k : key_at (writes s p (read_words x)) (p + 1 + 1) ≡ x.key = key_at_writes s₂ (p + 1 + 1) x.key (omega (arith, l)) in
+    let k : key_at (writes s p (read_words x)) (p + 2) ≡ x.key = rw (← w) (key_at_writes (writes s p xs) (p + 2) x.key (omega (arith, length_writes s p xs))) in
     rw (a, b, k)
+
+-- a row stored: its first words, then the key
+pub stored : (s t : List ℕ) (p : ℕ) (x : ReadReq) → t ≡ writes (set (set s p x.client) (p + 1) x.request) (p + 2) (words_of x.key) → t ≡ writes s p (read_words x)
+stored s t p x e = e ∙ writes_append s p (x.client ∷ x.request ∷ []) (words_of x.key)
 
 pub how_many : (s : List ℕ) → length (reads_of s) ≡ count_of held_places s
 unfolding reads_of

@@ -17,7 +17,7 @@ read_words x = x.client ∷ x.request ∷ words_of x.key
 
 -- the read at word p, and the i-th
 unfoldable pub read_from : List ℕ → ℕ → machine.ReadReq
-read_from s p = record { client = get_or s p 0; request = get_or s (p + 1) 0; key = bytes_of (key_at s (p + 1 + 1)) }
+read_from s p = record { client = get_or s p 0; request = get_or s (p + 1) 0; key = bytes_of (key_at s (p + 2)) }
 
 abbrev pub read_at : List ℕ → ℕ → machine.ReadReq
 read_at s i = read_from s (1 + i * held_row)

@@ -15,48 +15,41 @@ pub struct ReadReq {
     pub key: Key,
 }
 
+#[tactic(auto, using(crate::proofs::Laws::how_many))]
 pub fn count(s: &[u64]) -> usize
     requires { held_words ≤ length s.now }
     ensures { (result ≡ length (reads_of s.now)) × (result ≤ held_places) }
 {
-    let n = s[0];
-    if n <= layout::HELD_PLACES as u64 {
-        n as usize
-    } else {
-        layout::HELD_PLACES
-    }
+    s[0].min(layout::HELD_PLACES as u64) as usize
 }
 
 // The i-th read.
+#[tactic(auto, unfolding(crate::specs::Held::read_from))]
 pub fn get(s: &[u64], i: usize) -> ReadReq
     requires { (i < held_places) × (held_words ≤ length s.now) }
     ensures { read_of result ≡ read_at s.now i }
 {
     let p = 1 + i * layout::HELD_ROW;
-    let p1 = p + 1;
-    let p2 = p1 + 1;
-    let key = get_key(s, p2);
     ReadReq {
         client: s[p],
-        request: s[p1],
-        key,
+        request: s[p + 1],
+        key: get_key(s, p + 2),
     }
 }
 
+#[tactic(auto, using(crate::proofs::Laws::stored))]
 fn put(s: &mut [u64], i: usize, x: ReadReq)
     requires { (i < held_places) × (held_words ≤ length s.old) }
     ensures { s.new ≡ writes s.old (1 + i * held_row) (read_words x) }
 {
     let p = 1 + i * layout::HELD_ROW;
-    let p1 = p + 1;
-    let p2 = p1 + 1;
-    let key = x.key;
     s[p] = x.client;
-    s[p1] = x.request;
-    put_key(s, p2, key);
+    s[p + 1] = x.request;
+    put_key(s, p + 2, x.key);
 }
 
 // A read after the others; false, and nothing changed, where there is no place left.
+#[tactic(auto, using(crate::proofs::Laws::push_no))]
 pub fn push(s: &mut [u64], x: ReadReq) -> bool
     requires { held_words ≤ length s.old }
     ensures { Pushes s.old (read_of x) result s.new }
@@ -70,6 +63,7 @@ pub fn push(s: &mut [u64], x: ReadReq) -> bool
     true
 }
 
+#[tactic(auto, using(crate::proofs::Laws::cleared))]
 pub fn clear(s: &mut [u64])
     requires { held_words ≤ length s.old }
     ensures { (reads_of s.new ≡ []) × (s.new ≡ set s.old 0 0) }

@@ -1,5 +1,5 @@
 -- A slot's batch: what is stored is read back, a request goes after the others, and the last Put of a key from the end.
-use Rattle.std.specs.Prelude.{if◌then◌else◌}
+use Rattle.std.specs.Prelude.{if◌then◌else◌, is_some}
 use mathlib.Core.Path.{◌≡◌, refl, sym, ap, ◌∙◌}
 use mathlib.Core.Bool.{Bool, true, false, true≢false}
 use mathlib.Core.Logic.{inr}
@@ -14,10 +14,13 @@ use lib.Seq.{get_or-set_other}
 use Rattle.words.specs.Choice.{if_none◌then◌else◌}
 use Rattle.words.specs.Counted.{count_of, length_counted, counted_push, counted_clear}
 use Rattle.words.specs.Tab.{tab, tab_snoc}
-use Rattle.words.specs.Writes.{writes, Agrees, writes_other, writes_same}
+use Rattle.words.specs.Writes.{writes, Agrees, writes_other, writes_same, writes_append, length_writes}
+use Rattle.words.proofs.Laws.{writes_is}
+use Rattle.std.proofs.lemmas.List.{drop-drop}
+use borrow.Rule.Slice.PartMut.{put_mid}
 use Rattle.layout.specs.Layout.{request_places, request_row, batch_words}
 use Rattle.keys.specs.Same.{same_bytes}
-use Rattle.key_words.specs.Key.{key_at, bytes_of}
+use Rattle.key_words.specs.Key.{key_at, bytes_of, words_of}
 use Rattle.key_words.specs.declared.Key.{Key}
 use Rattle.key_words.proofs.Laws.{key_at_agrees, key_at_writes}
 use Rattle.bodega.specs.Localread.{last_put, put_of}
@@ -32,9 +35,9 @@ unfolding request_from
 near s' s p h =
     let a = h p (omega arith) (omega arith) in
     let b = h (p + 1) (omega arith) (omega arith) in
-    let d = h (p + 1 + 1) (omega arith) (omega arith) in
-    let e = h (p + 1 + 1 + 1) (omega arith) (omega arith) in
-    let k = key_at_agrees s' s (p + 1 + 1 + 1 + 1) (λ j x y. h j (omega arith) (omega arith)) in
+    let d = h (p + 2) (omega arith) (omega arith) in
+    let e = h (p + 3) (omega arith) (omega arith) in
+    let k = key_at_agrees s' s (p + 4) (λ j x y. h j (omega arith) (omega arith)) in
     rw (a, b, d, e, k)
 
 command_back : (c : Command) → command_at (kind_of c) (value_of c) ≡ command_of c
@@ -46,14 +49,14 @@ read_back : (s : List ℕ) (p : ℕ) (q : Request) → p + request_row ≤ lengt
 unfolding request_from
 read_back s p q h =
     let t : List ℕ = writes s p (request_words q) in
-    let s₄ : List ℕ = set (set (set (set s p q.client) (p + 1) q.request) (p + 1 + 1) (kind_of q.command)) (p + 1 + 1 + 1) (value_of q.command) in
-    let l : length s₄ ≡ length s = simp length-set in
+    let xs : List ℕ = q.client ∷ q.request ∷ kind_of q.command ∷ value_of q.command ∷ [] in
+    let w : writes (writes s p xs) (p + 4) (words_of q.key) ≡ t = writes_append s p xs (words_of q.key) in
     let f : (j i : ℕ) → j ≡ p + i → i < request_row → get_or t j 0 ≡ get_or (request_words q) i 0 = λ j i e b. rw e (writes_same s p (request_words q) i h b) in
     let a : get_or t p 0 ≡ q.client = f p 0 (omega arith) (omega arith) in
     let b : get_or t (p + 1) 0 ≡ q.request = f (p + 1) 1 (omega arith) (omega arith) in
-    let d : get_or t (p + 1 + 1) 0 ≡ kind_of q.command = f (p + 1 + 1) 2 (omega arith) (omega arith) in
-    let e : get_or t (p + 1 + 1 + 1) 0 ≡ value_of q.command = f (p + 1 + 1 + 1) 3 (omega arith) (omega arith) in
-    let k : key_at t (p + 1 + 1 + 1 + 1) ≡ q.key = key_at_writes s₄ (p + 1 + 1 + 1 + 1) q.key (omega (arith, l)) in
+    let d : get_or t (p + 2) 0 ≡ kind_of q.command = f (p + 2) 2 (omega arith) (omega arith) in
+    let e : get_or t (p + 3) 0 ≡ value_of q.command = f (p + 3) 3 (omega arith) (omega arith) in
+    let k : key_at t (p + 4) ≡ q.key = rw (← w) (key_at_writes (writes s p xs) (p + 4) q.key (omega (arith, length_writes s p xs))) in
     rw (a, b, d, e, k, command_back q.command)
 
 pub how_many : (s : List ℕ) → length (requests_of s) ≡ count_of request_places s
@@ -100,32 +103,33 @@ pub cleared : (s : List ℕ) → batch_words ≤ length s → requests_of (set s
 unfolding requests_of
 cleared s h = counted_clear request_from request_row request_places s (omega arith)
 
--- ---- the command at a kind and a value
-
-pub command_put : (kind value : ℕ) → kind ≡ 1 → machine.Put value ≡ command_at kind value
-command_put kind value h = rw (eq-eqb kind 1 h)
-
-pub command_get : (kind value : ℕ) → (kind ≡ 1 → ⊥) → machine.Get ≡ command_at kind value
-command_get kind value h = rw (ne_eqb kind 1 h)
+-- a row stored in two runs: its first words as one part, then the key
+pub stored : (s t u : List ℕ) (p kind value : ℕ) (q : Request) → p + request_row ≤ length s → kind ≡ kind_of q.command → value ≡ value_of q.command
+    → t ≡ q.client ∷ q.request ∷ kind ∷ value ∷ [] → u ≡ writes (put_mid p (p + 4 - p) s t) (p + 4) (words_of q.key) → u ≡ writes s p (request_words q)
+stored s t u p kind value q h e f g w =
+    let xs : List ℕ = q.client ∷ q.request ∷ kind_of q.command ∷ value_of q.command ∷ [] in
+    let n : p + 4 - p ≡ 4 = omega arith in
+    let x : t ≡ xs = rw (g, e, f) in
+    rw (w, n, x, drop-drop, ← (writes_is s p xs (omega arith))) (writes_append s p xs (words_of q.key))
 
 -- ---- the value that a request puts at a key
 
 abbrev PutAt : List ℕ → ℕ → Key → Option ℕ
 PutAt s i key = put_of (bytes_of key) (request_at s i) (request_at s i).command
 
-module _ (s : List ℕ) (i : ℕ) (key : Key) where
-  pub put_other : (get_or s (1 + i * request_row + 1 + 1) 0 ≡ 1 → ⊥) → None ≡ PutAt s i key
-  unfolding request_from
-  put_other h = rw (ne_eqb (get_or s (1 + i * request_row + 1 + 1) 0) 1 h)
+-- in the words of the code: q is the request that was read
+module _ (s : List ℕ) (i : ℕ) (key : Key) (q : Request) (e : request_of q ≡ request_at s i) where
+  put_of_read : put_of (bytes_of key) (request_of q) (command_of q.command) ≡ PutAt s i key
+  put_of_read = ap (λ (r : machine.Request). put_of (bytes_of key) r r.command) e
 
-  module _ (h : get_or s (1 + i * request_row + 1 + 1) 0 ≡ 1) (k : Key) (t : Bool) (e : k ≡ key_at s (1 + i * request_row + 1 + 1 + 1 + 1)) (q : t ≡ same_bytes (bytes_of k) (bytes_of key)) where
-    pub put_here : t ≡ true → Some (get_or s (1 + i * request_row + 1 + 1 + 1) 0) ≡ PutAt s i key
-    unfolding request_from
-    put_here y = rw (eq-eqb (get_or s (1 + i * request_row + 1 + 1) 0) 1 h, ← e, ← q, y)
+  pub put_get : q.command ≡ Get → None ≡ PutAt s i key
+  put_get h = sym (ap (λ (c : Command). put_of (bytes_of key) (request_of q) (command_of c)) h) ∙ put_of_read
 
-    pub put_away : t ≡ false → None ≡ PutAt s i key
-    unfolding request_from
-    put_away y = rw (eq-eqb (get_or s (1 + i * request_row + 1 + 1) 0) 1 h, ← e, ← q, y)
+  pub put_here : (v : ℕ) (t : Bool) → q.command ≡ Put v → t ≡ same_bytes (bytes_of q.key) (bytes_of key) → t ≡ true → Some v ≡ PutAt s i key
+  put_here v t h g y = sym (ap (λ (c : Command). put_of (bytes_of key) (request_of q) (command_of c)) h ∙ rw (← g, y)) ∙ put_of_read
+
+  pub put_away : (v : ℕ) (t : Bool) → q.command ≡ Put v → t ≡ same_bytes (bytes_of q.key) (bytes_of key) → t ≡ false → None ≡ PutAt s i key
+  put_away v t h g y = sym (ap (λ (c : Command). put_of (bytes_of key) (request_of q) (command_of c)) h ∙ rw (← g, y)) ∙ put_of_read
 
 -- ---- the last Put, from the end
 
@@ -170,8 +174,16 @@ module _ (s : List ℕ) (i : ℕ) (key : Key) (r : Option ℕ) (b : 0 < i) (told
       ap (λ (n : ℕ). last_put (bytes_of key) (tab (request_at s) 0 n)) m
       ∙ rw (tab_snoc (request_at s) 0 (i - 1), zero-add (i - 1), told) (last_snoc (bytes_of key) (tab (request_at s) 0 (i - 1)) (request_at s (i - 1)))
 
-  pub last_here : (v : ℕ) → r ≡ Some v → last_of s i (bytes_of key) ≡ Some v
-  last_here v e = cut ∙ rw e
+  pub last_here : is_some r ≡ true → r ≡ last_of s i (bytes_of key)
+  last_here h = go r h cut
+    where
+      go : (o : Option ℕ) → is_some o ≡ true → last_of s i (bytes_of key) ≡ (if_none o then last_of s (i - 1) (bytes_of key) else λ v. Some v) → o ≡ last_of s i (bytes_of key)
+      go None w c = cc
+      go (Some v) w c = sym c
 
-  pub last_next : r ≡ None → last_of s i (bytes_of key) ≡ last_of s (i - 1) (bytes_of key)
-  last_next e = cut ∙ rw e
+  pub last_next : is_some r ≡ false → last_of s i (bytes_of key) ≡ last_of s (i - 1) (bytes_of key)
+  last_next h = go r h cut
+    where
+      go : (o : Option ℕ) → is_some o ≡ false → last_of s i (bytes_of key) ≡ (if_none o then last_of s (i - 1) (bytes_of key) else λ v. Some v) → last_of s i (bytes_of key) ≡ last_of s (i - 1) (bytes_of key)
+      go None w c = c
+      go (Some v) w c = cc

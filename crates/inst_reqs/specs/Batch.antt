@@ -37,8 +37,8 @@ unfoldable pub request_from : List ℕ → ℕ → machine.Request
 request_from s p = record {
   client = get_or s p 0;
   request = get_or s (p + 1) 0;
-  key = bytes_of (key_at s (p + 1 + 1 + 1 + 1));
-  command = command_at (get_or s (p + 1 + 1) 0) (get_or s (p + 1 + 1 + 1) 0);
+  key = bytes_of (key_at s (p + 4));
+  command = command_at (get_or s (p + 2) 0) (get_or s (p + 3) 0);
 }
 
 abbrev pub request_at : List ℕ → ℕ → machine.Request

@@ -29,29 +29,21 @@ pub struct Request {
     pub key: Key,
 }
 
+#[tactic(auto, using(crate::proofs::Laws::how_many))]
 pub fn count(s: &[u64]) -> usize
     requires { batch_words ≤ length s.now }
     ensures { (result ≡ length (requests_of s.now)) × (result ≤ request_places) }
 {
-    let n = s[0];
-    if n <= BATCH as u64 { n as usize } else { BATCH }
+    s[0].min(BATCH as u64) as usize
 }
 
-fn kind_of(c: Command) -> u64
-    ensures { result ≡ kind_of c }
+// The kind and the value.
+fn command_words(c: Command) -> (u64, u64)
+    ensures { (result.0 ≡ kind_of c) × (result.1 ≡ value_of c) }
 {
     match c {
-        Command::Get => 0,
-        Command::Put(_v) => 1,
-    }
-}
-
-fn value_of(c: Command) -> u64
-    ensures { result ≡ value_of c }
-{
-    match c {
-        Command::Get => 0,
-        Command::Put(v) => v,
+        Command::Get => (0, 0),
+        Command::Put(v) => (1, v),
     }
 }
 
@@ -59,52 +51,40 @@ pub fn command_at(kind: u64, value: u64) -> Command
     ensures { command_of result ≡ command_at kind value }
 {
     if kind == 1 {
-        return Command::Put(value);
+        Command::Put(value)
+    } else {
+        Command::Get
     }
-    Command::Get
 }
 
 // The i-th request.
+#[tactic(auto, unfolding(crate::specs::Batch::request_from))]
 pub fn get(s: &[u64], i: usize) -> Request
     requires { (i < request_places) × (batch_words ≤ length s.now) }
     ensures { request_of result ≡ request_at s.now i }
 {
     let p = 1 + i * layout::REQUEST_ROW;
-    let p1 = p + 1;
-    let p2 = p1 + 1;
-    let p3 = p2 + 1;
-    let p4 = p3 + 1;
-    let command = command_at(s[p2], s[p3]);
-    let key = get_key(s, p4);
     Request {
         client: s[p],
-        request: s[p1],
-        command,
-        key,
+        request: s[p + 1],
+        command: command_at(s[p + 2], s[p + 3]),
+        key: get_key(s, p + 4),
     }
 }
 
+#[tactic(auto, using(crate::proofs::Laws::stored))]
 fn put(s: &mut [u64], i: usize, q: Request)
     requires { (i < request_places) × (batch_words ≤ length s.old) }
     ensures { s.new ≡ writes s.old (1 + i * request_row) (request_words q) }
 {
     let p = 1 + i * layout::REQUEST_ROW;
-    let p1 = p + 1;
-    let p2 = p1 + 1;
-    let p3 = p2 + 1;
-    let p4 = p3 + 1;
-    let command = q.command;
-    let key = q.key;
-    let kind = kind_of(command);
-    let value = value_of(command);
-    s[p] = q.client;
-    s[p1] = q.request;
-    s[p2] = kind;
-    s[p3] = value;
-    put_key(s, p4, key);
+    let (kind, value) = command_words(q.command);
+    s[p..p + 4].copy_from_slice(&[q.client, q.request, kind, value]);
+    put_key(s, p + 4, q.key);
 }
 
 // A request after the others; false, and nothing changed, where there are eight.
+#[tactic(auto, using(crate::proofs::Laws::push_yes, crate::proofs::Laws::push_no))]
 pub fn push(s: &mut [u64], q: Request) -> bool
     requires { batch_words ≤ length s.old }
     ensures { Pushes s.old (request_of q) result s.new }
@@ -118,6 +98,7 @@ pub fn push(s: &mut [u64], q: Request) -> bool
     true
 }
 
+#[tactic(auto, using(crate::proofs::Laws::cleared))]
 pub fn clear(s: &mut [u64])
     requires { batch_words ≤ length s.old }
     ensures { (requests_of s.new ≡ []) × (s.new ≡ set s.old 0 0) }
@@ -126,22 +107,16 @@ pub fn clear(s: &mut [u64])
 }
 
 // The value that the i-th request puts at a key.
+#[tactic(auto, using(crate::proofs::Laws::put_get, crate::proofs::Laws::put_here, crate::proofs::Laws::put_away))]
 fn put_at(s: &[u64], i: usize, key: Key) -> Option<u64>
     requires { (i < request_places) × (batch_words ≤ length s.now) }
     ensures { result ≡ put_of (bytes_of key) (request_at s.now i) (request_at s.now i).command }
 {
-    let p = 1 + i * layout::REQUEST_ROW;
-    let p1 = p + 1;
-    let p2 = p1 + 1;
-    let p3 = p2 + 1;
-    let p4 = p3 + 1;
-    if s[p2] != 1 {
-        return None;
+    let q = get(s, i);
+    match q.command {
+        Command::Put(v) if key_words::same(q.key, key) => Some(v),
+        _ => None,
     }
-    if key_words::same(get_key(s, p4), key) {
-        return Some(s[p3]);
-    }
-    None
 }
 
 // The value of the last Put of a key among the first n requests.
@@ -149,25 +124,20 @@ pub fn last_put_among(s: &[u64], n: usize, key: Key) -> Option<u64>
     requires { (n ≤ request_places) × (batch_words ≤ length s.now) }
     ensures { result ≡ last_put (bytes_of key) (tab (request_at s.now) 0 n) }
 {
-    let mut i = n;
-    while 0 < i {
-        i = i - 1;
+    for i in (0..n).rev() {
         let put = put_at(s, i, key);
-        match put {
-            Some(v) => {
-                return Some(v);
-            }
-            None => {}
+        if put.is_some() {
+            return put;
         }
     }
     None
 }
 
 // The value of the last Put of a key.
+#[tactic(auto, using(crate::proofs::Laws::last_all))]
 pub fn last_put(s: &[u64], key: Key) -> Option<u64>
     requires { batch_words ≤ length s.now }
     ensures { result ≡ last_put (bytes_of key) (requests_of s.now) }
 {
-    let n = count(s);
-    last_put_among(s, n, key)
+    last_put_among(s, count(s), key)
 }

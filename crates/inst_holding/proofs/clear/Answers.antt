@@ -1,6 +1,0 @@
-use Rattle.inst_holding.proofs.Laws as law
-use borrow.Author.Rules.{rules}
-use Rattle.inst_holding.proofs.clear.Goals as goal
-
-pub returns : goal.returns
-returns c = search (rules, law.cleared)
