@@ -9,11 +9,14 @@ use native.Mathlib.Nat.{mod-lt, mod-one, mod-eq_of_lt, div-eq_of_lt, div-lt_iff_
 use native.Mathlib.Numerals.{one-add}
 use native.Mathlib.Decide.{dec_lt, ℕ_discrete}
 use native.Mathlib.Omega.{arith}
-use borrow.Author.Tests.{lt-ltb, le-ltb, eq-eqb, ne_eqb, ltb-true, eqb-true}
-use lib.Dec.{eqb, ltb}
+use borrow.Author.Tests.{le-leb, lt-ltb, le-ltb, eq-eqb, ne_eqb, ltb-true, eqb-true}
+use lib.Dec.{eqb, leb, ltb}
 use lib.Arith.{digits_div, digits_mod}
 use lib.Pow.{pow_pos, pow_mono, pow-lt, pow-add, shl-shr, split, mod-pow-add}
-use lib.Bits.{bit_and, bit_or, and_step, or_step, and_shr, or_shr, or_add_and, and_high, and_lt, or_lt}
+use Rattle.std.specs.Int.{bit_not}
+use Rattle.std.proofs.lemmas.Nat.Bits.{bit_at_clear_same, bit_at_clear_other}
+use mir.Syntax.{w64}
+use lib.Bits.{and_le_l, bit_and, bit_or, and_step, or_step, and_shr, or_shr, or_add_and, and_high, and_lt, or_lt}
 use lib.Count.{ones, ones_cat, ones-le}
 use Rattle.bitmap.specs.Bitmap.{tally, every, get, mark, unmark, set_to, count, is_superset, fits}
 
@@ -161,10 +164,6 @@ set_out m r false h = sym (unmark_out m r h)
 pub set_true : (m r : ℕ) (flag : Bool) → r < 64 → flag ≡ true → bit_or m ((1 * 2 ^ r) % 2 ^ 64) ≡ set_to m r flag
 unfolding set_to
 set_true m r flag h e = rw (e, shifted r h) (sym (mark_or m r h))
-
-pub set_false : (m r : ℕ) (flag : Bool) → r < 64 → flag ≡ false → m - bit_and m ((1 * 2 ^ r) % 2 ^ 64) ≡ set_to m r flag
-unfolding set_to
-set_false m r flag h e = rw (e, shifted r h) (sym (unmark_and m r h))
 
 -- ---- get after set
 
@@ -414,13 +413,25 @@ mark_lt m r h = elim (dec_lt r 64) [
 pub unmark_lt : (m r : ℕ) → m < 2 ^ 64 → unmark m r < 2 ^ 64
 unmark_lt m r h = lt_of_le_of_lt (unmark_le m r) h
 
--- the code's tests
-pub fits_all : (m p : ℕ) → m < 2 ^ 64 → 64 ≤ p → true ≡ fits m p
-fits_all m p h l = sym (lt_fits m p (lt_of_lt_of_le h (pow_mono l)))
+pub set_false : (m r : ℕ) (flag : Bool) → m < 2 ^ 64 → r < 64 → flag ≡ false → bit_and m (bit_not w64 ((1 * 2 ^ r) % 2 ^ 64)) ≡ set_to m r flag
+unfolding set_to get
+set_false m r flag k h e = rw e (extensional cleared (unmark m r) (lt_of_le_of_lt (and_le_l m _) k) (unmark_lt m r k) each)
+  where
+    cleared : ℕ
+    cleared = bit_and m (bit_not w64 ((1 * 2 ^ r) % 2 ^ 64))
+
+    each : (j : ℕ) → j < 64 → get cleared j ≡ get (unmark m r) j
+    each j l = elim (ℕ_discrete j r) [
+      | yes s ↦ rw s (ap (λ (z : ℕ). eqb z 1) (bit_at_clear_same w64 m r h) ∙ sym (unmark_same m r h))
+      | no n ↦ ap (λ (z : ℕ). eqb z 1) (bit_at_clear_other w64 m r h j l n) ∙ sym (unmark_other m r j n)
+    ]
+
+pub fits_all : (m p : ℕ) → m < 2 ^ 64 → 64 ≤ p → leb 64 p ≡ fits m p
+fits_all m p h l = le-leb 64 p l ∙ sym (lt_fits m p (lt_of_lt_of_le h (pow_mono l)))
 
 pub fits_shift : (m p : ℕ) → p < 64 → ltb m ((1 * 2 ^ p) % 2 ^ 64) ≡ fits m p
 unfolding fits
 fits_shift m p h = rw (shifted p h)
 
-pub get_out : (m r : ℕ) → m < 2 ^ 64 → 64 ≤ r → false ≡ get m r
-get_out m r h l = sym (get_above m r (lt_of_lt_of_le h (pow_mono l)))
+pub get_out : (m r : ℕ) → m < 2 ^ 64 → 64 ≤ r → ltb r 64 ≡ get m r
+get_out m r h l = le-ltb r 64 l ∙ sym (get_above m r (lt_of_lt_of_le h (pow_mono l)))

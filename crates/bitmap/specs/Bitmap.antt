@@ -1,5 +1,5 @@
 -- Trusted: bitmap.rs, sets of replicas as numbers (document 01, port order 2).
-use Rattle.std.specs.Prelude.{ℕ, zero, suc, ◌+◌, ◌-◌, ◌/◌, ◌%◌, ◌^◌, Bool, true, false, ◌&&◌, ◌||◌, not, eqb, ltb, if◌then◌else◌}
+use Rattle.std.specs.Prelude.{ℕ, zero, suc, ◌+◌, ◌-◌, ◌/◌, ◌%◌, ◌^◌, Bool, true, ◌&&◌, ◌||◌, not, eqb, ltb, if◌then◌else◌}
 use Rattle.ids.specs.Limits.{replicas}
 
 -- how many of 0 .. n - 1 pass a test, and whether each of them does
