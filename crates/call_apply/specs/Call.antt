@@ -1,6 +1,5 @@
 -- Trusted: the call of the machine that a `Call` of the code is, with what is lent beside it.
 use Rattle.std.specs.Prelude.{Bool, ◌&&◌, List, ℕ}
-use Rattle.roster_conf.specs.Edits.{view as roster_of}
 use Rattle.req_batch.specs.Given.{given}
 use Rattle.bodega.specs.Replica as machine
 use Rattle.call_heartbeat.specs.Heartbeat.{fitting, carried}
@@ -10,7 +9,7 @@ use Rattle.call_apply.specs.declared.Call.{Call}
 use Rattle.call_apply.specs.declared.Call.TheVariants.{Heartbeat, Guard, Prepared, Record, Reply, Notice, Commit, Bars, Read, Release}
 
 abbrev pub call_of : Call → List ℕ → List ℕ → machine.Call
-call_of (Heartbeat peer ballot attached conf commit exec snap) rows text = machine.Heartbeat peer.0 ballot.0 (carried attached (roster_of conf rows)) commit.0 exec.0 snap.0
+call_of (Heartbeat peer ballot conf commit exec snap) rows text = machine.Heartbeat peer.0 ballot.0 (carried conf rows) commit.0 exec.0 snap.0
 call_of (Guard peer number bar) rows text = machine.Guard peer.0 number.0 bar.0
 call_of (Prepared ballot) rows text = machine.Prepared ballot.0
 call_of (Record slot ballot) rows text = machine.Record slot.0 ballot.0 (given rows text)
@@ -23,7 +22,7 @@ call_of (Release slot) rows text = machine.Release slot.0
 
 -- where this is false a call is refused, 2: a heartbeat's roster must be whole besides
 abbrev pub ready_for : Call → List ℕ → Node → List ℕ → Bool
-ready_for (Heartbeat peer ballot attached conf commit exec snap) rows = λ n m. ready n m && fitting attached conf.count rows
+ready_for (Heartbeat peer ballot conf commit exec snap) rows = λ n m. ready n m && fitting conf rows
 ready_for (Guard peer number bar) rows = ready
 ready_for (Prepared ballot) rows = ready
 ready_for (Record slot ballot) rows = ready

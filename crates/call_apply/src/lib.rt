@@ -6,14 +6,14 @@ ghost use Rattle.bodega.specs.Answers.{Answers};
 ghost use Rattle.node.specs.View.{view, given_of};
 ghost use Rattle.call_apply.specs.Call.{call_of, ready_for};
 
-use ids::{Ballot, Replica, Slot};
-use node::{Taken, Node};
+use ids::{Ballot, Refusal, Replica, Slot};
+use node::{Node, Taken};
 use roster_conf::RespondersConf;
 
 #[derive(Clone, Copy)]
 pub enum Call {
-    // peer, ballot, whether a roster is attached, the roster, commit, exec and snap bar
-    Heartbeat(Replica, Ballot, bool, RespondersConf, Slot, Slot, Slot),
+    // peer, ballot, the roster where one is attached, commit, exec and snap bar
+    Heartbeat(Replica, Ballot, Option<RespondersConf>, Slot, Slot, Slot),
     Guard(Replica, Ballot, Slot),
     Prepared(Ballot),
     Record(Slot, Ballot),
@@ -37,10 +37,9 @@ pub fn apply(
     ensures { Answers (ready_for call rows.now) view (call_of call rows.now text.now) node mem.old area.old (given_of node result) mem.new area.new }
 {
     match call {
-        Call::Heartbeat(peer, ballot, attached, conf, commit, exec, snap) =>
-            call_heartbeat::heartbeat(
-                node, mem, area, peer, ballot, attached, conf, rows, commit, exec, snap,
-            ),
+        Call::Heartbeat(peer, ballot, conf, commit, exec, snap) => call_heartbeat::heartbeat(
+            node, mem, area, peer, ballot, conf, rows, commit, exec, snap,
+        ),
         Call::Guard(peer, number, bar) => call_guard::guard(node, mem, area, peer, number, bar),
         Call::Prepared(ballot) => call_prepared::prepared(node, mem, area, ballot),
         Call::Record(slot, ballot) => call_record::record(

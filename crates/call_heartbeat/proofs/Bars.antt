@@ -30,23 +30,7 @@ use Rattle.heard_new_conf.specs.Does.{Does}
 use Rattle.heard_new_conf.proofs.Laws.{readied}
 
 abbrev pub snapped : Node → Slot → Node
-snapped n s =
-    record {
-      id = n.id;
-      population = n.population;
-      quorum = n.quorum;
-      bodega_conf = n.bodega_conf;
-      bal_max_seen = n.bal_max_seen;
-      bal_prep_sent = n.bal_prep_sent;
-      bal_prepared = n.bal_prepared;
-      start_slot = n.start_slot;
-      accept_bar = n.accept_bar;
-      commit_bar = n.commit_bar;
-      exec_bar = n.exec_bar;
-      snap_bar = s;
-      peer_accept_max = n.peer_accept_max;
-      slots = n.slots;
-    }
+snapped n s = record n { snap_bar = s }
 
 module _ (n : Node) (m : List ℕ) (y : ready n m ≡ true) (ballot commit exec : ℕ) where
   abbrev words : List ℕ

@@ -1,18 +1,20 @@
 -- *heartbeat*: its parts one after the other, and the one statement for a call that a roster may be attached to.
-use Rattle.std.specs.Prelude.{if◌then◌else◌}
+use Rattle.std.specs.Prelude.{if◌then◌else◌, Option, None, Some, Result, Ok, Err, IsErrAnd}
 use mathlib.Core.Path.{◌≡◌, refl, sym, ap, ◌∙◌}
-use mathlib.Core.Bool.{Bool, true, false, not, ◌&&◌, ◌||◌}
+use mathlib.Core.Bool.{Bool, true, false, ◌&&◌, ◌||◌}
 use mathlib.Core.List.{List}
-use Rattle.std.specs.Prelude.{Some}
 use Prim.Native.Nat.{ℕ, ◌+◌, ◌*◌, ◌≤◌, ◌<◌}
 use native.Mathlib.Omega.{arith}
 use lib.Dec.{leb}
 use lib.ListN.{length, length-append}
-use borrow.Author.Tests.{lt-ltb, le-ltb, le-leb, leb-false, not-true, not-false}
+use borrow.Author.Tests.{lt-ltb, le-ltb, le-leb, leb-false}
 use Rattle.layout.specs.Layout.{slots_at, slot_words}
 use Rattle.words.specs.Writes.{length_writes}
 use Rattle.words.specs.Part.{part}
 use Rattle.ids.specs.Leader.{leader_of}
+use Rattle.ids.specs.Refusal.{number_of}
+use Rattle.ids.specs.declared.Refusal.{Refusal}
+use Rattle.ids.specs.declared.Refusal.TheVariants.{NotReady, WindowFull, AreaTooSmall}
 use Rattle.items.specs.Item.{encode, places}
 use Rattle.roster_conf.specs.Conf.{Conf, leads}
 use Rattle.roster_conf.specs.Edits.{view as roster_of}
@@ -20,59 +22,59 @@ use Rattle.roster_conf.specs.declared.RespondersConf.{RespondersConf}
 use Rattle.bodega.specs.Replica as machine
 use Rattle.bodega.specs.Replica.{◌and_then◌}
 use Rattle.bodega.specs.Conflease.{any_open, heard_new_conf}
-use Rattle.bodega.specs.Heartbeat.{installs, heard_bars}
-use Rattle.bodega.specs.Grounds.{far, foreign_leader, appends, no_room, grounds}
+use Rattle.bodega.specs.Heartbeat.{heard_bars}
+use Rattle.bodega.specs.Grounds.{far, foreign_leader, no_room, grounds}
 use Rattle.bodega.specs.Step.{Step, Refused, Taken, effect}
 use Rattle.bodega.specs.Answers.{Given, due, Follows, Answers}
 use Rattle.insts.proofs.Laws.{length_insts}
 use Rattle.advance_commit_bar.proofs.Items.{items_then}
 use Rattle.node.specs.declared.Node.{Node}
-use Rattle.node.specs.View.{view, ready, lowest, leads_it}
-use Rattle.words.proofs.Tests.{and_both}
-use Rattle.node.proofs.Calls.{is_ready, refused_by, few_places, taken_with, taken_by, none_applies}
+use Rattle.node.specs.declared.Taken as node
+use Rattle.node.specs.View.{view, ready, taken_of, given_of, lowest, leads_it}
+use Rattle.node.proofs.Calls.{is_ready, number-not-0, refused_by, few_places, taken_with, taken_by, none_applies}
 use Rattle.become_a_leader.specs.StepUp.{slots_after}
 use Rattle.heard_new_conf.specs.Does.{Does, whole}
-use Rattle.call_heartbeat.proofs.Refusals.{whole_if, before_15, number_15}
+use Rattle.call_heartbeat.proofs.Refusals.{before_15, number_15}
 use Rattle.call_heartbeat.proofs.Machine.{effect_is, me_same, none_count, leading_count, following_count, both_count}
-use Rattle.call_heartbeat.specs.Heartbeat.{fitting, carried, early, appending, conf_by, heard_by, Installable}
+use Rattle.call_heartbeat.specs.Heartbeat.{fitting, carried, early, installed, appending, conf_by, heard_by, Installable}
 
 -- ---- the items counted
 
-module _ (n : Node) (m : List ℕ) (ballot commit exec : ℕ) (i : Bool) (c : RespondersConf) where
-  abbrev Counts : ℕ → Type 0
-  Counts r = (peer snap : ℕ) (rows : List ℕ) → r ≡ length (heard_by i (roster_of c rows) peer ballot commit exec snap (view n m)).items
+module _ (n : Node) (m : List ℕ) (ballot commit exec : ℕ) where
+  abbrev Counts : Option RespondersConf → ℕ → Type 0
+  Counts o r = (peer snap : ℕ) (rows : List ℕ) → r ≡ length (heard_by (carried o rows) peer ballot commit exec snap (view n m)).items
 
-  pub bars_only : not i ≡ true → (k : ℕ) → ((peer snap : ℕ) → k ≡ length (heard_bars peer ballot commit exec snap (view n m)).items) → Counts k
-  bars_only f k e peer snap rows = rw (not-true i f) (e peer snap ∙ sym (ap length (none_count peer ballot commit exec snap (roster_of c rows) (view n m))))
+  pub bars_only : (o : Option RespondersConf) → o ≡ None → (k : ℕ) → ((peer snap : ℕ) → k ≡ length (heard_bars peer ballot commit exec snap (view n m)).items) → Counts o k
+  bars_only o f k e peer snap rows = rw f (e peer snap ∙ sym (ap length (none_count peer ballot commit exec snap (view n m))))
 
-  module _ (f : not i ≡ false) (t : Bool) (g : t ≡ leads_it (leader_of c.leader) n.id.0) where
+  module _ (o : Option RespondersConf) (c : RespondersConf) (f : o ≡ Some c) (t : Bool) (g : t ≡ leads_it (leader_of c.leader) n.id.0) where
     leads_is : (rows : List ℕ) → leads (roster_of c rows) (view n m).me.id ≡ t
     unfolding view roster_of
     leads_is rows = sym g
 
-    pub step_up_count : t ≡ true → (k : ℕ) → ((b : ℕ) (rows : List ℕ) → k ≡ length (heard_new_conf (view n m) b (roster_of c rows)).items) → Counts k
+    pub step_up_count : t ≡ true → (k : ℕ) → ((b : ℕ) (rows : List ℕ) → k ≡ length (heard_new_conf (view n m) b (roster_of c rows)).items) → Counts o k
     step_up_count h k e peer snap rows =
-        rw (not-false i f) (e ballot rows ∙ sym (ap length (leading_count peer ballot commit exec snap (roster_of c rows) (view n m) (leads_is rows ∙ h))))
+        rw f (e ballot rows ∙ sym (ap length (leading_count peer ballot commit exec snap (view n m) (roster_of c rows) (leads_is rows ∙ h))))
 
-    pub bars_count : t ≡ false → (k : ℕ) → ((peer snap : ℕ) → k ≡ length (heard_bars peer ballot commit exec snap (view n m)).items) → Counts k
+    pub bars_count : t ≡ false → (k : ℕ) → ((peer snap : ℕ) → k ≡ length (heard_bars peer ballot commit exec snap (view n m)).items) → Counts o k
     bars_count h k e peer snap rows =
-        rw (not-false i f) (e peer snap ∙ sym (ap length (following_count peer ballot commit exec snap (roster_of c rows) (view n m) (leads_is rows ∙ h))))
+        rw f (e peer snap ∙ sym (ap length (following_count peer ballot commit exec snap (view n m) (roster_of c rows) (leads_is rows ∙ h))))
 
 -- ---- the roster
 
-module _ (n : Node) (m area : List ℕ) (y : ready n m ≡ true) (ballot : ℕ) (i : Bool) (c : RespondersConf) (rows : List ℕ) where
-  pub conf_same : not i ≡ true → Does (conf_by i (roster_of c rows) ballot (view n m)) 0 m area (record { number = 0; count = 0; node = n }) m area
+module _ (n : Node) (m area : List ℕ) (y : ready n m ≡ true) (ballot : ℕ) (o : Option RespondersConf) (rows : List ℕ) where
+  pub conf_same : o ≡ None → Does (conf_by (carried o rows) ballot (view n m)) 0 m area (record { number = 0; count = 0; node = n }) m area
   unfolding encode
-  conf_same f = rw (not-true i f) (record { number = refl; count = refl; next = refl; items = refl; size = refl; beyond = λ j l. refl; ready_again = y })
+  conf_same f = rw f (record { number = refl; count = refl; next = refl; items = refl; size = refl; beyond = λ j l. refl; ready_again = y })
 
-  module _ (f : not i ≡ false) where
-    pub conf_room : Installable i n m c rows → length (conf_by i (roster_of c rows) ballot (view n m)).items ≤ places area
+  module _ (c : RespondersConf) (f : o ≡ Some c) where
+    pub conf_room : Installable n m o rows → length (conf_by (carried o rows) ballot (view n m)).items ≤ places area
         → (ready n m ≡ true) × (whole c.count rows ≡ true) × (leads (roster_of c rows) n.id.0 ≡ true → slots_after n.slots (view n m).insts ≤ 32) × (length (heard_new_conf (view n m) ballot (roster_of c rows)).items ≤ places area)
-    conf_room q o = let z = not-false i f in (y, q.roster z, q.room z, rw z at o)
+    conf_room q p = (y, (let w = q.roster in rw f at w), q.room c f, rw f at p)
 
     pub conf_does : (g : Given Node) (m' area' : List ℕ) → Does (heard_new_conf (view n m) ballot (roster_of c rows)) 0 m area g m' area'
-        → Does (conf_by i (roster_of c rows) ballot (view n m)) 0 m area g m' area'
-    conf_does g m' area' x = rw (not-false i f) x
+        → Does (conf_by (carried o rows) ballot (view n m)) 0 m area g m' area'
+    conf_does g m' area' x = rw f x
 
 -- ---- one part after the other
 
@@ -90,16 +92,13 @@ does_then {d = d} f {area = area} {g = g} a b =
       ready_again = b.ready_again;
     }
 
-module _ (n : Node) (m area : List ℕ) (peer ballot : ℕ) (i : Bool) (c : RespondersConf) (rows : List ℕ) (commit exec snap : ℕ) (p : peer < n.population)
-    (o : length (heard_by i (roster_of c rows) peer ballot commit exec snap (view n m)).items ≤ places area) where
-  abbrev roster : Conf
-  roster = roster_of c rows
-
+module _ (n : Node) (m area : List ℕ) (peer ballot : ℕ) (conf : Option Conf) (commit exec snap : ℕ) (p : peer < n.population)
+    (o : length (heard_by conf peer ballot commit exec snap (view n m)).items ≤ places area) where
   abbrev first : machine.Done
-  first = conf_by i roster ballot (view n m)
+  first = conf_by conf ballot (view n m)
 
-  total : length (heard_by i roster peer ballot commit exec snap (view n m)).items ≡ length first.items + length (heard_bars peer ballot commit exec snap first.replica).items
-  total = both_count i roster peer ballot commit exec snap (view n m)
+  total : length (heard_by conf peer ballot commit exec snap (view n m)).items ≡ length first.items + length (heard_bars peer ballot commit exec snap first.replica).items
+  total = both_count conf peer ballot commit exec snap (view n m)
 
   pub first_room : length first.items ≤ places area
   first_room = omega (arith, total, o)
@@ -107,7 +106,7 @@ module _ (n : Node) (m area : List ℕ) (peer ballot : ℕ) (i : Bool) (c : Resp
   module _ (g : Given Node) (m₁ area₁ : List ℕ) (x : Does first 0 m area g m₁ area₁) where
     members : g.node.population ≡ n.population
     unfolding view
-    members = ap (λ (r : machine.Replica). r.me.population) x.next ∙ ap (λ (z : machine.Me). z.population) (me_same i roster ballot (view n m))
+    members = ap (λ (r : machine.Replica). r.me.population) x.next ∙ ap (λ (z : machine.Me). z.population) (me_same conf ballot (view n m))
 
     same_places : places area₁ ≡ places area
     same_places = ap places x.items ∙ rw (length_writes area (0 * 6) (encode first.items))
@@ -122,7 +121,7 @@ module _ (n : Node) (m area : List ℕ) (peer ballot : ℕ) (i : Bool) (c : Resp
       pub heard_size : length m₂ ≡ length m
       heard_size = z.size ∙ x.size
 
-      pub heard_does : Does (heard_by i roster peer ballot commit exec snap (view n m)) 0 m area (record { number = 0; count = g.count + h.count; node = h.node }) m₂ area₂
+      pub heard_does : Does (heard_by conf peer ballot commit exec snap (view n m)) 0 m area (record { number = 0; count = g.count + h.count; node = h.node }) m₂ area₂
       unfolding heard_by
       heard_does = does_then (heard_bars peer ballot commit exec snap) x z
 
@@ -132,7 +131,7 @@ module _ (call : machine.Call) (n : Node) (m area : List ℕ) (b : Bool) where
   abbrev both : Node → List ℕ → Bool
   both x y = ready x y && b
 
-  unready : both n m ≡ false → Answers both view call n m area (record { number = 2; count = 0; node = n }) m area
+  unready : both n m ≡ false → Answers both view call n m area (given_of n (Err NotReady)) m area
   unfolding due
   unready e = rw e (record { number = refl; count = refl; same_node = refl; same_mem = refl; same_area = refl })
 
@@ -163,123 +162,95 @@ or_left true b e = e
 or_left false b e = refl
 
 -- a step-up that 15 does not turn away has room
-slots_left : (r : machine.Replica) (peer ballot : ℕ) (c : Conf) (k : ℕ) → length r.insts ≡ k → k ≤ 32 → r.bal.max_seen ≤ ballot → installs r peer ballot c ≡ true
-    → leads c r.me.id ≡ true → appends r peer ballot (Some c) && no_room r ≡ false → slots_after k r.insts ≤ 32
-slots_left r peer ballot c k e w h i l s = go (any_open r.insts) refl
+slots_left : (r : machine.Replica) (ballot : ℕ) (c : Conf) (k : ℕ) → length r.insts ≡ k → k ≤ 32 → r.bal.max_seen ≤ ballot
+    → leads c r.me.id ≡ true → appending r ballot (Some c) && no_room r ≡ false → slots_after k r.insts ≤ 32
+slots_left r ballot c k e w h l s = go (any_open r.insts) refl
   where
     go : (o : Bool) → any_open r.insts ≡ o → slots_after k r.insts ≤ 32
     go true q = rw q w
     go false q =
-        let a : appends r peer ballot (Some c) ≡ true = simp (le-leb r.bal.max_seen ballot h, i, l, q) in
+        let a : appending r ballot (Some c) ≡ true = simp (le-leb r.bal.max_seen ballot h, l, q) in
         let n : no_room r ≡ false = ap (λ (x : Bool). x && no_room r) (sym a) ∙ s in
         let f = leb-false 32 (length r.insts) (or_left (leb 32 (length r.insts)) (far (machine.end r)) n) in
         rw q (omega (arith, f, e))
 
-module _ (n : Node) (m area : List ℕ) (peer ballot : ℕ) (b : Bool) (c : RespondersConf) (rows : List ℕ) (commit exec snap : ℕ) (t : Bool) (e : t ≡ ready n m) where
+module _ (n : Node) (m area : List ℕ) (peer ballot : ℕ) (o : Option RespondersConf) (rows : List ℕ) (commit exec snap : ℕ) where
+  abbrev conf : Option Conf
+  conf = carried o rows
+
   abbrev beat : machine.Call
-  beat = machine.Heartbeat peer ballot (carried b (roster_of c rows)) commit exec snap
+  beat = machine.Heartbeat peer ballot conf commit exec snap
 
   abbrev fits : Bool
-  fits = fitting b c.count rows
+  fits = fitting o rows
 
   abbrev Gives : Given Node → List ℕ → List ℕ → Type 0
   Gives g m' area' = Answers (λ x y. ready x y && fits) view beat n m area g m' area'
 
-  pub not_ready : not t ≡ true → Gives (record { number = 2; count = 0; node = n }) m area
-  not_ready f = unready beat n m area fits (ap (λ (k : Bool). k && fits) (sym e ∙ not-true t f))
+  pub not_whole : ready n m && fits ≡ false → Gives (given_of n (Err NotReady)) m area
+  not_whole = unready beat n m area fits
 
-  module _ (f : not t ≡ false) (u : Bool) (v : u ≡ fits) where
-    y : ready n m ≡ true
-    y = sym e ∙ not-false t f
+  module _ (y : ready n m ≡ true) (fine : fits ≡ true) where
+    pub beat_refused : (x : Refusal) (z : Result node.Taken Refusal) → number_of x ≡ lowest (early n.population n.bal_max_seen.0 peer ballot conf commit exec snap) → IsErrAnd z (λ u. u ≡ x)
+        → Gives (given_of n z) m area
+    beat_refused x z g w =
+        answers_both beat n m area fits fine (given_of n z) m area
+        (refused_by beat n m area true (sym y) refl x z (before_15 n m peer ballot conf commit exec snap (number_of x) g (number-not-0 x)) w)
 
-    pub not_fitting : not u ≡ true → Gives (record { number = 2; count = 0; node = n }) m area
-    not_fitting w = unready beat n m area fits (ap (λ (k : Bool). k && fits) y ∙ sym v ∙ not-true u w)
+    module _ (g : 0 ≡ lowest (early n.population n.bal_max_seen.0 peer ballot conf commit exec snap)) (i : Option Conf) (j : i ≡ installed (view n m) peer ballot conf) (s : Bool)
+        (a : s ≡ appending (view n m) ballot i && no_room (view n m)) where
+      told : (if s then 15 else 0) ≡ lowest (grounds (view n m) beat)
+      told = number_15 n m peer ballot conf commit exec snap 0 g refl s (a ∙ ap (λ (k : Option Conf). appending (view n m) ballot k && no_room (view n m)) j)
 
-    module _ (w : not u ≡ false) where
-      fine : fits ≡ true
-      fine = sym v ∙ not-false u w
+      pub beat_15 : s ≡ true → Gives (given_of n (Err WindowFull)) m area
+      beat_15 x =
+          answers_both beat n m area fits fine (given_of n (Err WindowFull)) m area
+          (refused_by beat n m area true (sym y) refl WindowFull (Err WindowFull) (sym (rw x) ∙ told) refl)
 
-      pub both_ready : (ready n m ≡ true) × (fits ≡ true)
-      both_ready = (y, fine)
+      module _ (x : s ≡ false) where
+        allowed : 0 ≡ lowest (grounds (view n m) beat)
+        allowed = sym (rw x) ∙ told
 
-      module _ (k : ℕ) (g : k ≡ lowest (early n.population n.bal_max_seen.0 peer ballot b (roster_of c rows) commit exec snap)) where
-        pub beat_refused : (k ≡ 0 → ⊥) → Gives (record { number = k; count = 0; node = n }) m area
-        beat_refused h =
-            answers_both beat n m area fits fine (record { number = k; count = 0; node = n }) m area
-            (refused_by beat n m area t e f k (before_15 n m peer ballot b c rows commit exec snap k g h) h)
+        pub lower_taken : ballot < n.bal_max_seen.0 → Gives (given_of n (Ok (record { node = n; count = 0 }))) m area
+        unfolding view
+        lower_taken h =
+            answers_both beat n m area fits fine (given_of n (Ok (record { node = n; count = 0 }))) m area
+            (taken_by beat n m allowed area true (sym y) refl (view n m) n m (effect_is (view n m) peer ballot conf commit exec snap ∙ rw (lt-ltb ballot n.bal_max_seen.0 h)) refl refl (λ j l. refl) y)
 
-        module _ (z : k ≡ 0) (i : Bool) (j : i ≡ b && installs (view n m) peer ballot (roster_of c rows)) (s : Bool)
-            (a : s ≡ appending (view n m) ballot i (leader_of c.leader) && no_room (view n m)) where
-          told : (if s then 15 else 0) ≡ lowest (grounds (view n m) beat)
-          told = number_15 n m peer ballot b c rows commit exec snap k g z i j s a
+        module _ (h : n.bal_max_seen.0 ≤ ballot) where
+          abbrev heard : machine.Done
+          heard = heard_by i peer ballot commit exec snap (view n m)
 
-          pub beat_15 : s ≡ true → Gives (record { number = 15; count = 0; node = n }) m area
-          beat_15 x =
-              answers_both beat n m area fits fine (record { number = 15; count = 0; node = n }) m area
-              (refused_by beat n m area t e f 15 (sym (rw x) ∙ told) (λ l. absurd (omega arith)))
+          heard_is : effect (view n m) beat ≡ heard
+          unfolding view
+          heard_is = effect_is (view n m) peer ballot conf commit exec snap ∙ rw (le-ltb ballot n.bal_max_seen.0 h, ← j)
 
-          module _ (x : s ≡ false) where
-            allowed : 0 ≡ lowest (grounds (view n m) beat)
-            allowed = sym (rw x) ∙ told
+          pub below : peer < n.population
+          unfolding grounds view
+          below = leb-false n.population peer (or_left (leb n.population peer) (foreign_leader n.population conf) (none_applies beat n m allowed).1.0)
 
-            pub lower_taken : ballot < n.bal_max_seen.0 → Gives (record { number = 0; count = 0; node = n }) m area
-            unfolding view
-            lower_taken h =
-                answers_both beat n m area fits fine (record { number = 0; count = 0; node = n }) m area
-                (taken_by beat n m area t e f 0 allowed refl (view n m) n m (effect_is (view n m) peer ballot b (roster_of c rows) commit exec snap ∙ rw (lt-ltb ballot n.bal_max_seen.0 h)) refl refl (λ j l. refl) y)
+          held : length (view n m).insts ≡ n.slots
+          unfolding view
+          held = length_insts n.start_slot.0 n.slots (part m slots_at slot_words)
 
-            module _ (h : n.bal_max_seen.0 ≤ ballot) where
-              abbrev heard : machine.Done
-              heard = heard_by i (roster_of c rows) peer ballot commit exec snap (view n m)
+          seen_is : (view n m).bal.max_seen ≤ ballot
+          unfolding view
+          seen_is = h
 
-              heard_is : effect (view n m) beat ≡ heard
-              unfolding view
-              heard_is = effect_is (view n m) peer ballot b (roster_of c rows) commit exec snap ∙ rw (le-ltb ballot n.bal_max_seen.0 h, j)
+          pub room : (c : Conf) → i ≡ Some c → leads c n.id.0 ≡ true → slots_after n.slots (view n m).insts ≤ 32
+          unfolding view
+          room c q l = slots_left (view n m) ballot c n.slots held (is_ready n m true (sym y) refl).window seen_is l (sym (rw (← q) a) ∙ x)
 
-              pub below : peer < n.population
-              unfolding grounds view
-              below = leb-false n.population peer (or_left (leb n.population peer) (foreign_leader n.population (carried b (roster_of c rows))) (none_applies beat n m 0 allowed refl).1.0)
+          module _ (q : ℕ) (p : q ≡ length heard.items) where
+            pub beat_20 : places area < q → Gives (given_of n (Err AreaTooSmall)) m area
+            beat_20 l = answers_both beat n m area fits fine (given_of n (Err AreaTooSmall)) m area (few_places beat n m allowed area true (sym y) refl (rw (heard_is, ← p) l))
 
-              not_15 : appends (view n m) peer ballot (carried b (roster_of c rows)) && no_room (view n m) ≡ false
-              unfolding grounds
-              not_15 = (none_applies beat n m 0 allowed refl).1.1.1.1.1.0
+            module _ (l : q ≤ places area) where
+              pub heard_room : length heard.items ≤ places area
+              heard_room = rw (← p) l
 
-              held : length (view n m).insts ≡ n.slots
-              unfolding view
-              held = length_insts n.start_slot.0 n.slots (part m slots_at slot_words)
-
-              seen_is : (view n m).bal.max_seen ≤ ballot
-              unfolding view
-              seen_is = h
-
-              own_leads : leads (roster_of c rows) n.id.0 ≡ true → leads (roster_of c rows) (view n m).me.id ≡ true
-              unfolding view
-              own_leads l = l
-
-              pub installable : Installable i n m c rows
-              installable =
-                  record {
-                    roster = λ x. whole_if b c.count rows fine (ap not (each x).0);
-                    room = λ x l. slots_left (view n m) peer ballot (roster_of c rows) n.slots held (is_ready n m t e f).window seen_is (each x).1 (own_leads l)
-                        (sym (ap (λ (a : Bool). appends (view n m) peer ballot (carried a (roster_of c rows)) && no_room (view n m)) (each x).0) ∙ not_15);
-                  }
-                where
-                  each : i ≡ true → (b ≡ true) × (installs (view n m) peer ballot (roster_of c rows) ≡ true)
-                  each x = and_both b (installs (view n m) peer ballot (roster_of c rows)) (sym j ∙ x)
-
-              module _ (q : ℕ) (o : (p r : ℕ) (l : List ℕ) → q ≡ length (heard_by i (roster_of c l) p ballot commit exec r (view n m)).items) where
-                counted : q ≡ length heard.items
-                counted = o peer snap rows
-
-                pub beat_20 : places area < q → Gives (record { number = 20; count = 0; node = n }) m area
-                beat_20 l = answers_both beat n m area fits fine (record { number = 20; count = 0; node = n }) m area (few_places beat n m area t e f 0 allowed refl (rw (heard_is, ← counted) l))
-
-                module _ (l : q ≤ places area) where
-                  pub heard_room : (ready n m ≡ true) × (peer < n.population) × Installable i n m c rows × (length heard.items ≤ places area)
-                  heard_room = (y, below, installable, rw (← counted) l)
-
-                  pub beat_taken : (r : Given Node) (m' area' : List ℕ) → Does heard 0 m area r m' area' → Gives r m' area'
-                  beat_taken r m' area' d =
-                      answers_both beat n m area fits fine r m' area'
-                      (rw (d.number, d.count)
-                      (taken_with beat n m area t e f 0 allowed refl heard.replica heard.items r.node m' area' heard_is (rw (← counted) l) d.next d.items d.size d.beyond d.ready_again))
+              pub beat_taken : (r : node.Taken) (m' area' : List ℕ) → Does heard 0 m area (taken_of r) m' area' → Gives (given_of n (Ok r)) m' area'
+              beat_taken r m' area' d =
+                  answers_both beat n m area fits fine (given_of n (Ok r)) m' area'
+                  (rw d.count
+                  (taken_with beat n m allowed area true (sym y) refl heard.replica heard.items r.node m' area' heard_is (rw (← p) l) d.next d.items d.size d.beyond d.ready_again))

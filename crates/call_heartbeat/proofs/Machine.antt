@@ -1,7 +1,7 @@
 -- A heartbeat of a whole replica: the roster, then the bars; how many items.
-use Rattle.std.specs.Prelude.{if◌then◌else◌}
+use Rattle.std.specs.Prelude.{if◌then◌else◌, Option, None, Some}
 use mathlib.Core.Path.{◌≡◌, refl, sym, ap, ◌∙◌}
-use mathlib.Core.Bool.{Bool, true, false, ◌&&◌}
+use mathlib.Core.Bool.{Bool, true, false}
 use mathlib.Core.List.{List, [], ◌++◌, append-nil}
 use Prim.Native.Nat.{ℕ, ◌+◌}
 use lib.Dec.{ltb, eqb}
@@ -13,19 +13,29 @@ use Rattle.bodega.specs.Conflease.{update_peer_accept_max, adopted, heard_new_co
 use Rattle.bodega.specs.Heartbeat.{advance_commit_bar, installs, heard_conf, heard_snap_bar, heard_exec_bar, heard_bars, heard_heartbeat}
 use Rattle.bodega.specs.Step.{effect}
 use Rattle.heard_new_conf.proofs.Machine.{heard_following, heard_me, advance_leading}
-use Rattle.call_heartbeat.specs.Heartbeat.{carried, conf_by, heard_by}
+use Rattle.call_heartbeat.specs.Heartbeat.{installed, conf_by, heard_by}
 
-pub effect_is : (r : Replica) (peer ballot : ℕ) (t : Bool) (c : Conf) (commit exec snap : ℕ)
-    → effect r (Heartbeat peer ballot (carried t c) commit exec snap)
-    ≡ (if ltb ballot r.bal.max_seen then done r [] else heard_by (t && installs r peer ballot c) c peer ballot commit exec snap r)
-unfolding effect heard_heartbeat heard_conf heard_by
-effect_is r peer ballot true c commit exec snap = refl
-effect_is r peer ballot false c commit exec snap = refl
+-- the roster that is installed is adopted
+adopts : (r : Replica) (ballot : ℕ) (c : Conf) (b : Bool) → (if b then heard_new_conf r ballot c else done r []) ≡ conf_by (if b then Some c else None) ballot r
+adopts r ballot c true = refl
+adopts r ballot c false = refl
+
+conf_is : (r : Replica) (peer ballot : ℕ) (conf : Option Conf) → heard_conf r peer ballot conf ≡ conf_by (installed r peer ballot conf) ballot r
+unfolding heard_conf
+conf_is r peer ballot None = refl
+conf_is r peer ballot (Some c) = adopts r ballot c (installs r peer ballot c)
+
+pub effect_is : (r : Replica) (peer ballot : ℕ) (conf : Option Conf) (commit exec snap : ℕ)
+    → effect r (Heartbeat peer ballot conf commit exec snap)
+    ≡ (if ltb ballot r.bal.max_seen then done r [] else heard_by (installed r peer ballot conf) peer ballot commit exec snap r)
+unfolding effect heard_heartbeat heard_by
+effect_is r peer ballot conf commit exec snap =
+    ap (λ (d : Done). if ltb ballot r.bal.max_seen then done r [] else (d and_then heard_bars peer ballot commit exec snap)) (conf_is r peer ballot conf)
 
 -- an adoption changes neither the population nor the own number
-pub me_same : (t : Bool) (c : Conf) (ballot : ℕ) (r : Replica) → (conf_by t c ballot r).replica.me ≡ r.me
-me_same true c ballot r = heard_me r ballot c
-me_same false c ballot r = refl
+pub me_same : (o : Option Conf) (ballot : ℕ) (r : Replica) → (conf_by o ballot r).replica.me ≡ r.me
+me_same (Some c) ballot r = heard_me r ballot c
+me_same None ballot r = refl
 
 module _ (peer ballot commit exec snap : ℕ) where
   bars_items : (x : Replica) → (heard_bars peer ballot commit exec snap x).items ≡ (if ltb exec x.bar.exec then [] else (advance_commit_bar x ballot commit).items)
@@ -39,15 +49,15 @@ module _ (peer ballot commit exec snap : ℕ) where
       go true = refl
       go false = append-nil d.items
 
-  module _ (c : Conf) (r : Replica) where
-    pub none_count : (heard_by false c peer ballot commit exec snap r).items ≡ (heard_bars peer ballot commit exec snap r).items
+  module _ (r : Replica) where
+    pub none_count : (heard_by None peer ballot commit exec snap r).items ≡ (heard_bars peer ballot commit exec snap r).items
     unfolding heard_by
     none_count = refl
 
     -- a step-up leaves nothing to the walk
-    pub leading_count : leads c r.me.id ≡ true → (heard_by true c peer ballot commit exec snap r).items ≡ (heard_new_conf r ballot c).items
+    pub leading_count : (c : Conf) → leads c r.me.id ≡ true → (heard_by (Some c) peer ballot commit exec snap r).items ≡ (heard_new_conf r ballot c).items
     unfolding heard_by
-    leading_count e =
+    leading_count c e =
         ap (λ (l : List Item). (heard_new_conf r ballot c).items ++ l)
         (bars_items (heard_new_conf r ballot c).replica
         ∙ ap (λ (d : Done). if ltb exec (heard_new_conf r ballot c).replica.bar.exec then [] else d.items) (advance_leading r ballot c ballot commit e)
@@ -58,16 +68,16 @@ module _ (peer ballot commit exec snap : ℕ) where
         go true = refl
         go false = refl
 
-    pub following_count : leads c r.me.id ≡ false → (heard_by true c peer ballot commit exec snap r).items ≡ (heard_bars peer ballot commit exec snap r).items
+    pub following_count : (c : Conf) → leads c r.me.id ≡ false → (heard_by (Some c) peer ballot commit exec snap r).items ≡ (heard_bars peer ballot commit exec snap r).items
     unfolding heard_by update_peer_accept_max advance_commit_bar
-    following_count e =
+    following_count c e =
         ap (λ (d : Done). (d and_then heard_bars peer ballot commit exec snap).items) (heard_following r ballot c e)
         ∙ bars_items (adopted r ballot c) ∙ sym (bars_items r)
 
 -- the items of the roster's part and of the bars'
-pub both_count : (t : Bool) (c : Conf) (peer ballot commit exec snap : ℕ) (r : Replica)
-    → length (heard_by t c peer ballot commit exec snap r).items
-    ≡ length (conf_by t c ballot r).items + length (heard_bars peer ballot commit exec snap (conf_by t c ballot r).replica).items
+pub both_count : (o : Option Conf) (peer ballot commit exec snap : ℕ) (r : Replica)
+    → length (heard_by o peer ballot commit exec snap r).items
+    ≡ length (conf_by o ballot r).items + length (heard_bars peer ballot commit exec snap (conf_by o ballot r).replica).items
 unfolding heard_by
-both_count t c peer ballot commit exec snap r =
-    length-append (conf_by t c ballot r).items (heard_bars peer ballot commit exec snap (conf_by t c ballot r).replica).items
+both_count o peer ballot commit exec snap r =
+    length-append (conf_by o ballot r).items (heard_bars peer ballot commit exec snap (conf_by o ballot r).replica).items

@@ -2,20 +2,19 @@
 #![tactic(auto)]
 
 ghost use Rattle.std.specs.Prelude.{◌≡◌, true, ◌&&◌, ◌||◌, List, ℕ, ◌+◌, ◌≤◌, ◌<◌, leb, length};
-ghost use Rattle.ids.specs.Leader.{leader_of};
 ghost use Rattle.items.specs.Item.{places};
 ghost use Rattle.roster_conf.specs.Edits.{view as roster_of};
 ghost use Rattle.bodega.specs.Replica.{Heartbeat};
 ghost use Rattle.bodega.specs.Answers.{Answers};
 ghost use Rattle.bodega.specs.Heartbeat.{installs, heard_bars};
 ghost use Rattle.bodega.specs.Grounds.{far, unformed, foreign_leader, foreign_mask, no_room};
-ghost use Rattle.node.specs.View.{view, ready, given_of, lowest};
+ghost use Rattle.node.specs.View.{view, ready, taken_of, given_of, lowest};
 ghost use Rattle.heard_new_conf.specs.Does.{Does, whole};
-ghost use Rattle.call_heartbeat.specs.Heartbeat.{fitting, carried, lacks_roster, early, appending, conf_by, heard_by, Installable};
+ghost use Rattle.call_heartbeat.specs.Heartbeat.{fitting, carried, lacks_roster, early, installed, appending, conf_by, heard_by, Installable};
 ghost use Rattle.ids.specs.Refusal.{refused_by};
 
 use ids::{Ballot, Refusal, Replica, Slot};
-use node::{Taken, Node};
+use node::{Node, Taken};
 use roster_conf::RespondersConf;
 
 // ---- the bars
@@ -32,12 +31,12 @@ fn heard_bars(
     commit: Slot,
     exec: Slot,
     snap: Slot,
-) -> Result<Taken, Refusal>
+) -> Taken
     requires { (ready node mem.old ≡ true) × (peer.0 < node.population) × (place + length (heard_bars peer.0 ballot.0 commit.0 exec.0 snap.0 (view node mem.old)).items ≤ places area.old) }
-    ensures { Does (heard_bars peer.0 ballot.0 commit.0 exec.0 snap.0 (view node mem.old)) place mem.old area.old (given_of node result) mem.new area.new }
+    ensures { Does (heard_bars peer.0 ballot.0 commit.0 exec.0 snap.0 (view node mem.old)) place mem.old area.old (taken_of result) mem.new area.new }
 {
-    if exec.0 < node.exec_bar.0 {
-        return Ok(Taken { node, count: 0 });
+    if exec < node.exec_bar {
+        return Taken { node, count: 0 };
     }
     let end = advance_commit_bar::advance(
         &mut mem[layout::SLOTS_AT..layout::WRITTEN_AT],
@@ -49,20 +48,19 @@ fn heard_bars(
         ballot,
         commit,
     );
-    let id = node.id;
-    let own = node.snap_bar;
-    let heard = peer_exec_bar::heard_peer(
+    let snap_bar = peer_exec_bar::heard_peer(
         &mut mem[layout::EXECS_AT..layout::ROWS_AT],
         node.population,
-        id,
-        own,
+        node.id,
+        node.snap_bar,
         peer,
         exec,
         snap,
     );
-    let mut next = node;
-    next.snap_bar = heard;
-    Ok(Taken { node: next, count: end - place })
+    Taken {
+        node: Node { snap_bar, ..node },
+        count: end - place,
+    }
 }
 
 // How many items that has.
@@ -70,7 +68,7 @@ fn count_bars(node: Node, mem: &[u64], ballot: Ballot, commit: Slot, exec: Slot)
     requires { ready node mem.now ≡ true }
     ensures { (peer snap : ℕ) → result ≡ length (heard_bars peer ballot.0 commit.0 exec.0 snap (view node mem.now)).items }
 {
-    if exec.0 < node.exec_bar.0 {
+    if exec < node.exec_bar {
         return 0;
     }
     advance_commit_bar::count_commits(
@@ -86,16 +84,13 @@ fn count_bars(node: Node, mem: &[u64], ballot: Ballot, commit: Slot, exec: Slot)
 // ---- the roster, where one is attached
 
 // Whether there is none, or the lent rows hold it.
-fn is_fitting(attached: bool, conf: RespondersConf, rows: &[u64]) -> bool
-    ensures { result ≡ fitting attached conf.count rows.now }
+fn is_fitting(conf: Option<RespondersConf>, rows: &[u64]) -> bool
+    ensures { result ≡ fitting conf rows.now }
 {
-    if !attached {
-        return true;
+    match conf {
+        Some(c) => RespondersConf::WORDS <= rows.len() && c.count <= RespondersConf::RANGES,
+        None => true,
     }
-    if rows.len() < RespondersConf::WORDS {
-        return false;
-    }
-    conf.count <= RespondersConf::RANGES
 }
 
 // Whether a roster is to be installed: at a higher ballot, or another one of the ballot's proposer.
@@ -110,186 +105,131 @@ fn installs(
     requires { (ready node mem.now ≡ true) × (whole conf.count rows.now ≡ true) }
     ensures { result ≡ installs (view node mem.now) peer.0 ballot.0 (roster_of conf rows.now) }
 {
-    if node.bal_max_seen.0 < ballot.0 {
-        return true;
-    }
-    if !roster_compare::from_proposer(peer, ballot) {
-        return false;
-    }
-    let own = node.bodega_conf;
-    !roster_compare::same(conf, rows, own, &mem[layout::ROWS_AT..layout::SLOTS_AT])
+    node.bal_max_seen < ballot
+        || (roster_compare::from_proposer(peer, ballot)
+            && !roster_compare::same(conf, rows, node.bodega_conf, &mem[layout::ROWS_AT..layout::SLOTS_AT]))
 }
 
-fn is_installing(
+// The attached roster, where it is to be installed.
+fn installed(
     node: Node,
     mem: &[u64],
     peer: Replica,
     ballot: Ballot,
-    attached: bool,
-    conf: RespondersConf,
+    conf: Option<RespondersConf>,
     rows: &[u64],
-) -> bool
-    requires { (ready node mem.now ≡ true) × (fitting attached conf.count rows.now ≡ true) }
-    ensures { result ≡ attached && installs (view node mem.now) peer.0 ballot.0 (roster_of conf rows.now) }
+) -> Option<RespondersConf>
+    requires { (ready node mem.now ≡ true) × (fitting conf rows.now ≡ true) }
+    ensures { (carried result rows.now ≡ installed (view node mem.now) peer.0 ballot.0 (carried conf rows.now)) × (fitting result rows.now ≡ true) }
 {
-    if !attached {
-        return false;
-    }
-    installs(node, mem, peer, ballot, conf, rows)
+    let conf = conf?;
+    installs(node, mem, peer, ballot, conf, rows).then_some(conf)
 }
 
 // ---- refusals
 
 // 2.
-fn is_unformed(attached: bool, conf: RespondersConf, rows: &[u64]) -> bool
-    requires { fitting attached conf.count rows.now ≡ true }
-    ensures { result ≡ unformed (carried attached (roster_of conf rows.now)) }
+fn is_unformed(conf: Option<RespondersConf>, rows: &[u64]) -> bool
+    requires { fitting conf rows.now ≡ true }
+    ensures { result ≡ unformed (carried conf rows.now) }
 {
-    if !attached {
-        return false;
-    }
-    roster_compare::is_unformed(conf, rows)
+    conf.is_some_and(|c| roster_compare::is_unformed(c, rows))
 }
 
 // 3.
-fn is_foreign(population: u8, peer: Replica, attached: bool, conf: RespondersConf) -> bool
-    ensures { (rows : List ℕ) → result ≡ leb population peer.0 || foreign_leader population (carried attached (roster_of conf rows)) }
+fn is_foreign(population: u8, peer: Replica, conf: Option<RespondersConf>) -> bool
+    ensures { (rows : List ℕ) → result ≡ leb population peer.0 || foreign_leader population (carried conf rows) }
 {
-    if population <= peer.0 {
-        return true;
-    }
-    if !attached {
-        return false;
-    }
-    roster_compare::foreign_leader(population, conf)
+    population <= peer.0 || conf.is_some_and(|c| roster_compare::foreign_leader(population, c))
 }
 
 // 4.
-fn is_misfit(population: u8, attached: bool, conf: RespondersConf, rows: &[u64]) -> bool
-    requires { fitting attached conf.count rows.now ≡ true }
-    ensures { result ≡ foreign_mask population (carried attached (roster_of conf rows.now)) }
+fn is_misfit(population: u8, conf: Option<RespondersConf>, rows: &[u64]) -> bool
+    requires { fitting conf rows.now ≡ true }
+    ensures { result ≡ foreign_mask population (carried conf rows.now) }
 {
-    if !attached {
-        return false;
-    }
-    roster_compare::foreign_mask(population, conf, rows)
+    conf.is_some_and(|c| roster_compare::foreign_mask(population, c, rows))
 }
 
 // 8.
 fn is_far(commit: Slot, exec: Slot, snap: Slot) -> bool
     ensures { result ≡ far commit.0 || far exec.0 || far snap.0 }
 {
-    if Slot::TOP < commit {
-        return true;
-    }
-    if Slot::TOP < exec {
-        return true;
-    }
-    Slot::TOP < snap
+    Slot::TOP < commit || Slot::TOP < exec || Slot::TOP < snap
 }
 
 // 12.
-fn lacks_roster(seen: Ballot, ballot: Ballot, attached: bool) -> bool
-    ensures { result ≡ lacks_roster seen.0 ballot.0 attached }
+fn lacks_roster(seen: Ballot, ballot: Ballot, conf: Option<RespondersConf>) -> bool
+    ensures { result ≡ lacks_roster seen.0 ballot.0 conf }
 {
-    if ballot.0 <= seen.0 {
-        return false;
-    }
-    !attached
+    seen < ballot && conf.is_none()
 }
 
 // 15: for a null slot, at a step-up that finds no slot open.
-fn lacks_slot(
-    node: Node,
-    mem: &[u64],
-    ballot: Ballot,
-    installing: bool,
-    conf: RespondersConf,
-) -> bool
+fn lacks_slot(node: Node, mem: &[u64], ballot: Ballot, conf: Option<RespondersConf>) -> bool
     requires { ready node mem.now ≡ true }
-    ensures { result ≡ appending (view node mem.now) ballot.0 installing (leader_of conf.leader) && no_room (view node mem.now) }
+    ensures { (rows : List ℕ) → result ≡ appending (view node mem.now) ballot.0 (carried conf rows) && no_room (view node mem.now) }
 {
-    if node.bal_max_seen.0 > ballot.0 {
+    let Some(conf) = conf else {
         return false;
-    }
-    if !installing {
-        return false;
-    }
-    let leader = conf.leader;
-    let id = node.id;
-    if !node::leads(leader, id) {
-        return false;
-    }
-    let start = node.start_slot;
-    if insts::any_open(
-        &mem[layout::SLOTS_AT..layout::WRITTEN_AT],
-        start,
-        node.slots,
-    ) {
-        return false;
-    }
-    if Node::WINDOW <= node.slots {
-        return true;
-    }
-    Slot::TOP < start.0 + node.slots as u64
+    };
+    node.bal_max_seen <= ballot
+        && node::leads(conf.leader, node.id)
+        && !insts::any_open(&mem[layout::SLOTS_AT..layout::WRITTEN_AT], node.start_slot, node.slots)
+        && (Node::WINDOW <= node.slots || Slot::TOP.0 < node.start_slot.0 + node.slots as u64)
 }
 
-// The number of the first refusal before 15, 0 where there is none; what 2 says of buffers is not among them.
+// The first refusal before 15; what 2 says of buffers is not among them.
 fn early_refusal(
     population: u8,
     seen: Ballot,
     peer: Replica,
     ballot: Ballot,
-    attached: bool,
-    conf: RespondersConf,
+    conf: Option<RespondersConf>,
     rows: &[u64],
     commit: Slot,
     exec: Slot,
     snap: Slot,
 ) -> Result<(), Refusal>
-    requires { fitting attached conf.count rows.now ≡ true }
-    ensures { refused_by result ≡ lowest (early population seen.0 peer.0 ballot.0 attached (roster_of conf rows.now) commit.0 exec.0 snap.0) }
+    requires { fitting conf rows.now ≡ true }
+    ensures { refused_by result ≡ lowest (early population seen.0 peer.0 ballot.0 (carried conf rows.now) commit.0 exec.0 snap.0) }
 {
-    if is_unformed(attached, conf, rows) {
+    if is_unformed(conf, rows) {
         return Err(Refusal::NotReady);
     }
-    if is_foreign(population, peer, attached, conf) {
+    if is_foreign(population, peer, conf) {
         return Err(Refusal::NoSuchReplica);
     }
-    if is_misfit(population, attached, conf, rows) {
+    if is_misfit(population, conf, rows) {
         return Err(Refusal::MaskTooWide);
     }
     if is_far(commit, exec, snap) {
         return Err(Refusal::SlotTooLarge);
     }
-    if lacks_roster(seen, ballot, attached) {
+    if lacks_roster(seen, ballot, conf) {
         return Err(Refusal::RosterMissing);
     }
     Ok(())
 }
 
-// ---- `heard_heartbeat`
+// ---- `heard_heartbeat`, of the roster that is to be installed, if any
 
 // How many items a heartbeat has whose ballot is not lower.
 fn count_items(
     node: Node,
     mem: &[u64],
     ballot: Ballot,
-    installing: bool,
-    conf: RespondersConf,
+    conf: Option<RespondersConf>,
     commit: Slot,
     exec: Slot,
 ) -> usize
     requires { ready node mem.now ≡ true }
-    ensures { (peer snap : ℕ) (rows : List ℕ) → result ≡ length (heard_by installing (roster_of conf rows) peer ballot.0 commit.0 exec.0 snap (view node mem.now)).items }
+    ensures { (peer snap : ℕ) (rows : List ℕ) → result ≡ length (heard_by (carried conf rows) peer ballot.0 commit.0 exec.0 snap (view node mem.now)).items }
 {
-    if !installing {
-        return count_bars(node, mem, ballot, commit, exec);
-    }
-    let leader = conf.leader;
-    let id = node.id;
-    if node::leads(leader, id) {
-        return heard_new_conf::count_new_conf(node, mem, conf);
+    if let Some(c) = conf
+        && node::leads(c.leader, node.id)
+    {
+        return heard_new_conf::count_new_conf(node, mem, c);
     }
     count_bars(node, mem, ballot, commit, exec)
 }
@@ -300,17 +240,16 @@ fn heard_conf(
     mem: &mut [u64],
     area: &mut [u64],
     ballot: Ballot,
-    installing: bool,
-    conf: RespondersConf,
+    conf: Option<RespondersConf>,
     rows: &[u64],
-) -> Result<Taken, Refusal>
-    requires { (ready node mem.old ≡ true) × Installable installing node mem.old conf rows.now × (length (conf_by installing (roster_of conf rows.now) ballot.0 (view node mem.old)).items ≤ places area.old) }
-    ensures { Does (conf_by installing (roster_of conf rows.now) ballot.0 (view node mem.old)) 0 mem.old area.old (given_of node result) mem.new area.new }
+) -> Taken
+    requires { (ready node mem.old ≡ true) × Installable node mem.old conf rows.now × (length (conf_by (carried conf rows.now) ballot.0 (view node mem.old)).items ≤ places area.old) }
+    ensures { Does (conf_by (carried conf rows.now) ballot.0 (view node mem.old)) 0 mem.old area.old (taken_of result) mem.new area.new }
 {
-    if !installing {
-        return Ok(Taken { node, count: 0 });
+    match conf {
+        Some(c) => heard_new_conf::heard_new_conf(node, mem, area, ballot, c, rows),
+        None => Taken { node, count: 0 },
     }
-    heard_new_conf::heard_new_conf(node, mem, area, ballot, conf, rows)
 }
 
 // The roster, then the bars.
@@ -320,20 +259,18 @@ fn heard(
     area: &mut [u64],
     peer: Replica,
     ballot: Ballot,
-    installing: bool,
-    conf: RespondersConf,
+    conf: Option<RespondersConf>,
     rows: &[u64],
     commit: Slot,
     exec: Slot,
     snap: Slot,
-) -> Result<Taken, Refusal>
-    requires { (ready node mem.old ≡ true) × (peer.0 < node.population) × Installable installing node mem.old conf rows.now × (length (heard_by installing (roster_of conf rows.now) peer.0 ballot.0 commit.0 exec.0 snap.0 (view node mem.old)).items ≤ places area.old) }
-    ensures { Does (heard_by installing (roster_of conf rows.now) peer.0 ballot.0 commit.0 exec.0 snap.0 (view node mem.old)) 0 mem.old area.old (given_of node result) mem.new area.new }
+) -> Taken
+    requires { (ready node mem.old ≡ true) × (peer.0 < node.population) × Installable node mem.old conf rows.now × (length (heard_by (carried conf rows.now) peer.0 ballot.0 commit.0 exec.0 snap.0 (view node mem.old)).items ≤ places area.old) }
+    ensures { Does (heard_by (carried conf rows.now) peer.0 ballot.0 commit.0 exec.0 snap.0 (view node mem.old)) 0 mem.old area.old (taken_of result) mem.new area.new }
 {
-    let first = heard_conf(node, mem, area, ballot, installing, conf, rows);
-    let adopted = first.node;
+    let first = heard_conf(node, mem, area, ballot, conf, rows);
     let second = heard_bars(
-        adopted,
+        first.node,
         mem,
         area,
         first.count,
@@ -343,56 +280,50 @@ fn heard(
         exec,
         snap,
     );
-    let next = second.node;
-    Ok(Taken { node: next, count: first.count + second.count })
+    Taken {
+        node: second.node,
+        count: first.count + second.count,
+    }
 }
 
+// `rows` are the attached roster's, where one is attached.
 pub fn heartbeat(
     node: Node,
     mem: &mut [u64],
     area: &mut [u64],
     peer: Replica,
     ballot: Ballot,
-    attached: bool,
-    conf: RespondersConf,
+    conf: Option<RespondersConf>,
     rows: &[u64],
     commit: Slot,
     exec: Slot,
     snap: Slot,
 ) -> Result<Taken, Refusal>
-    ensures { Answers (λ n m. ready n m && fitting attached conf.count rows.now) view (Heartbeat peer.0 ballot.0 (carried attached (roster_of conf rows.now)) commit.0 exec.0 snap.0) node mem.old area.old (given_of node result) mem.new area.new }
+    ensures { Answers (λ n m. ready n m && fitting conf rows.now) view (Heartbeat peer.0 ballot.0 (carried conf rows.now) commit.0 exec.0 snap.0) node mem.old area.old (given_of node result) mem.new area.new }
 {
-    if !node::is_ready(node, mem) {
+    if !node::is_ready(node, mem) || !is_fitting(conf, rows) {
         return Err(Refusal::NotReady);
     }
-    if !is_fitting(attached, conf, rows) {
-        return Err(Refusal::NotReady);
-    }
-    let seen = node.bal_max_seen;
     early_refusal(
         node.population,
-        seen,
+        node.bal_max_seen,
         peer,
         ballot,
-        attached,
         conf,
         rows,
         commit,
         exec,
         snap,
     )?;
-    let installing = is_installing(node, mem, peer, ballot, attached, conf, rows);
-    if lacks_slot(node, mem, ballot, installing, conf) {
+    let conf = installed(node, mem, peer, ballot, conf, rows);
+    if lacks_slot(node, mem, ballot, conf) {
         return Err(Refusal::WindowFull);
     }
-    if ballot.0 < node.bal_max_seen.0 {
+    if ballot < node.bal_max_seen {
         return Ok(Taken { node, count: 0 });
     }
-    let count = count_items(node, mem, ballot, installing, conf, commit, exec);
-    if area.len() / 6 < count {
+    if area.len() / 6 < count_items(node, mem, ballot, conf, commit, exec) {
         return Err(Refusal::AreaTooSmall);
     }
-    heard(
-        node, mem, area, peer, ballot, installing, conf, rows, commit, exec, snap,
-    )
+    Ok(heard(node, mem, area, peer, ballot, conf, rows, commit, exec, snap))
 }
