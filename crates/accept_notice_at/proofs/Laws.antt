@@ -2,14 +2,17 @@
 use Rattle.std.specs.Prelude.{if◌then◌else◌}
 use mathlib.Core.Path.{◌≡◌, refl, sym, ap, ◌∙◌}
 use mathlib.Core.Bool.{Bool, true, false, not, ◌||◌, ◌&&◌}
-use mathlib.Core.List.{List, [], ◌∷◌, ◌++◌, append-nil}
+use mathlib.Core.List.{List, [], ◌++◌, append-nil}
 use Rattle.std.specs.Prelude.{Option, None, Some}
-use Prim.Native.Nat.{ℕ, zero, suc, ◌+◌, ◌-◌, ◌%◌, ◌≤◌, ◌<◌}
+use Prim.Native.Nat.{ℕ, ◌+◌, ◌-◌, ◌%◌, ◌≤◌, ◌<◌}
 use native.Mathlib.Omega.{arith}
 use lib.Dec.{ltb, leb, eqb}
 use lib.ListN.{length, set, replicate, length-append, length-replicate}
 use Rattle.std.specs.List.{slice_get}
-use borrow.Author.Tests.{lt-ltb, le-ltb, eq-eqb, ne_eqb, not-true, not-false}
+use Rattle.std.proofs.lemmas.Option.{slice_get_read}
+use Rattle.std.proofs.Math.Seq.{get_or-append_right}
+use Rattle.std.proofs.lemmas.List.{get_or-replicate}
+use borrow.Author.Tests.{lt-ltb, le-ltb, eq-eqb}
 use Rattle.words.specs.Choice.{if_none◌then◌else◌}
 use Rattle.words.specs.Writes.{writes}
 use Rattle.layout.specs.Layout.{slot_places, held_places, slot_words}
@@ -20,41 +23,13 @@ use Rattle.bodega.specs.Messages.{take_notice}
 use Rattle.inst_cell.specs.Cell.{Notices, Short, cell_of, book_of, status_of}
 use Rattle.inst_cell.specs.declared.Cell.{Cell}
 use Rattle.inst_cell.specs.declared.NoticeBook.{NoticeBook}
-use Rattle.accept_notices.specs.Book.{book_with, fresh_book, Takes}
+use Rattle.accept_notices.specs.Book.{book_with}
 use Rattle.insts.specs.Slots.{short_at, batch_at, reads_at, seen_reads, book_of as slot_book, inst_of, inst_in, insts_of, Puts}
 use Rattle.insts.proofs.Laws.{puts_then, short_after, here_is, moved, inst_at_lem, length_insts}
 use Rattle.release_held_reads.specs.Release.{holding_of, answers_of, emptied, Releases}
 use Rattle.release_held_reads.proofs.Laws.{length_answers}
 use Rattle.release_held_reads.proofs.Machine.{emptied_is}
-use Rattle.accept_notice_at.specs.Notices.{noticed_book, with_notice, applies, quorate, noticed_inst, noticed_items, padded, Noticed, noticed_at, after, Sets, Notes, NotesAt}
-
--- ---- one book
-
-module _ (bk : Option NoticeBook) (r : NoticeBook) (peer ballot : ℕ) where
-  abbrev Noted : Type 0
-  Noted = (held : List machine.ReadReq) → book_with r (seen_reads (book_of bk) held) ≡ noticed_book peer ballot (slot_book (book_of bk) held)
-
-  pub new_book_lem : (b : NoticeBook) → bk ≡ None → b ≡ fresh_book → Takes peer ballot b r → Noted
-  new_book_lem b e g f held = rw e (f [] ∙ ap (λ (k : NoticeBook). take_notice peer ballot (book_with k [])) g)
-
-  pub old_book : (b : NoticeBook) → bk ≡ Some b → Takes peer ballot b r → Noted
-  old_book b e f held = rw e (f held)
-
--- ---- whether a notice is one for a slot
-
-module _ (bal ballot : ℕ) (last : Bool) where
-  abbrev For : Bool → Type 0
-  For r = r ≡ eqb ballot bal || (eqb bal 0 && last)
-
-  pub same_ballot : ballot ≡ bal → For true
-  same_ballot h = simp (eq-eqb ballot bal h)
-
-  module _ (h : ballot ≡ bal → ⊥) where
-    pub other_ballot : (bal ≡ 0 → ⊥) → For false
-    other_ballot g = simp (ne_eqb ballot bal h, ne_eqb bal 0 g)
-
-    pub no_ballot : bal ≡ 0 → For last
-    no_ballot g = simp (ne_eqb ballot bal h, eq-eqb bal 0 g)
+use Rattle.accept_notice_at.specs.Notices.{noticed_book, with_notice, applies, quorate, noticed_inst, noticed_items, padded, Noticed, noticed_at, Sets, Notes, NotesAt}
 
 -- ---- the words of a place
 
@@ -134,12 +109,12 @@ module _ (s : List ℕ) (c : ℕ) (cell : Cell) (e : cell_of cell ≡ short_at s
     is_for = sym (f ∙ ap (λ (x : Short). eqb ballot x.bal || (eqb x.bal 0 && last)) e)
 
     -- it is not one for the slot
-    module _ (h : not t ≡ true) where
+    module _ (h : t ≡ false) where
       items_none : items ≡ []
       items_none = rw (is_for, h)
 
       pub due_none : 0 ≡ length items
-      due_none = sym (ap (λ (l : List Item). length l) items_none)
+      due_none = sym (ap length items_none)
 
       pub notes_none : (area : List ℕ) → Notes quorum leader peer ballot last c s area 0 s area
       unfolding encode
@@ -150,17 +125,17 @@ module _ (s : List ℕ) (c : ℕ) (cell : Cell) (e : cell_of cell ≡ short_at s
             slot = rw (is_for, h) (same_set s c);
           }
 
-    module _ (h : not t ≡ false) where
+    module _ (h : t ≡ true) where
       -- the number of items, before the notice is taken
       module _ (book : NoticeBook)
           (b : (held : List machine.ReadReq) → book_with book (seen_reads (book_of cell.replica_bk) held) ≡ noticed_book peer ballot (slot_book (book_of cell.replica_bk) held))
           (u : Bool) (g : u ≡ (if_none book_of (Some book) then false else λ x. leb quorum (count x.notices))) where
-        pub due_open : not u ≡ true → 0 ≡ length items
-        due_open k = rw (is_for, h, quorum_of book b quorum u g, not-true u k)
+        pub due_open : u ≡ false → 0 ≡ length items
+        due_open k = rw (is_for, h, quorum_of book b quorum u g, k)
 
-        pub due_reads : (n : ℕ) → not u ≡ false → (n ≡ length (holding_of here)) × (n ≤ held_places) → n ≡ length items
+        pub due_reads : (n : ℕ) → u ≡ true → (n ≡ length (holding_of here)) × (n ≤ held_places) → n ≡ length items
         due_reads n k p =
-            rw (is_for, h, quorum_of book b quorum u g, not-false u k) (p.0 ∙ sym (length_answers quorum leader noted ∙ ap (λ (l : List machine.ReadReq). length l) (holding_stays peer ballot here)))
+            rw (is_for, h, quorum_of book b quorum u g, k) (p.0 ∙ sym (length_answers quorum leader noted ∙ ap length (holding_stays peer ballot here)))
 
       -- once it is taken
       module _ (s₁ : List ℕ) (p : Sets s c noted s₁) (cell₁ : Cell) (e₁ : cell_of cell₁ ≡ short_at s₁ c)
@@ -175,58 +150,50 @@ module _ (s : List ℕ) (c : ℕ) (cell : Cell) (e : cell_of cell ≡ short_at s
             go None = refl
             go (Some k) = refl
 
-        module _ (k : not u ≡ true) where
+        module _ (k : u ≡ false) where
           items_open : items ≡ []
-          items_open = rw (is_for, h, quorum_here, not-true u k)
+          items_open = rw (is_for, h, quorum_here, k)
 
           left_open : noted ≡ left
-          left_open = rw (is_for, h, quorum_here, not-true u k)
+          left_open = rw (is_for, h, quorum_here, k)
 
           pub notes_open : (area : List ℕ) → Notes quorum leader peer ballot last c s area 0 s₁ area
           unfolding encode
           notes_open area =
               record {
-                count = sym (ap (λ (l : List Item). length l) items_open);
+                count = sym (ap length items_open);
                 items = ap (λ (l : List Item). writes area 0 (encode l)) (sym items_open);
                 slot = sets_as p left_open;
               }
 
-        module _ (k : not u ≡ false) where
+        module _ (k : u ≡ true) where
           items_are : items ≡ answers_of quorum leader (inst_in s₁ c)
-          items_are = rw (is_for, h, quorum_here, not-false u k) (ap (answers_of quorum leader) (sym p.inst))
+          items_are = rw (is_for, h, quorum_here, k) (ap (answers_of quorum leader) (sym p.inst))
 
           left_is : emptied (inst_in s₁ c) ≡ left
-          left_is = rw (is_for, h, quorum_here, not-false u k) (ap (λ (i : machine.Instance). emptied i) p.inst)
+          left_is = rw (is_for, h, quorum_here, k) (ap (λ (i : machine.Instance). emptied i) p.inst)
 
           module _ (area : List ℕ) where
             pub release_room : (c < slot_places) × (slot_words ≤ length s) × (length items ≤ places area)
                 → (c < slot_places) × (slot_words ≤ length s₁) × (0 + length (holding_of (inst_in s₁ c)) ≤ places area)
             release_room w =
-                let many : length items ≡ length (holding_of (inst_in s₁ c)) = ap (λ (l : List Item). length l) items_are ∙ length_answers quorum leader (inst_in s₁ c) in
+                let many : length items ≡ length (holding_of (inst_in s₁ c)) = ap length items_are ∙ length_answers quorum leader (inst_in s₁ c) in
                 (w.0, omega (arith, p.puts.size, w.1), omega (arith, many, w.2))
 
             pub notes_released : (r : ℕ) (v area' : List ℕ) → Releases quorum leader c 0 s₁ area r v area' → Notes quorum leader peer ballot last c s area r v area'
             notes_released r v area' x =
                 record {
-                  count = x.count ∙ ap (λ (l : List Item). length l) (sym items_are);
+                  count = x.count ∙ ap length (sym items_are);
                   items = x.items ∙ ap (λ (l : List Item). writes area 0 (encode l)) (sym items_are);
                   slot = sets_then p (sets_as (released_sets x) left_is);
                 }
 
 -- ---- the k-th of the slots from start on
 
-elem_last : (k : ℕ) → slice_get (replicate (suc k) machine.null_instance) k ≡ Some machine.null_instance
-elem_last zero = refl
-elem_last (suc k) = elem_last k
-
 elem_null : (l : List machine.Instance) (k : ℕ) → length l ≤ k → slice_get (padded k l) k ≡ Some machine.null_instance
-elem_null [] k h =
-    let e : k + 1 - 0 ≡ suc k = omega arith in
-    rw e (elem_last k)
-elem_null (x ∷ l) zero h = absurd (omega arith)
-elem_null (x ∷ l) (suc k) h =
-    let e : suc k + 1 - suc (length l) ≡ k + 1 - length l = omega arith in
-    rw e (elem_null l k (omega arith))
+elem_null l k h =
+    slice_get_read (padded k l) (k + 1) k machine.null_instance (simp (length-append, length-replicate) (omega arith)) (omega arith)
+    (sym (get_or-append_right l (replicate (k + 1 - length l) machine.null_instance) k machine.null_instance h ∙ get_or-replicate (k + 1 - length l) (k - length l) machine.null_instance machine.null_instance (omega arith)))
 
 module _ (quorum : ℕ) (leader : Option ℕ) (peer ballot : ℕ) where
   noticed_by : (k : ℕ) (l p : List machine.Instance) (i : machine.Instance) (last : Bool) → padded k l ≡ p → slice_get p k ≡ Some i → eqb (k + 1) (length p) ≡ last
@@ -243,7 +210,7 @@ module _ (quorum : ℕ) (leader : Option ℕ) (peer ballot : ℕ) where
       go : (a b : Bool) → length (if not a then [] else if b then answers_of quorum leader new else []) ≡ 0
       go false b = refl
       go true false = refl
-      go true true = length_answers quorum leader new ∙ ap (λ (l : List machine.ReadReq). length l) (holding_stays peer ballot machine.null_instance)
+      go true true = length_answers quorum leader new ∙ ap length (holding_stays peer ballot machine.null_instance)
 
   module _ (start held k : ℕ) (s : List ℕ) where
     abbrev insts : List machine.Instance
@@ -324,11 +291,3 @@ module _ (quorum : ℕ) (leader : Option ℕ) (peer ballot : ℕ) where
                   ∙ ap (λ (i : machine.Instance). set filled k (noticed_inst quorum peer ballot true i)) null_here ∙ sym (ap (λ (w : Noticed). w.insts) null_case);
               size = y.slot.puts.size ∙ x.1;
             }
-
--- ---- how many slots are held then
-
-pub held_stay : (held k : ℕ) → k + 1 ≤ held → held ≡ after held k
-held_stay held k h = simp (lt-ltb k held (omega arith))
-
-pub held_grow : (held k : ℕ) → held < k + 1 → k + 1 ≡ after held k
-held_grow held k h = simp (le-ltb k held (omega arith))

@@ -20,24 +20,14 @@ use inst_cell::{Cell, NoticeBook};
 fn noticed_book(book: Option<NoticeBook>, peer: Replica, ballot: Ballot) -> NoticeBook
     ensures { (held : List ReadReq) → book_with result (seen_reads (book_of book) held) ≡ noticed_book peer.0 ballot.0 (slot_book (book_of book) held) }
 {
-    let Some(b) = book else {
-        let fresh = accept_notices::fresh();
-        return accept_notices::noticed(fresh, peer, ballot);
-    };
-    accept_notices::noticed(b, peer, ballot)
+    accept_notices::noticed(book.unwrap_or(accept_notices::fresh()), peer, ballot)
 }
 
 // Whether a notice is one for a slot: of its ballot, or the slot has none yet and is the last.
 fn is_for(bal: Ballot, ballot: Ballot, last: bool) -> bool
     ensures { result ≡ eqb ballot.0 bal.0 || (eqb bal.0 0 && last) }
 {
-    if ballot.0 == bal.0 {
-        return true;
-    }
-    if bal.0 != 0 {
-        return false;
-    }
-    last
+    ballot == bal || bal.0 == 0 && last
 }
 
 // The slot at place c with the notice.
@@ -46,20 +36,9 @@ fn put_notice(s: &mut [u64], c: usize, peer: Replica, ballot: Ballot)
     ensures { Sets s.old c (with_notice peer.0 ballot.0 (inst_in s.old c)) s.new }
 {
     let cell = insts::load(s, c);
-    let old = cell.replica_bk;
-    let book = noticed_book(old, peer, ballot);
     insts::clear_unseen(s, c);
-    let bal = cell.bal;
-    let status = cell.status;
-    let leader_bk = cell.leader_bk;
-    let replica_bk = Some(book);
-    let next = Cell {
-        bal,
-        status,
-        leader_bk,
-        replica_bk,
-    };
-    insts::store(s, c, next);
+    let replica_bk = Some(noticed_book(cell.replica_bk, peer, ballot));
+    insts::store(s, c, Cell { replica_bk, ..cell });
 }
 
 // How many items a notice has at the slot of place c.
@@ -68,16 +47,15 @@ fn due_in(s: &[u64], c: usize, last: bool, quorum: u8, peer: Replica, ballot: Ba
     ensures { (leader : Option ℕ) → result ≡ length (noticed_items quorum leader peer.0 ballot.0 last (inst_in s.now c)) }
 {
     let cell = insts::load(s, c);
-    let bal = cell.bal;
-    if !is_for(bal, ballot, last) {
+    if !is_for(cell.bal, ballot, last) {
         return 0;
     }
-    let old = cell.replica_bk;
-    let book = noticed_book(old, peer, ballot);
-    if !release_held_reads::has_quorum(Some(book), quorum) {
-        return 0;
+    let book = noticed_book(cell.replica_bk, peer, ballot);
+    if release_held_reads::has_quorum(Some(book), quorum) {
+        release_held_reads::holding(s, c)
+    } else {
+        0
     }
-    release_held_reads::holding(s, c)
 }
 
 // The notice taken at the slot of place c, and its reads released at a quorum of notices. Returns how many items.
@@ -94,18 +72,15 @@ fn notice_in(
     requires { (c < slot_places) × (slot_words ≤ length s.old) × (length (noticed_items quorum (leader_of leader) peer.0 ballot.0 last (inst_in s.old c)) ≤ places area.old) }
     ensures { Notes quorum (leader_of leader) peer.0 ballot.0 last c s.old area.old result s.new area.new }
 {
-    let cell = insts::load(s, c);
-    let bal = cell.bal;
-    if !is_for(bal, ballot, last) {
+    if !is_for(insts::load(s, c).bal, ballot, last) {
         return 0;
     }
     put_notice(s, c, peer, ballot);
-    let noticed = insts::load(s, c);
-    let book = noticed.replica_bk;
-    if !release_held_reads::has_quorum(book, quorum) {
-        return 0;
+    if release_held_reads::has_quorum(insts::load(s, c).replica_bk, quorum) {
+        release_held_reads::release(s, c, quorum, leader, area, 0)
+    } else {
+        0
     }
-    release_held_reads::release(s, c, quorum, leader, area, 0)
 }
 
 // How many slots are held once there are null ones up to the k-th.
@@ -113,11 +88,7 @@ pub fn held_after(held: usize, k: usize) -> usize
     requires { k < slot_places }
     ensures { result ≡ after held k }
 {
-    let next = k + 1;
-    if next <= held {
-        return held;
-    }
-    next
+    held.max(k + 1)
 }
 
 // How many items a notice has at the k-th of the slots from start on.
@@ -137,8 +108,7 @@ pub fn due(
         return 0;
     }
     let c = ((start.0 + k as u64) % layout::PLACES) as usize;
-    let last = k + 1 == held;
-    due_in(s, c, last, quorum, peer, ballot)
+    due_in(s, c, k + 1 == held, quorum, peer, ballot)
 }
 
 // The notice taken at the k-th of the slots from start on, null ones filled in up to it. Returns how many items.
@@ -158,8 +128,7 @@ pub fn notice_at(
 {
     let c = ((start.0 + k as u64) % layout::PLACES) as usize;
     if k < held {
-        let last = k + 1 == held;
-        return notice_in(s, c, last, quorum, leader, peer, ballot, area);
+        return notice_in(s, c, k + 1 == held, quorum, leader, peer, ballot, area);
     }
     insts::pad(s, start, held, k + 1);
     notice_in(s, c, true, quorum, leader, peer, ballot, area)
