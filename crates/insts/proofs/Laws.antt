@@ -25,7 +25,8 @@ use Rattle.inst_cell.specs.Cell.{Notices, Short, cell_at, cell_words, with_statu
 use Rattle.inst_cell.proofs.Laws.{cell_same, cell_other, cell_near, status_same, status_other}
 use Rattle.inst_reqs.specs.Batch.{requests_of}
 use Rattle.inst_holding.specs.Held.{reads_of, capped, Pushes}
-use Rattle.insts.specs.Slots.{short_at, batch_at, reads_at, seen_reads, inst_of, inst_in, insts_of, null_short, SamePlace, Puts, book_of}
+use Rattle.insts.specs.Slots.{short_at, batch_at, reads_at, seen_reads, inst_of, inst_in, insts_of, null_short, SamePlace, Puts, book_of, batch_start, reads_start}
+use borrow.Rule.Slice.PartMut.{put_mid}
 
 -- how long a part is that is lent from a to a + k
 pub width : (a k : ℕ) → a + k - a ≡ k
@@ -118,57 +119,59 @@ module _ (s : List ℕ) (c : ℕ) (h : slot_words ≤ length s) (b : c < slot_pl
             size = length_splice s (reads_from + c * held_words) n w room (l ∙ sym k);
           }
 
-  -- ---- as the code does it
+  -- ---- as the code does it: a is where the part begins that is lent
 
   lent : (a n : ℕ) → a + n ≤ length s → length (take n (drop a s)) ≡ n
   unfolding part
   lent a n f = length_part s a n f
 
-  module _ (n : ℕ) (w : List ℕ) where
-    pub batch_copied : (words : List ℕ) → n ≡ batch_words → length words ≡ batch_words → w ≡ writes (take n (drop (batches_from + c * batch_words) s)) 0 (take batch_words words)
-        → Puts s c (short_at s c) (requests_of words) (reads_at s c) (splice s (batches_from + c * batch_words) n w)
-    batch_copied words k l e =
-        let f : length (take n (drop (batches_from + c * batch_words) s)) ≡ batch_words = lent (batches_from + c * batch_words) n (omega arith) ∙ k in
-        let g : take batch_words words ≡ words = ap (λ (m : ℕ). take m words) (sym l) ∙ take-length words in
-        let q : w ≡ words = e ∙ ap (writes (take n (drop (batches_from + c * batch_words) s)) 0) g ∙ writes_all (take n (drop (batches_from + c * batch_words) s)) words (f ∙ sym l) in
-        puts_batch n w k (ap length q ∙ l) (requests_of words) (ap requests_of q)
+  module _ (a : ℕ) (e : a ≡ batch_start c) (w : List ℕ) where
+    pub batch_copied : (words : List ℕ) → length words ≡ batch_words → w ≡ words → Puts s c (short_at s c) (requests_of words) (reads_at s c) (put_mid a (a + batch_words - a) s w)
+    batch_copied words l g = rw e (puts_batch (batch_start c + batch_words - batch_start c) w (width (batch_start c) batch_words) (ap length g ∙ l) (requests_of words) (ap requests_of g))
 
-    pub batch_cleared : n ≡ batch_words → (requests_of w ≡ []) × (w ≡ set (take n (drop (batches_from + c * batch_words) s)) 0 0) → Puts s c (short_at s c) [] (reads_at s c) (splice s (batches_from + c * batch_words) n w)
-    batch_cleared k e =
-        puts_batch n w k (ap length e.1 ∙ length-set (take n (drop (batches_from + c * batch_words) s)) 0 0 ∙ lent (batches_from + c * batch_words) n (omega arith) ∙ k) [] e.0
+    pub batch_cleared : (requests_of w ≡ []) × (w ≡ set (take (a + batch_words - a) (drop a s)) 0 0) → Puts s c (short_at s c) [] (reads_at s c) (put_mid a (a + batch_words - a) s w)
+    batch_cleared g =
+        let k : a + batch_words - a ≡ batch_words = width a batch_words in
+        let l : length w ≡ batch_words = ap length g.1 ∙ length-set (take (a + batch_words - a) (drop a s)) 0 0 ∙ lent a (a + batch_words - a) (omega arith) ∙ k in
+        rw e (puts_batch (batch_start c + batch_words - batch_start c) w (width (batch_start c) batch_words) l [] g.0)
 
-    pub reads_cleared : n ≡ held_words → (reads_of w ≡ []) × (w ≡ set (take n (drop (reads_from + c * held_words) s)) 0 0) → Puts s c (short_at s c) (batch_at s c) [] (splice s (reads_from + c * held_words) n w)
-    reads_cleared k e =
-        puts_reads n w k (ap length e.1 ∙ length-set (take n (drop (reads_from + c * held_words) s)) 0 0 ∙ lent (reads_from + c * held_words) n (omega arith) ∙ k) [] e.0
+  module _ (a : ℕ) (e : a ≡ reads_start c) (w : List ℕ) where
+    pub reads_cleared : (reads_of w ≡ []) × (w ≡ set (take (a + held_words - a) (drop a s)) 0 0) → Puts s c (short_at s c) (batch_at s c) [] (put_mid a (a + held_words - a) s w)
+    reads_cleared g =
+        let k : a + held_words - a ≡ held_words = width a held_words in
+        let l : length w ≡ held_words = ap length g.1 ∙ length-set (take (a + held_words - a) (drop a s)) 0 0 ∙ lent a (a + held_words - a) (omega arith) ∙ k in
+        rw e (puts_reads (reads_start c + held_words - reads_start c) w (width (reads_start c) held_words) l [] g.0)
 
 -- a push that has room
 kept_all : (r : Bool) (a b : List machine.ReadReq) → (if r then Some a else None) ≡ Some b → a ≡ b
 kept_all true a b e = cc
 kept_all false a b e = cc
 
-module _ (s : List ℕ) (c : ℕ) (h : slot_words ≤ length s) (b : c < slot_places) (n : ℕ) (k : n ≡ held_words) where
-  lent_reads : take n (drop (reads_from + c * held_words) s) ≡ part s (reads_from + c * held_words) held_words
+module _ (s : List ℕ) (c a : ℕ) (e : a ≡ reads_start c) where
+  lent_reads : take (a + held_words - a) (drop a s) ≡ part s (reads_start c) held_words
   unfolding part
-  lent_reads = ap (λ (j : ℕ). take j (drop (reads_from + c * held_words) s)) k
+  lent_reads = rw e (ap (λ (j : ℕ). take j (drop (reads_start c) s)) (width (reads_start c) held_words))
 
-  pub reads_counted : (r : ℕ) → (r ≡ length (reads_of (take n (drop (reads_from + c * held_words) s)))) × (r ≤ held_places) → (r ≡ length (reads_at s c)) × (r ≤ held_places)
+  pub reads_counted : (r : ℕ) → (r ≡ length (reads_of (take (a + held_words - a) (drop a s)))) × (r ≤ held_places) → (r ≡ length (reads_at s c)) × (r ≤ held_places)
   unfolding reads_at
-  reads_counted r e = (e.0 ∙ ap (λ (l : List ℕ). length (reads_of l)) lent_reads, e.1)
+  reads_counted r g = (g.0 ∙ ap (λ (l : List ℕ). length (reads_of l)) lent_reads, g.1)
 
-  pub read_pushed : (w : List ℕ) (x : machine.ReadReq) (r : Bool) → length w ≡ length (take n (drop (reads_from + c * held_words) s)) → length (reads_at s c) < held_places
-      → Pushes (take n (drop (reads_from + c * held_words) s)) x r w → Puts s c (short_at s c) (batch_at s c) (reads_at s c ++ (x ∷ [])) (splice s (reads_from + c * held_words) n w)
+  pub read_pushed : slot_words ≤ length s → c < slot_places → (w : List ℕ) (x : machine.ReadReq) (r : Bool) → length w ≡ length (take (a + held_words - a) (drop a s)) → length (reads_at s c) < held_places
+      → Pushes (take (a + held_words - a) (drop a s)) x r w → Puts s c (short_at s c) (batch_at s c) (reads_at s c ++ (x ∷ [])) (put_mid a (a + held_words - a) s w)
   unfolding reads_at
-  read_pushed w x r l f p =
-      let e : length (reads_of (part s (reads_from + c * held_words) held_words) ++ (x ∷ [])) ≤ held_places = simp length-append (omega arith) in
-      let q : (if r then Some (reads_of w) else None) ≡ Some (reads_of (part s (reads_from + c * held_words) held_words) ++ (x ∷ [])) =
+  read_pushed h b w x r l f p =
+      let g : length (reads_of (part s (reads_start c) held_words) ++ (x ∷ [])) ≤ held_places = simp length-append (omega arith) in
+      let q : (if r then Some (reads_of w) else None) ≡ Some (reads_of (part s (reads_start c) held_words) ++ (x ∷ [])) =
       p.outcome ∙ ap (λ (y : List ℕ). capped (reads_of y ++ (x ∷ []))) lent_reads
-      ∙ rw (le-leb (length (reads_of (part s (reads_from + c * held_words) held_words) ++ (x ∷ []))) held_places e) in
-      puts_reads s c h b n w k (l ∙ lent s c h b (reads_from + c * held_words) n (omega arith) ∙ k) (reads_at s c ++ (x ∷ []))
-      (kept_all r (reads_of w) (reads_of (part s (reads_from + c * held_words) held_words) ++ (x ∷ [])) q)
+      ∙ rw (le-leb (length (reads_of (part s (reads_start c) held_words) ++ (x ∷ []))) held_places g) in
+      let k : length w ≡ held_words = l ∙ lent s c h b a (a + held_words - a) (omega arith) ∙ width a held_words in
+      rw e (puts_reads s c h b (reads_start c + held_words - reads_start c) w (width (reads_start c) held_words) k (reads_at s c ++ (x ∷ []))
+      (kept_all r (reads_of w) (reads_of (part s (reads_start c) held_words) ++ (x ∷ [])) q))
 
-pub last_put_at : (s : List ℕ) (c n : ℕ) (key : List ℕ) (o : Option ℕ) → n ≡ batch_words → o ≡ last_put key (requests_of (take n (drop (batches_from + c * batch_words) s))) → o ≡ last_put key (batch_at s c)
+pub last_put_at : (s : List ℕ) (c a : ℕ) (key : List ℕ) (o : Option ℕ) → a ≡ batch_start c → o ≡ last_put key (requests_of (take (a + batch_words - a) (drop a s))) → o ≡ last_put key (batch_at s c)
 unfolding batch_at part
-last_put_at s c n key o k e = e ∙ ap (λ (j : ℕ). last_put key (requests_of (take j (drop (batches_from + c * batch_words) s)))) k
+last_put_at s c a key o e g =
+    g ∙ rw e (ap (λ (j : ℕ). last_put key (requests_of (take j (drop (batch_start c) s)))) (width (batch_start c) batch_words))
 
 -- ---- one change after another
 
@@ -282,6 +285,9 @@ pub first : (start n k : ℕ) (s : List ℕ) → k ≤ n → take k (insts_of st
 unfolding insts_of
 first start n k s h = take_tab (λ i. inst_in s ((start + i) % slot_places)) 0 n k h
 
+abbrev pub is_open_at : machine.Instance → Bool
+is_open_at i = machine.is_open i.status
+
 -- ---- the code's tests
 
 book_holds : (o : Option Notices) (l : List machine.ReadReq)
@@ -294,11 +300,11 @@ unfolding inst_in
 holds_by s c = book_holds (short_at s c).replica_bk (reads_at s c)
 
 module _ (s : List ℕ) (c : ℕ) (t : Bool) (e : t ≡ has_book (short_at s c)) where
-  pub no_book : not t ≡ true → false ≡ holds (inst_in s c)
-  no_book f = sym (holds_by s c ∙ ap (λ (b : Bool). if b then ltb 0 (length (reads_at s c)) else false) (sym e ∙ not-true t f))
+  pub no_book : t ≡ false → t ≡ holds (inst_in s c)
+  no_book f = f ∙ sym (holds_by s c ∙ ap (λ (b : Bool). if b then ltb 0 (length (reads_at s c)) else false) (sym e ∙ f))
 
-  pub reads_wait : not t ≡ false → (n : ℕ) → n ≡ length (reads_at s c) → ltb 0 n ≡ holds (inst_in s c)
-  reads_wait f n g = ap (ltb 0) g ∙ sym (holds_by s c ∙ ap (λ (b : Bool). if b then ltb 0 (length (reads_at s c)) else false) (sym e ∙ not-false t f))
+  pub reads_wait : t ≡ true → (n : ℕ) → n ≡ length (reads_at s c) → ltb 0 n ≡ holds (inst_in s c)
+  reads_wait f n g = ap (ltb 0) g ∙ sym (holds_by s c ∙ ap (λ (b : Bool). if b then ltb 0 (length (reads_at s c)) else false) (sym e ∙ f))
 
 -- ---- reads without a notice book
 

@@ -34,6 +34,7 @@ pub fn reads_at(c: usize) -> usize
 }
 
 // The short part of the slot at place c.
+#[tactic(auto, unfolding(crate::specs::Slots::short_at))]
 pub fn load(s: &[u64], c: usize) -> Cell
     requires { (c < slot_places) × (slot_words ≤ length s.now) }
     ensures { cell_of result ≡ short_at s.now c }
@@ -53,27 +54,24 @@ pub fn put_batch(s: &mut [u64], c: usize, words: &[u64])
     requires { (c < slot_places) × (slot_words ≤ length s.old) × (length words.now ≡ batch_words) }
     ensures { Puts s.old c (short_at s.old c) (requests_of words.now) (reads_at s.old c) s.new }
 {
-    let a = layout::BATCHES_FROM + c * layout::BATCH_WORDS;
-    let e = a + layout::BATCH_WORDS;
-    words::copy_words(&mut s[a..e], words, layout::BATCH_WORDS);
+    let a = batch_at(c);
+    s[a..a + layout::BATCH_WORDS].copy_from_slice(words);
 }
 
 pub fn clear_batch(s: &mut [u64], c: usize)
     requires { (c < slot_places) × (slot_words ≤ length s.old) }
     ensures { Puts s.old c (short_at s.old c) [] (reads_at s.old c) s.new }
 {
-    let a = layout::BATCHES_FROM + c * layout::BATCH_WORDS;
-    let e = a + layout::BATCH_WORDS;
-    inst_reqs::clear(&mut s[a..e]);
+    let a = batch_at(c);
+    inst_reqs::clear(&mut s[a..a + layout::BATCH_WORDS]);
 }
 
 pub fn clear_reads(s: &mut [u64], c: usize)
     requires { (c < slot_places) × (slot_words ≤ length s.old) }
     ensures { Puts s.old c (short_at s.old c) (batch_at s.old c) [] s.new }
 {
-    let a = layout::READS_FROM + c * layout::HELD_WORDS;
-    let e = a + layout::HELD_WORDS;
-    inst_holding::clear(&mut s[a..e]);
+    let a = reads_at(c);
+    inst_holding::clear(&mut s[a..a + layout::HELD_WORDS]);
 }
 
 // No reads wait where there is no notice book.
@@ -81,20 +79,19 @@ pub fn clear_unseen(s: &mut [u64], c: usize)
     requires { (c < slot_places) × (slot_words ≤ length s.old) }
     ensures { Puts s.old c (short_at s.old c) (batch_at s.old c) (seen_reads (short_at s.old c).replica_bk (reads_at s.old c)) s.new }
 {
-    if inst_cell::has_book(s, c) {
-        return;
+    if !inst_cell::has_book(s, c) {
+        clear_reads(s, c);
     }
-    clear_reads(s, c);
 }
 
 // How many reads the slot at place c holds.
+#[tactic(auto, using(crate::proofs::Laws::reads_counted))]
 pub fn count_reads(s: &[u64], c: usize) -> usize
     requires { (c < slot_places) × (slot_words ≤ length s.now) }
     ensures { (result ≡ length (reads_at s.now c)) × (result ≤ held_places) }
 {
-    let from = layout::READS_FROM + c * layout::HELD_WORDS;
-    let to = from + layout::HELD_WORDS;
-    inst_holding::count(&s[from..to])
+    let a = reads_at(c);
+    inst_holding::count(&s[a..a + layout::HELD_WORDS])
 }
 
 // A read after the others that the slot at place c holds.
@@ -102,35 +99,31 @@ pub fn push_read(s: &mut [u64], c: usize, x: ReadReq)
     requires { (c < slot_places) × (slot_words ≤ length s.old) × (length (reads_at s.old c) < held_places) }
     ensures { Puts s.old c (short_at s.old c) (batch_at s.old c) (reads_at s.old c ++ (read_of x ∷ [])) s.new }
 {
-    let at = layout::READS_FROM + c * layout::HELD_WORDS;
-    let end = at + layout::HELD_WORDS;
-    inst_holding::push(&mut s[at..end], x);
+    let a = reads_at(c);
+    inst_holding::push(&mut s[a..a + layout::HELD_WORDS], x);
 }
 
 // The value of the last Put of a key in the batch at place c.
+#[tactic(auto, using(crate::proofs::Laws::last_put_at))]
 pub fn last_put(s: &[u64], c: usize, key: Key) -> Option<u64>
     requires { (c < slot_places) × (slot_words ≤ length s.now) }
     ensures { result ≡ last_put (bytes_of key) (batch_at s.now c) }
 {
-    let from = layout::BATCHES_FROM + c * layout::BATCH_WORDS;
-    let to = from + layout::BATCH_WORDS;
-    inst_reqs::last_put(&s[from..to], key)
+    let a = batch_at(c);
+    inst_reqs::last_put(&s[a..a + layout::BATCH_WORDS], key)
 }
 
 // A null slot at place c; the reads held there are not seen without a notice book.
+#[tactic(auto, using(crate::proofs::Laws::batch_after))]
 fn null_slot(s: &mut [u64], c: usize)
     requires { (c < slot_places) × (slot_words ≤ length s.old) }
     ensures { Puts s.old c null_short [] (reads_at s.old c) s.new }
 {
-    let bal = Ballot(0);
-    let status = Status::Null;
-    let leader_bk = None;
-    let replica_bk = None;
     let cell = Cell {
-        bal,
-        status,
-        leader_bk,
-        replica_bk,
+        bal: Ballot(0),
+        status: Status::Null,
+        leader_bk: None,
+        replica_bk: None,
     };
     store(s, c, cell);
     clear_batch(s, c);
@@ -141,15 +134,13 @@ pub fn pad(s: &mut [u64], start: Slot, n: usize, to: usize)
     requires { (start.0 ≤ top) × (n ≤ to) × (to ≤ slot_places) × (slot_words ≤ length s.old) }
     ensures { (insts_of start.0 to s.new ≡ insts_of start.0 n s.old ++ replicate (to - n) null_instance) × (length s.new ≡ length s.old) }
 {
-    let mut i = n;
-    while i < to {
-        let c = ((start.0 + i as u64) % layout::PLACES) as usize;
-        null_slot(s, c);
-        i += 1;
+    for i in n..to {
+        null_slot(s, ((start.0 + i as u64) % layout::PLACES) as usize);
     }
 }
 
 // `status < Committed`.
+#[tactic(auto, unfolding(crate::specs::Slots::short_at, crate::specs::Slots::inst_in))]
 pub fn is_open(s: &[u64], c: usize) -> bool
     requires { (c < slot_places) × (slot_words ≤ length s.now) }
     ensures { result ≡ is_open (inst_in s.now c).status }
@@ -162,10 +153,7 @@ pub fn holds_reads(s: &[u64], c: usize) -> bool
     requires { (c < slot_places) × (slot_words ≤ length s.now) }
     ensures { result ≡ holds (inst_in s.now c) }
 {
-    if !inst_cell::has_book(s, c) {
-        return false;
-    }
-    0 < count_reads(s, c)
+    inst_cell::has_book(s, c) && 0 < count_reads(s, c)
 }
 
 pub fn set_status(s: &mut [u64], c: usize, status: Status)
@@ -180,13 +168,10 @@ pub fn any_open(s: &[u64], start: Slot, n: usize) -> bool
     requires { (start.0 ≤ top) × (n ≤ slot_places) × (slot_words ≤ length s.now) }
     ensures { result ≡ any (λ (i : Instance). is_open i.status) (insts_of start.0 n s.now) }
 {
-    let mut i = 0;
-    while i < n {
-        let c = ((start.0 + i as u64) % layout::PLACES) as usize;
-        if is_open(s, c) {
+    for i in 0..n {
+        if is_open(s, ((start.0 + i as u64) % layout::PLACES) as usize) {
             return true;
         }
-        i += 1;
     }
     false
 }

@@ -1,14 +1,8 @@
-use mathlib.Core.Path.{◌≡◌}
-use mathlib.Core.List.{◌++◌}
-use Prim.Native.Nat.{◌-◌, ◌≤◌}
-use lib.ListN.{length, replicate}
+use Rattle.std.proofs.Common.{◌≡◌, ◌++◌, ◌-◌, length, replicate}
 use Rattle.bodega.specs.Replica.{null_instance}
 use Rattle.insts.specs.Slots.{insts_of}
 use Rattle.insts.proofs.pad.Given as goal
 
 abbrev pub invariant-loop-i : goal.invariant-loop-i
 invariant-loop-i l =
-    (l.n ≤ l.i) × (l.i ≤ l.to) × (length l.s ≡ length l.initial.s) × (insts_of l.start.0 l.i l.s ≡ insts_of l.start.0 l.n l.initial.s ++ replicate (l.i - l.n) null_instance)
-
-abbrev pub decreases-loop-i : goal.decreases-loop-i
-decreases-loop-i l = l.to - l.i
+    (length l.s ≡ length l.initial.s) × (insts_of l.start.0 l.i l.s ≡ insts_of l.start.0 l.n l.initial.s ++ replicate (l.i - l.n) null_instance)

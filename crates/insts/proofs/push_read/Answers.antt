@@ -1,10 +1,6 @@
-use Rattle.layout.specs.Layout.{held_words, reads_from}
-use Rattle.insts.proofs.Laws as law
-use Prim.Native.Nat.{◌+◌, ◌*◌}
 use Rattle.inst_holding.specs.Held.{read_of}
+use Rattle.insts.proofs.Laws as law
 use Rattle.insts.proofs.push_read.Goals as goal
 
 pub returns : goal.returns
-returns c =
-    let a = c.args in
-    law.read_pushed a.s.now a.c c.requires.1 c.requires.0 _ (law.width (reads_from + a.c * held_words) held_words) _ (read_of a.x) _ c.push.auto.s c.requires.2 c.push.ensures
+returns c = let a = c.args in law.read_pushed a.s.now a.c _ c.reads_at-a.ensures c.requires.1 c.requires.0 _ (read_of a.x) _ c.push.auto.s c.requires.2 c.push.ensures
