@@ -114,18 +114,15 @@ none_found (e ∷ hs) b key h = go (same_bytes e.key key) refl h (none_found hs 
 
 -- ---- a search's answer, in the words of the code
 
-module _ (s : List ℕ) (key : Key) (i : ℕ) (at : Option ℕ) (told : at ≡ place_of 0 (bytes_of key) (written_of s)) (found : at ≡ Some i) where
+module _ (s : List ℕ) (key : Key) (i : ℕ) (told : Some i ≡ place_of 0 (bytes_of key) (written_of s)) where
   hit_at : Hit (written_of s) (bytes_of key) i
   hit_at =
-      let w = hit (written_of s) 0 i (bytes_of key) (sym told ∙ found) in
+      let w = hit (written_of s) 0 i (bytes_of key) (sym told) in
       let q : i ≡ w.0 = omega (arith, w.1) in
       rw q w.2
 
   entry_below : i < count_of written_places s
   entry_below = rw how_many at hit_at.below
-
-  pub entry_in : i < written_places
-  entry_in = let h = entry_below in omega arith
 
   entry_is : get_or (written_of s) i nobody ≡ highest_at s (1 + i * written_row)
   unfolding written_of
@@ -162,16 +159,16 @@ module _ (s : List ℕ) (key : Key) (i : ℕ) (at : Option ℕ) (told : at ≡ p
           beyond = λ j h. get_or-set_other s (1 + i * written_row) j v 0 (omega arith);
         }
 
-module _ (s : List ℕ) (key : Key) (at : Option ℕ) (told : at ≡ place_of 0 (bytes_of key) (written_of s)) (found : at ≡ None) where
+module _ (s : List ℕ) (key : Key) (told : None ≡ place_of 0 (bytes_of key) (written_of s)) where
   pub slot_none : None ≡ highest_of (bytes_of key) (written_of s)
-  slot_none = none_found (written_of s) 0 (bytes_of key) (sym told ∙ found)
+  slot_none = none_found (written_of s) 0 (bytes_of key) (sym told)
 
   abbrev New : ℕ → List machine.Highest
   New slot = written_of s ++ (record { key = bytes_of key; slot = slot } ∷ [])
 
   module _ (slot n : ℕ) (many : n ≡ length (written_of s)) (most : n ≤ written_places) where
     appended : raise slot (bytes_of key) (written_of s) ≡ New slot
-    appended = miss (written_of s) 0 (bytes_of key) (sym told ∙ found) slot
+    appended = miss (written_of s) 0 (bytes_of key) (sym told) slot
 
     long : length (New slot) ≡ n + 1
     long = length-append (written_of s) (record { key = bytes_of key; slot = slot } ∷ []) ∙ ap (λ (z : ℕ). z + 1) (sym many)
