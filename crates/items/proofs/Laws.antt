@@ -1,7 +1,7 @@
 -- The laws of items in an answer area: the code's exits, and that reading undoes putting.
 use Rattle.std.specs.Prelude.{if◌then◌else◌, option_map}
 use mathlib.Core.Path.{◌≡◌, refl, sym, ap, ◌∙◌}
-use mathlib.Core.Bool.{Bool, true, false, and-true, true≢false}
+use mathlib.Core.Bool.{Bool, true, false, ◌&&◌, true≢false}
 use mathlib.Core.Logic.{◌⊎◌, inl, inr, ◌≢◌}
 use mathlib.Core.List.{List, [], ◌∷◌, ◌++◌}
 use Rattle.std.specs.Prelude.{Option, None, Some}
@@ -15,18 +15,21 @@ use lib.Dec.{eqb, ltb}
 use lib.ListN.{length, get_or, length-append}
 use lib.Seq.{get_or-append-add, take_at}
 use lib.Pow.{split}
+use lib.Pointwise.{pointwise}
+use Rattle.std.specs.Bool.{then_some}
 use Rattle.words.specs.Tab.{words_from, run_part}
 use Rattle.words.specs.Writes.{writes, length_writes, writes_other, writes_same, run_writes, run_agrees, writes_append}
 use Rattle.words.proofs.Tests.{and_both}
 use Rattle.inty.specs.Value.{value_of}
 use Rattle.inty.specs.declared.Inty.{Inty}
 use Rattle.items.specs.declared.Item as declared
-use Rattle.items.specs.declared.Six.{Six}
 use Rattle.items.specs.Item.{Item, Value, Absent, Store, Pass, Hold, Retry, Resend, Commit, Lead, Prelog, Prepare, Span, Rest, Fits, six, item_of, item_words, encode, places, length_item, length_encode, encode_snoc}
-use Rattle.items.specs.Area.{Put, put_item, item_at, six_of, same_words, named, decode}
-use Rattle.items.specs.declared.Item.{Item}
+use Rattle.items.specs.Area.{Put, put_item, item_at, same_words, named, decode}
 
 -- ---- the exits
+
+abbrev named_in : List ℕ → Item
+named_in ws = named (get_or ws 0 0) (get_or ws 1 0) (get_or ws 2 0) (get_or ws 3 0) (get_or ws 4 0) (get_or ws 5 0)
 
 -- two halves come back from their number
 pub span_words : (f t : Inty) (m : ℕ) → f.lo < 2 ^ 64 → t.lo < 2 ^ 64
@@ -39,40 +42,32 @@ unfolding named
 named_rest k a b c d e h1 h2 h3 h4 h5 h6 h7 h8 h9 h10 h11 h12 =
     sym (rw (ne_eqb k 1 h1, ne_eqb k 2 h2, ne_eqb k 3 h3, ne_eqb k 4 h4, ne_eqb k 5 h5, ne_eqb k 6 h6, ne_eqb k 7 h7, ne_eqb k 8 h8, ne_eqb k 9 h9, ne_eqb k 10 h10, ne_eqb k 11 h11, ne_eqb k 12 h12))
 
-pub same_last : (x y : Six) → x.0 ≡ y.0 → x.1 ≡ y.1 → x.2 ≡ y.2 → x.3 ≡ y.3 → x.4 ≡ y.4
-    → eqb x.5 y.5 ≡ same_words (six_of x) (six_of y)
-unfolding same_words
-same_last x y f g h i j =
-    sym (rw (eq-eqb _ _ f, eq-eqb _ _ g, eq-eqb _ _ h, eq-eqb _ _ i, eq-eqb _ _ j) (and-true (eqb x.5 y.5)))
-
-module _ (w s : Six) (i : declared.Item) (t : Bool) (n : item_of i ≡ named w.0 w.1 w.2 w.3 w.4 w.5) (k : six_of s ≡ item_words (item_of i)) (q : t ≡ same_words (six_of s) (six_of w)) where
-  pub decoded_yes : t ≡ true → Some (item_of i) ≡ decode (six_of w)
-  unfolding decode
-  decoded_yes e = sym (rw (← n, ← k, ← q, e))
-
-  pub decoded_no : t ≡ false → None ≡ decode (six_of w)
-  unfolding decode
-  decoded_no e = sym (rw (← n, ← k, ← q, e))
-
 pub at_none : (area : List ℕ) (place : ℕ) → length area / 6 ≤ place → None ≡ item_at area place
 unfolding item_at
 at_none area place h = sym (rw (le-ltb place (length area / 6) h))
 
-pub at_some : (area : List ℕ) (place : ℕ) (s : Six) (g : Option Item) → place < length area / 6 → six_of s ≡ words_from 6 area (place * 6)
-    → option_map item_of g ≡ decode (six_of s) → option_map item_of g ≡ item_at area place
-unfolding item_at
-at_some area place s g h e f = f ∙ rw (lt-ltb place (length area / 6) h) (ap decode e)
+-- `==` on words is of each
+pointwise_same : (l m : List ℕ) → pointwise eqb l m ≡ same_words l m
+unfolding same_words
+pointwise_same [] [] = refl
+pointwise_same [] (y ∷ ys) = refl
+pointwise_same (x ∷ xs) [] = refl
+pointwise_same (x ∷ xs) (y ∷ ys) = ap (λ (b : Bool). eqb x y && b) (pointwise_same xs ys)
+
+pub decoded_is : (w s : List ℕ) (i : declared.Item) (t : Bool) (r : Option declared.Item) → item_of i ≡ named_in w → s ≡ item_words (item_of i)
+    → t ≡ pointwise eqb s w → r ≡ then_some t i → option_map item_of r ≡ decode w
+unfolding decode
+decoded_is w s i false r n k q z = rw (z, ← n, ← k, ← pointwise_same s w, ← q)
+decoded_is w s i true r n k q z = rw (z, ← n, ← k, ← pointwise_same s w, ← q)
 
 pub put_none : (area : List ℕ) (place : ℕ) (x : Item) → length area / 6 ≤ place → ◌≡◌ {A = Put} (record { taken = false; area = area }) (put_item area place x)
 unfolding put_item
 put_none area place x h = sym (rw (le-ltb place (length area / 6) h))
 
-pub put_some : (area area' : List ℕ) (place : ℕ) (x : Item) (s : Six) → place < length area / 6 → six_of s ≡ item_words x
-    → area' ≡ writes area (place * 6) (six_of s) → ◌≡◌ {A = Put} (record { taken = true; area = area' }) (put_item area place x)
+pub put_some : (area area' : List ℕ) (place : ℕ) (x : Item) → place < length area / 6 → area' ≡ writes area (place * 6) (item_words x)
+    → ◌≡◌ {A = Put} (record { taken = true; area = area' }) (put_item area place x)
 unfolding put_item
-put_some area area' place x s h e f =
-    let g : area' ≡ writes area (place * 6) (item_words x) = f ∙ ap (writes area (place * 6)) e in
-    rw (lt-ltb place (length area / 6) h, g)
+put_some area area' place x h e = rw (lt-ltb place (length area / 6) h, e)
 
 -- ---- the words of an item, and the item of the words
 
@@ -90,9 +85,6 @@ same_eq (x ∷ xs) (y ∷ ys) e =
     let p = and_both (eqb x y) (same_words xs ys) e in
     let q : x ≡ y = eqb-true x y p.0 in
     rw (q, same_eq xs ys p.1)
-
-abbrev named_in : List ℕ → Item
-named_in ws = named (get_or ws 0 0) (get_or ws 1 0) (get_or ws 2 0) (get_or ws 3 0) (get_or ws 4 0) (get_or ws 5 0)
 
 named_words : (x : Item) → Fits x → named_in (item_words x) ≡ x
 unfolding named

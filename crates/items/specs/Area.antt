@@ -3,13 +3,7 @@ use Rattle.std.specs.Prelude.{Bool, true, false, ◌&&◌, List, [], ◌∷◌, 
 use Rattle.std.specs.Prelude.{Option, None, Some}
 use Rattle.words.specs.Tab.{words_from}
 use Rattle.words.specs.Writes.{writes}
-use Rattle.items.specs.Item.{Item, Value, Absent, Store, Pass, Hold, Retry, Resend, Commit, Lead, Prelog, Prepare, Span, Rest, item_of, item_words, six, places}
-use Rattle.items.specs.declared.Six.{Six}
-use Rattle.items.specs.declared.Item.{Item}
-
--- the code's six words, and its answer
-abbrev pub six_of : Six → List ℕ
-six_of s = six s.0 s.1 s.2 s.3 s.4 s.5
+use Rattle.items.specs.Item.{Item, Value, Absent, Store, Pass, Hold, Retry, Resend, Commit, Lead, Prelog, Prepare, Span, Rest, item_words, places}
 
 -- the answer, and the area after it
 pub record Put : Type 0 where

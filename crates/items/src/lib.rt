@@ -1,9 +1,9 @@
 // The items of a call, in a lent answer area: six words each, the kind first.
 #![tactic(auto)]
 
-ghost use Rattle.std.specs.Prelude.{◌≡◌, ◌*◌, ◌+◌, ◌%◌, ◌≤◌, length, option_map};
+ghost use Rattle.std.specs.Prelude.{◌≡◌, ◌*◌, ◌+◌, ◌%◌, ◌≤◌, length, option_map, slice_index};
 ghost use Rattle.items.specs.Item.{item_of, item_words};
-ghost use Rattle.items.specs.Area.{Put, put_item, item_at, six_of, same_words, named, decode};
+ghost use Rattle.items.specs.Area.{Put, put_item, item_at, named, decode};
 ghost use Rattle.words.specs.Tab.{words_from};
 ghost use Rattle.words.specs.Writes.{writes};
 
@@ -58,208 +58,143 @@ pub enum Item {
     Rest(u64),
 }
 
-// The words of one place.
-#[derive(Clone, Copy)]
-struct Six(u64, u64, u64, u64, u64, u64);
-
-fn words_of(item: Item) -> Six
-    ensures { six_of result ≡ item_words (item_of item) }
+fn words_of(item: Item) -> [u64; 6]
+    ensures { result ≡ item_words (item_of item) }
 {
     match item {
         Item::Value {
             client,
             request,
             value,
-        } => Six(1, client, request, value, 0, 0),
-        Item::Absent { client, request } => Six(2, client, request, 0, 0, 0),
-        Item::Store { client, request } => Six(3, client, request, 0, 0, 0),
-        Item::Pass { client, request } => Six(4, client, request, 0, 0, 0),
+        } => [1, client, request, value, 0, 0],
+        Item::Absent { client, request } => [2, client, request, 0, 0, 0],
+        Item::Store { client, request } => [3, client, request, 0, 0, 0],
+        Item::Pass { client, request } => [4, client, request, 0, 0, 0],
         Item::Hold {
             client,
             request,
             slot,
-        } => Six(5, client, request, slot.0, 0, 0),
+        } => [5, client, request, slot.0, 0, 0],
         Item::Retry {
             client,
             request,
-            leader,
-        } => match leader {
-            None => Six(6, client, request, 0, 0, 0),
-            Some(id) => Six(6, client, request, 1, u64::from(id.0), 0),
-        },
-        Item::Resend { slot, peer } => Six(7, slot.0, u64::from(peer.0), 0, 0, 0),
-        Item::Commit(slot) => Six(8, slot.0, 0, 0, 0, 0),
-        Item::Lead(leads) => if leads {
-            Six(9, 1, 0, 0, 0, 0)
-        } else {
-            Six(9, 0, 0, 0, 0, 0)
-        },
-        Item::Prelog(slot) => Six(10, slot.0, 0, 0, 0, 0),
-        Item::Prepare { slot, ballot } => Six(11, slot.0, ballot.0, 0, 0, 0),
-        Item::Span { start, end, mask } => Six(12, start.hi, start.lo, end.hi, end.lo, mask),
-        Item::Rest(mask) => Six(13, mask, 0, 0, 0, 0),
+            leader: None,
+        } => [6, client, request, 0, 0, 0],
+        Item::Retry {
+            client,
+            request,
+            leader: Some(id),
+        } => [6, client, request, 1, u64::from(id.0), 0],
+        Item::Resend { slot, peer } => [7, slot.0, u64::from(peer.0), 0, 0, 0],
+        Item::Commit(slot) => [8, slot.0, 0, 0, 0, 0],
+        Item::Lead(leads) => [9, u64::from(leads), 0, 0, 0, 0],
+        Item::Prelog(slot) => [10, slot.0, 0, 0, 0, 0],
+        Item::Prepare { slot, ballot } => [11, slot.0, ballot.0, 0, 0, 0],
+        Item::Span { start, end, mask } => [12, start.hi, start.lo, end.hi, end.lo, mask],
+        Item::Rest(mask) => [13, mask, 0, 0, 0, 0],
     }
 }
 
-fn byte(x: u64) -> u8
-    ensures { result ≡ x % 256 }
+// A replica in a word, read as a byte.
+fn replica_in(word: u64) -> Replica
+    ensures { result.0 ≡ word % 256 }
 {
-    (x % 256) as u8
+    Replica((word % 256) as u8)
 }
 
-// The only item that the words can be.
-fn item_named(w: Six) -> Item
-    ensures { item_of result ≡ named w.0 w.1 w.2 w.3 w.4 w.5 }
+// The only item that the words can be. The kinds are the numbers that the C side reads in the area.
+#[tactic(auto, unfolding(crate::specs::Area::named))]
+fn item_named(words: [u64; 6]) -> Item
+    ensures { item_of result
+        ≡ named (slice_index words 0) (slice_index words 1) (slice_index words 2) (slice_index words 3) (slice_index words 4) (slice_index words 5) }
 {
-    let kind = w.0;
-    match kind {
-        1 => Item::Value {
-            client: w.1,
-            request: w.2,
-            value: w.3,
+    match words {
+        [1, client, request, value, ..] => Item::Value {
+            client,
+            request,
+            value,
         },
-        2 => Item::Absent {
-            client: w.1,
-            request: w.2,
+        [2, client, request, ..] => Item::Absent { client, request },
+        [3, client, request, ..] => Item::Store { client, request },
+        [4, client, request, ..] => Item::Pass { client, request },
+        [5, client, request, slot, ..] => Item::Hold {
+            client,
+            request,
+            slot: Slot(slot),
         },
-        3 => Item::Store {
-            client: w.1,
-            request: w.2,
+        [6, client, request, 0, ..] => Item::Retry {
+            client,
+            request,
+            leader: None,
         },
-        4 => Item::Pass {
-            client: w.1,
-            request: w.2,
+        [6, client, request, _, id, _] => Item::Retry {
+            client,
+            request,
+            leader: Some(replica_in(id)),
         },
-        5 => {
-            let slot = Slot(w.3);
-            Item::Hold {
-                client: w.1,
-                request: w.2,
-                slot,
-            }
-        }
-        6 => if w.3 == 0 {
-            let leader = None;
-            Item::Retry {
-                client: w.1,
-                request: w.2,
-                leader,
-            }
-        } else {
-            let id = Replica(byte(w.4));
-            let leader = Some(id);
-            Item::Retry {
-                client: w.1,
-                request: w.2,
-                leader,
-            }
+        [7, slot, peer, ..] => Item::Resend {
+            slot: Slot(slot),
+            peer: replica_in(peer),
         },
-        7 => {
-            let slot = Slot(w.1);
-            let peer = Replica(byte(w.2));
-            Item::Resend { slot, peer }
-        }
-        8 => {
-            let slot = Slot(w.1);
-            Item::Commit(slot)
-        }
-        9 => Item::Lead(w.1 == 1),
-        10 => {
-            let slot = Slot(w.1);
-            Item::Prelog(slot)
-        }
-        11 => {
-            let slot = Slot(w.1);
-            let ballot = Ballot(w.2);
-            Item::Prepare { slot, ballot }
-        }
-        12 => {
-            let start = Inty { hi: w.1, lo: w.2 };
-            let end = Inty { hi: w.3, lo: w.4 };
-            Item::Span {
-                start,
-                end,
-                mask: w.5,
-            }
-        }
-        _ => Item::Rest(w.1),
+        [8, slot, ..] => Item::Commit(Slot(slot)),
+        [9, leads, ..] => Item::Lead(leads == 1),
+        [10, slot, ..] => Item::Prelog(Slot(slot)),
+        [11, slot, ballot, ..] => Item::Prepare {
+            slot: Slot(slot),
+            ballot: Ballot(ballot),
+        },
+        [12, start_hi, start_lo, end_hi, end_lo, mask] => Item::Span {
+            start: Inty {
+                hi: start_hi,
+                lo: start_lo,
+            },
+            end: Inty {
+                hi: end_hi,
+                lo: end_lo,
+            },
+            mask,
+        },
+        [_, mask, ..] => Item::Rest(mask),
     }
 }
 
-fn same_words(x: Six, y: Six) -> bool
-    ensures { result ≡ same_words (six_of x) (six_of y) }
+#[tactic(auto, unfolding(crate::specs::Area::decode))]
+fn decoded(words: [u64; 6]) -> Option<Item>
+    ensures { option_map item_of result ≡ decode words }
 {
-    if x.0 != y.0 {
-        return false;
-    }
-    if x.1 != y.1 {
-        return false;
-    }
-    if x.2 != y.2 {
-        return false;
-    }
-    if x.3 != y.3 {
-        return false;
-    }
-    if x.4 != y.4 {
-        return false;
-    }
-    x.5 == y.5
+    let item = item_named(words);
+    (words_of(item) == words).then_some(item)
 }
 
-fn decoded(w: Six) -> Option<Item>
-    ensures { option_map item_of result ≡ decode (six_of w) }
-{
-    let item = item_named(w);
-    if same_words(words_of(item), w) {
-        return Some(item);
-    }
-    None
-}
-
-fn store(area: &mut [u64], place: usize, w: Six)
-    requires { place * 6 + 6 ≤ length area.old }
-    ensures { area.new ≡ writes area.old (place * 6) (six_of w) }
-{
-    let p = place * 6;
-    let p1 = p + 1;
-    let p2 = p1 + 1;
-    let p3 = p2 + 1;
-    let p4 = p3 + 1;
-    let p5 = p4 + 1;
-    area[p] = w.0;
-    area[p1] = w.1;
-    area[p2] = w.2;
-    area[p3] = w.3;
-    area[p4] = w.4;
-    area[p5] = w.5;
-}
-
-fn load(area: &[u64], place: usize) -> Six
+fn load(area: &[u64], place: usize) -> [u64; 6]
     requires { place * 6 + 6 ≤ length area.now }
-    ensures { six_of result ≡ words_from 6 area.now (place * 6) }
+    ensures { result ≡ words_from 6 area.now (place * 6) }
 {
     let p = place * 6;
-    let p1 = p + 1;
-    let p2 = p1 + 1;
-    let p3 = p2 + 1;
-    let p4 = p3 + 1;
-    let p5 = p4 + 1;
-    Six(area[p], area[p1], area[p2], area[p3], area[p4], area[p5])
+    [
+        area[p],
+        area[p + 1],
+        area[p + 2],
+        area[p + 3],
+        area[p + 4],
+        area[p + 5],
+    ]
 }
 
 // False, and the area as it was, where it has no such place.
+#[tactic(auto, unfolding(crate::specs::Area::put_item))]
 pub fn put_item(area: &mut [u64], place: usize, item: Item) -> bool
     ensures { ◌≡◌ {A = Put} (record { taken = result; area = area.new }) (put_item area.old place (item_of item)) }
 {
     if area.len() / 6 <= place {
         return false;
     }
-    store(area, place, words_of(item));
+    area[place * 6..place * 6 + 6].copy_from_slice(&words_of(item));
     true
 }
 
 // Nothing where the area has no such place, or its words are no item's.
+#[tactic(auto, unfolding(crate::specs::Area::item_at))]
 pub fn get_item(area: &[u64], place: usize) -> Option<Item>
     ensures { option_map item_of result ≡ item_at area.now place }
 {

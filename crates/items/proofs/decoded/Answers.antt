@@ -1,9 +1,5 @@
-use borrow.Author.Rules.{rules}
 use Rattle.items.proofs.Laws as law
 use Rattle.items.proofs.decoded.Goals as goal
 
-pub returns-then-same_words : goal.returns-then-same_words
-returns-then-same_words c = search (rules, law.decoded_yes)
-
 pub returns : goal.returns
-returns c = search (rules, law.decoded_no)
+returns c = law.decoded_is _ _ _ _ _ c.item_named-item.ensures c.words_of.ensures c.eq.ensures c.then_some.ensures
