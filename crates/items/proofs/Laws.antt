@@ -1,16 +1,15 @@
--- The laws of items in an answer area: the code's exits, and that reading undoes putting.
+-- The laws of items in an answer area: what the code's functions return, and that reading undoes putting.
 use Rattle.std.specs.Prelude.{if◌then◌else◌, option_map}
 use mathlib.Core.Path.{◌≡◌, refl, sym, ap, ◌∙◌}
 use mathlib.Core.Bool.{Bool, true, false, ◌&&◌, true≢false}
 use mathlib.Core.Logic.{◌⊎◌, inl, inr, ◌≢◌}
 use mathlib.Core.List.{List, [], ◌∷◌, ◌++◌}
 use Rattle.std.specs.Prelude.{Option, None, Some}
-use Prim.Native.Nat.{ℕ, zero, suc, ◌+◌, ◌*◌, ◌/◌, ◌^◌, ◌≤◌, ◌<◌}
+use Prim.Native.Nat.{ℕ, zero, suc, ◌+◌, ◌*◌, ◌/◌, ◌≤◌, ◌<◌}
 use native.Mathlib.Nat.{mod-eq_of_lt, mod-lt, zero-lt-suc, zero-add, not-suc-le-zero}
 use native.Mathlib.Decide.{dec_lt}
 use native.Mathlib.Omega.{arith}
-use borrow.Author.Tests.{lt-ltb, le-ltb, eq-eqb, ne_eqb, eqb-true, ltb-true}
-use lib.Arith.{digits_div, digits_mod}
+use borrow.Author.Tests.{lt-ltb, le-ltb, eq-eqb, eqb-true, ltb-true}
 use lib.Dec.{eqb, ltb}
 use lib.ListN.{length, get_or, length-append}
 use lib.Seq.{get_or-append-add, take_at}
@@ -20,31 +19,14 @@ use Rattle.std.specs.Bool.{then_some}
 use Rattle.words.specs.Tab.{words_from, run_part}
 use Rattle.words.specs.Writes.{writes, length_writes, writes_other, writes_same, run_writes, run_agrees, writes_append}
 use Rattle.words.proofs.Tests.{and_both}
-use Rattle.inty.specs.Value.{value_of}
-use Rattle.inty.specs.declared.Inty.{Inty}
 use Rattle.items.specs.declared.Item as declared
-use Rattle.items.specs.Item.{Item, Value, Absent, Store, Pass, Hold, Retry, Resend, Commit, Lead, Prelog, Prepare, Span, Rest, Fits, six, item_of, item_words, encode, places, length_item, length_encode, encode_snoc}
+use Rattle.items.specs.Item.{Item, Value, Absent, Store, Pass, Hold, Retry, Resend, Commit, Lead, Prelog, Prepare, Span, Rest, Fits, item_of, item_words, encode, places, length_item, length_encode, encode_snoc}
 use Rattle.items.specs.Area.{Put, put_item, item_at, same_words, named, decode}
 
--- ---- the exits
+-- ---- what the code returns
 
 abbrev named_in : List ℕ → Item
 named_in ws = named (get_or ws 0 0) (get_or ws 1 0) (get_or ws 2 0) (get_or ws 3 0) (get_or ws 4 0) (get_or ws 5 0)
-
--- two halves come back from their number
-pub span_words : (f t : Inty) (m : ℕ) → f.lo < 2 ^ 64 → t.lo < 2 ^ 64
-    → six 12 f.hi f.lo t.hi t.lo m ≡ item_words (Span (value_of f) (value_of t) m)
-span_words f t m h k = sym (rw (digits_div f.hi h, digits_mod f.hi h, digits_div t.hi k, digits_mod t.hi k))
-
--- a number that is no other kind's
-pub named_rest : (k a b c d e : ℕ) → (k ≡ 1 → ⊥) → (k ≡ 2 → ⊥) → (k ≡ 3 → ⊥) → (k ≡ 4 → ⊥) → (k ≡ 5 → ⊥) → (k ≡ 6 → ⊥) → (k ≡ 7 → ⊥) → (k ≡ 8 → ⊥) → (k ≡ 9 → ⊥) → (k ≡ 10 → ⊥) → (k ≡ 11 → ⊥) → (k ≡ 12 → ⊥) → Rest a ≡ named k a b c d e
-unfolding named
-named_rest k a b c d e h1 h2 h3 h4 h5 h6 h7 h8 h9 h10 h11 h12 =
-    sym (rw (ne_eqb k 1 h1, ne_eqb k 2 h2, ne_eqb k 3 h3, ne_eqb k 4 h4, ne_eqb k 5 h5, ne_eqb k 6 h6, ne_eqb k 7 h7, ne_eqb k 8 h8, ne_eqb k 9 h9, ne_eqb k 10 h10, ne_eqb k 11 h11, ne_eqb k 12 h12))
-
-pub at_none : (area : List ℕ) (place : ℕ) → length area / 6 ≤ place → None ≡ item_at area place
-unfolding item_at
-at_none area place h = sym (rw (le-ltb place (length area / 6) h))
 
 -- `==` on words is of each
 pointwise_same : (l m : List ℕ) → pointwise eqb l m ≡ same_words l m
