@@ -2,52 +2,47 @@
 -- nothing.
 use Rattle.std.specs.Prelude.{if◌then◌else◌}
 use mathlib.Core.Path.{◌≡◌, refl, sym, ap, ◌∙◌}
-use mathlib.Core.Bool.{Bool, true, false, not, ◌||◌}
-use mathlib.Core.List.{List}
-use Prim.Native.Nat.{ℕ, ◌+◌, ◌≤◌, ◌<◌, max}
-use native.Mathlib.Nat.{zero-add}
-use native.Mathlib.Numerals.{add-one}
+use mathlib.Core.Bool.{Bool, true, false, ◌||◌, ◌&&◌, and-true}
+use mathlib.Core.List.{List, [], ◌∷◌, ◌++◌}
+use Prim.Native.Nat.{ℕ, zero, suc, ◌+◌, ◌≤◌, ◌<◌, max}
+use native.Mathlib.Nat.{zero-add, add-zero}
 use native.Mathlib.Omega.{arith}
 use lib.Dec.{ltb, leb, eqb}
 use lib.ListN.{length, get_or, set}
+use Rattle.std.specs.List.{list_all, range_with_len}
+use Rattle.std.proofs.lemmas.List.Folds.{list_all-append}
 use lib.Seq.{get_or-set_same, get_or-set_other}
-use borrow.Author.Tests.{lt-ltb, le-ltb, eq-eqb, ne_eqb, not-true, not-false}
+use borrow.Author.Tests.{lt-ltb, le-ltb, eq-eqb, ne_eqb}
 use Rattle.words.specs.Tab.{words_from, get_or_tab, tab_set}
 use Rattle.bitmap.specs.Bitmap.{every}
-use Rattle.bitmap.proofs.Laws.{every_each}
 use Rattle.bodega.specs.Replica.{Replica, with_snap, with_peer_exec_bar}
 use Rattle.bodega.specs.Heartbeat.{heard_exec_bar, heard_snap_bar}
 use Rattle.peer_exec_bar.specs.Execs.{all_passed, execs_heard, snap_heard, Hears, execs_left, snap_left, HearsPeer}
 
 -- ---- whether all have passed
 
-every_not : (n : ℕ) (f : ℕ → Bool) (i : ℕ) → i < n → f i ≡ false → false ≡ every n f
-every_not n f i h e = go (every n f) refl
-  where
-    go : (t : Bool) → every n f ≡ t → false ≡ t
-    go true g = sym e ∙ every_each n f g i h
-    go false g = refl
+range_snoc : (a n : ℕ) → range_with_len a (suc n) ≡ range_with_len a n ++ ((a + n) ∷ [])
+range_snoc a zero = simp add-zero
+range_snoc a (suc n) = let e : a + suc n ≡ a + 1 + n = omega arith in rw e (ap (λ (l : List ℕ). a ∷ l) (range_snoc (a + 1) n))
+
+every_range : (f : ℕ → Bool) (n : ℕ) → list_all f (range_with_len 0 n) ≡ every n f
+unfolding every
+every_range f zero = refl
+every_range f (suc n) =
+    ap (list_all f) (range_snoc 0 n) ∙ list_all-append f (range_with_len 0 n) ((0 + n) ∷ []) ∙ rw (every_range f n, zero-add) (ap (λ (b : Bool). every n f && b) (and-true (f n)))
+
+every_same : (n : ℕ) (f g : ℕ → Bool) → ((i : ℕ) → i < n → f i ≡ g i) → every n f ≡ every n g
+unfolding every
+every_same zero f g h = refl
+every_same (suc n) f g h = rw (every_same n f g (λ i l. h i (omega arith)), h n (omega arith)) refl
 
 bar_at_lem : (s : List ℕ) (n i : ℕ) → i < n → get_or (words_from n s 0) i 0 ≡ get_or s i 0
 bar_at_lem s n i h = get_or_tab (λ j. get_or s j 0) 0 n i 0 h ∙ rw zero-add
 
-module _ (s : List ℕ) (n id exec : ℕ) where
-  abbrev pub has_passed : ℕ → Bool
-  has_passed p = eqb p id || leb exec (get_or (words_from n s 0) p 0)
-
-  module _ (i : ℕ) (t : Bool) (h : i < n) (e : t ≡ eqb i id || leb exec (get_or s i 0)) where
-    here : has_passed i ≡ t
-    here = ap (λ (z : ℕ). eqb i id || leb exec z) (bar_at_lem s n i h) ∙ sym e
-
-    pub one_behind : not t ≡ true → false ≡ all_passed n id exec (words_from n s 0)
-    one_behind f = every_not n has_passed i h (here ∙ not-true t f)
-
-    pub one_more : not t ≡ false → every i has_passed ≡ true → every (i + 1) has_passed ≡ true
-    unfolding every
-    one_more f g = rw (add-one i, g) (here ∙ not-false t f)
-
-  pub all_passed_lem : (i : ℕ) → n ≤ i → i ≤ n → every i has_passed ≡ true → true ≡ all_passed n id exec (words_from n s 0)
-  all_passed_lem i h k g = let z : i ≡ n = omega arith in sym (rw z at g)
+pub passed_by : (s : List ℕ) (n id exec : ℕ) → list_all (λ p. eqb p id || leb exec (get_or s p 0)) (range_with_len 0 n) ≡ all_passed n id exec (words_from n s 0)
+passed_by s n id exec =
+    every_range (λ p. eqb p id || leb exec (get_or s p 0)) n
+    ∙ every_same n _ _ (λ i l. ap (λ (x : ℕ). eqb i id || leb exec x) (sym (bar_at_lem s n i l)))
 
 -- ---- a peer's exec bar
 

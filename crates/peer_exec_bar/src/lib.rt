@@ -7,30 +7,12 @@ ghost use Rattle.peer_exec_bar.specs.Execs.{all_passed, Hears, HearsPeer};
 
 use ids::{Replica, Slot};
 
-fn has_passed(execs: &[u64], i: usize, id: Replica, exec: Slot) -> bool
-    requires { i < length execs.now }
-    ensures { result ≡ eqb i id.0 || leb exec.0 (get_or execs.now i 0) }
-{
-    if i == id.0 as usize {
-        return true;
-    }
-    exec.0 <= execs[i]
-}
-
 // `passed_cnt == population`.
 pub fn passed(execs: &[u64], population: u8, id: Replica, exec: Slot) -> bool
     requires { population ≤ length execs.now }
     ensures { result ≡ all_passed population id.0 exec.0 (words_from population execs.now 0) }
 {
-    let n = population as usize;
-    let mut i = 0;
-    while i < n {
-        if !has_passed(execs, i, id, exec) {
-            return false;
-        }
-        i += 1;
-    }
-    true
+    (0..population as usize).all(|i| i == id.0 as usize || exec.0 <= execs[i])
 }
 
 // A peer's exec bar, if larger than known; the snap bar then.
@@ -51,18 +33,10 @@ pub fn heard_exec(
     }
     execs[i] = exec.0;
     if passed(execs, population, id, exec) {
-        return exec;
+        exec
+    } else {
+        snap_bar
     }
-    snap_bar
-}
-
-fn larger(a: Slot, b: Slot) -> Slot
-    ensures { result.0 ≡ max a.0 b.0 }
-{
-    if a.0 < b.0 {
-        return b;
-    }
-    a
 }
 
 // A heartbeat's exec and snap bar, where it is a peer's; the snap bar then.
@@ -78,9 +52,8 @@ pub fn heard_peer(
     requires { (population ≤ length execs.old) × (peer.0 < population) }
     ensures { HearsPeer population id.0 peer.0 exec.0 snap.0 snap_bar.0 execs.old result.0 execs.new }
 {
-    if peer.0 == id.0 {
+    if peer == id {
         return snap_bar;
     }
-    let heard = heard_exec(execs, population, id, snap_bar, peer, exec);
-    larger(heard, snap)
+    heard_exec(execs, population, id, snap_bar, peer, exec).max(snap)
 }

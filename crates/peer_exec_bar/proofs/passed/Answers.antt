@@ -1,19 +1,12 @@
+use Rattle.std.proofs.Common.{◌∙◌, ◌||◌, eqb, leb, get_or, refl, rules, tests, arith}
+use Rattle.std.proofs.lemmas.Iterator.{YieldsList-from_range}
+use Rattle.std.proofs.lemmas.Iterator.Search.{all_from_yields_List}
 use Rattle.peer_exec_bar.proofs.Laws as law
-use borrow.Author.Rules.{rules}
-use Rattle.bitmap.specs.Bitmap.{every}
-use mathlib.Core.Path.{refl}
-use native.Mathlib.Omega.{arith}
 use Rattle.peer_exec_bar.proofs.passed.Goals as goal
 
-pub loop-i-init : goal.loop-i-init
-unfolding every
-loop-i-init c = (omega arith, refl)
-
-pub returns-then-not-has_passed : goal.returns-then-not-has_passed
-returns-then-not-has_passed c = search (rules, law.one_behind)
-
-pub loop-i-preserved : goal.loop-i-preserved
-loop-i-preserved c = (omega arith, search (rules, law.one_more))
-
 pub returns : goal.returns
-returns c = search (rules, law.all_passed_lem)
+returns c =
+    let a = c.args in
+    all_from_yields_List (λ p. eqb p a.id.0 || leb a.exec.0 (get_or a.execs.now p 0)) _ _ _ c.all.ensures.ran
+    (YieldsList-from_range 0 a.population a.population refl (omega arith)) (λ x b q k. search (rules, tests))
+    ∙ law.passed_by a.execs.now a.population a.id.0 a.exec.0
