@@ -18,13 +18,7 @@ use Rattle.bodega.specs.Replica.{Replica, pair, fresh_pair, with_peer_accept}
 use Rattle.bodega.specs.Conflease.{newer, counted, guard_accept_bar, update_peer_accept_max}
 use Rattle.peer_accept_bar.specs.Pairs.{pairs_of, peer_accept, accept_max, guarded}
 
--- ---- the tests
-
-pub newer_no : (a b n k : ℕ) → n ≤ a → (n ≡ a → ⊥) → false ≡ newer (pair a b) n k
-newer_no a b n k h e = simp (le-ltb a n h, ne_eqb n a e)
-
-pub newer_bar : (a b n k : ℕ) → n ≤ a → n ≡ a → ltb k b ≡ newer (pair a b) n k
-newer_bar a b n k h e = simp (le-ltb a n h, eq-eqb n a e)
+-- ---- a pair as it stands
 
 pub pair_at : (p : List ℕ) (n i : ℕ) → i < n → get_or (pairs_of n p) i fresh_pair ≡ pair (get_or p i 0) (get_or p (bars_at + i) 0)
 unfolding pairs_of
@@ -72,12 +66,12 @@ module _ (p : List ℕ) (n i number bar : ℕ) (h : i < n) (k : n ≤ replicas) 
 -- ---- a guard
 
 module _ (n quorum ballot max peer number bar : ℕ) (p : List ℕ) (t : Bool) (e : t ≡ newer (get_or (pairs_of n p) peer fresh_pair) number bar) where
-  pub not_newer : not t ≡ true → peer_accept n p max ≡ guarded quorum ballot peer number bar (peer_accept n p max)
-  not_newer f = sym (rw (sym e ∙ not-true t f))
+  pub not_newer : t ≡ false → peer_accept n p max ≡ guarded quorum ballot peer number bar (peer_accept n p max)
+  not_newer f = sym (rw (sym e ∙ f))
 
-  pub now_newer : (q : List ℕ) (r : ℕ) → not t ≡ false → pairs_of n q ≡ set (pairs_of n p) peer (pair number bar) → r ≡ accept_max quorum ballot (pairs_of n q)
+  pub now_newer : (q : List ℕ) (r : ℕ) → t ≡ true → pairs_of n q ≡ set (pairs_of n p) peer (pair number bar) → r ≡ accept_max quorum ballot (pairs_of n q)
       → peer_accept n q r ≡ guarded quorum ballot peer number bar (peer_accept n p max)
-  now_newer q r f g k = sym (rw (sym e ∙ not-false t f, k, g))
+  now_newer q r f g k = sym (rw (sym e ∙ f, k, g))
 
 -- the same of a replica
 pub guards : (r : Replica) (peer number bar : ℕ) → guard_accept_bar r peer number bar ≡ with_peer_accept (guarded r.me.quorum r.bal.max_seen peer number bar r.peer_accept) r

@@ -15,13 +15,7 @@ use ids::{Ballot, Replica, Slot};
 fn beats(was: Ballot, stood: Slot, number: Ballot, bar: Slot) -> bool
     ensures { result ≡ is_newer (pair was.0 stood.0) number.0 bar.0 }
 {
-    if was.0 < number.0 {
-        return true;
-    }
-    if number.0 != was.0 {
-        return false;
-    }
-    bar.0 < stood.0
+    was < number || (number == was && bar < stood)
 }
 
 // A larger number, or an equal one with a smaller bar.
@@ -30,9 +24,12 @@ fn newer(pairs: &[u64], population: u8, peer: Replica, number: Ballot, bar: Slot
     ensures { result ≡ is_newer (get_or (pairs_of population pairs.now) peer.0 fresh_pair) number.0 bar.0 }
 {
     let i = peer.0 as usize;
-    let was = pairs[i];
-    let stood = pairs[layout::BARS_AT + i];
-    beats(Ballot(was), Slot(stood), number, bar)
+    beats(
+        Ballot(pairs[i]),
+        Slot(pairs[layout::BARS_AT + i]),
+        number,
+        bar,
+    )
 }
 
 // `peer_accept_bar.insert`.
@@ -48,10 +45,7 @@ pub fn insert(pairs: &mut [u64], population: u8, peer: Replica, number: Ballot, 
 fn counted_bar(ballot: Ballot, number: Ballot, bar: Slot) -> Slot
     ensures { result.0 ≡ counted ballot.0 (pair number.0 bar.0) }
 {
-    if number.0 == ballot.0 {
-        return bar;
-    }
-    Slot::BEYOND
+    if number == ballot { bar } else { Slot::BEYOND }
 }
 
 // `update_peer_accept_max`: the quorum-th smallest bar, counting only those on the ballot.
@@ -60,16 +54,11 @@ pub fn accept_max(pairs: &[u64], population: u8, quorum: u8, ballot: Ballot) -> 
     ensures { result.0 ≡ get_or (sort (map (counted ballot.0) (pairs_of population pairs.now))) (quorum - 1) 0 }
 {
     let n = population as usize;
-    let mut b = [0u64; 64];
-    let mut i = 0;
-    while i < n {
-        let number = pairs[i];
-        let bar = pairs[layout::BARS_AT + i];
-        let counted = counted_bar(ballot, Ballot(number), Slot(bar));
-        b[i] = counted.0;
-        i += 1;
+    let mut bars = [0; layout::REPLICA_PLACES];
+    for i in 0..n {
+        bars[i] = counted_bar(ballot, Ballot(pairs[i]), Slot(pairs[layout::BARS_AT + i])).0;
     }
-    Slot(rank::kth(&b[0..n], quorum as usize))
+    Slot(rank::kth(&bars[..n], quorum as usize))
 }
 
 // A peer's guard: where it alters the pair the reading bar is worked out anew; gives the reading bar.

@@ -1,10 +1,5 @@
 use Rattle.peer_accept_bar.proofs.Laws as law
-use native.Mathlib.Omega.{arith}
-use lib.ListN.{length-set}
 use Rattle.peer_accept_bar.proofs.insert.Goals as goal
-
-pub bounds-pairs-i-2 : goal.bounds-pairs-i-2
-bounds-pairs-i-2 c = simp length-set (omega arith)
 
 pub returns : goal.returns
 returns c =
