@@ -157,6 +157,10 @@ module _ (call : machine.Call) (n : Node) (m area : List ℕ) (b : Bool) where
 
 -- ---- the call
 
+and_false : (a b : Bool) → b ≡ false → a && b ≡ false
+and_false true b e = e
+and_false false b e = refl
+
 or_left : (a b : Bool) → a || b ≡ false → a ≡ false
 or_left true b e = e
 or_left false b e = refl
@@ -187,8 +191,11 @@ module _ (n : Node) (m area : List ℕ) (peer ballot : ℕ) (o : Option Responde
   abbrev Gives : Given Node → List ℕ → List ℕ → Type 0
   Gives g m' area' = Answers (λ x y. ready x y && fits) view beat n m area g m' area'
 
-  pub not_whole : ready n m && fits ≡ false → Gives (given_of n (Err NotReady)) m area
-  not_whole = unready beat n m area fits
+  pub not_ready : ready n m ≡ false → Gives (given_of n (Err NotReady)) m area
+  not_ready e = unready beat n m area fits (rw e)
+
+  pub not_fitting : fits ≡ false → Gives (given_of n (Err NotReady)) m area
+  not_fitting e = unready beat n m area fits (and_false (ready n m) fits e)
 
   module _ (y : ready n m ≡ true) (fine : fits ≡ true) where
     pub beat_refused : (x : Refusal) (z : Result node.Taken Refusal) → number_of x ≡ lowest (early n.population n.bal_max_seen.0 peer ballot conf commit exec snap) → IsErrAnd z (λ u. u ≡ x)
@@ -225,7 +232,7 @@ module _ (n : Node) (m area : List ℕ) (peer ballot : ℕ) (o : Option Responde
           unfolding view
           heard_is = effect_is (view n m) peer ballot conf commit exec snap ∙ rw (le-ltb ballot n.bal_max_seen.0 h, ← j)
 
-          pub below : peer < n.population
+          below : peer < n.population
           unfolding grounds view
           below = leb-false n.population peer (or_left (leb n.population peer) (foreign_leader n.population conf) (none_applies beat n m allowed).1.0)
 
@@ -237,20 +244,31 @@ module _ (n : Node) (m area : List ℕ) (peer ballot : ℕ) (o : Option Responde
           unfolding view
           seen_is = h
 
-          pub room : (c : Conf) → i ≡ Some c → leads c n.id.0 ≡ true → slots_after n.slots (view n m).insts ≤ 32
+          installable : (d : Option RespondersConf) → fitting d rows ≡ true → carried d rows ≡ i → Installable n m d rows
           unfolding view
-          room c q l = slots_left (view n m) ballot c n.slots held (is_ready n m true (sym y) refl).window seen_is l (sym (rw (← q) a) ∙ x)
+          installable d w q =
+              record {
+                roster = w;
+                room = λ c k l. slots_left (view n m) ballot (roster_of c rows) n.slots held (is_ready n m true (sym y) refl).window seen_is l
+                    (ap (λ (z : Option Conf). appending (view n m) ballot z && no_room (view n m)) (sym (ap (λ (z : Option RespondersConf). carried z rows) k) ∙ q) ∙ sym a ∙ x);
+              }
 
           module _ (q : ℕ) (p : q ≡ length heard.items) where
             pub beat_20 : places area < q → Gives (given_of n (Err AreaTooSmall)) m area
             beat_20 l = answers_both beat n m area fits fine (given_of n (Err AreaTooSmall)) m area (few_places beat n m allowed area true (sym y) refl (rw (heard_is, ← p) l))
 
             module _ (l : q ≤ places area) where
-              pub heard_room : length heard.items ≤ places area
-              heard_room = rw (← p) l
-
               pub beat_taken : (r : node.Taken) (m' area' : List ℕ) → Does heard 0 m area (taken_of r) m' area' → Gives (given_of n (Ok r)) m' area'
               beat_taken r m' area' d =
                   answers_both beat n m area fits fine (given_of n (Ok r)) m' area'
                   (rw d.count
                   (taken_with beat n m allowed area true (sym y) refl heard.replica heard.items r.node m' area' heard_is (rw (← p) l) d.next d.items d.size d.beyond d.ready_again))
+
+  -- what the parts of a heartbeat ask for
+  pub heard_room : (y : ready n m ≡ true) (fine : fits ≡ true) (d : Option RespondersConf) → fitting d rows ≡ true
+      → (g : 0 ≡ lowest (early n.population n.bal_max_seen.0 peer ballot conf commit exec snap)) (j : carried d rows ≡ installed (view n m) peer ballot conf) (s : Bool)
+      (a : s ≡ appending (view n m) ballot (carried d rows) && no_room (view n m)) (x : s ≡ false) (h : n.bal_max_seen.0 ≤ ballot) (q : ℕ)
+      (p : q ≡ length (heard_by (carried d rows) peer ballot commit exec snap (view n m)).items) → q ≤ places area
+      → (ready n m ≡ true) × (peer < n.population) × Installable n m d rows × (length (heard_by (carried d rows) peer ballot commit exec snap (view n m)).items ≤ places area)
+  heard_room y fine d w g j s a x h q p l =
+      (y, below y fine g (carried d rows) j s a x h, installable y fine g (carried d rows) j s a x h d w refl, rw (← p) l)

@@ -107,7 +107,12 @@ fn installs(
 {
     node.bal_max_seen < ballot
         || (roster_compare::from_proposer(peer, ballot)
-            && !roster_compare::same(conf, rows, node.bodega_conf, &mem[layout::ROWS_AT..layout::SLOTS_AT]))
+            && !roster_compare::same(
+                conf,
+                rows,
+                node.bodega_conf,
+                &mem[layout::ROWS_AT..layout::SLOTS_AT],
+            ))
 }
 
 // The attached roster, where it is to be installed.
@@ -175,7 +180,11 @@ fn lacks_slot(node: Node, mem: &[u64], ballot: Ballot, conf: Option<RespondersCo
     };
     node.bal_max_seen <= ballot
         && node::leads(conf.leader, node.id)
-        && !insts::any_open(&mem[layout::SLOTS_AT..layout::WRITTEN_AT], node.start_slot, node.slots)
+        && !insts::any_open(
+            &mem[layout::SLOTS_AT..layout::WRITTEN_AT],
+            node.start_slot,
+            node.slots,
+        )
         && (Node::WINDOW <= node.slots || Slot::TOP.0 < node.start_slot.0 + node.slots as u64)
 }
 
@@ -325,5 +334,7 @@ pub fn heartbeat(
     if area.len() / 6 < count_items(node, mem, ballot, conf, commit, exec) {
         return Err(Refusal::AreaTooSmall);
     }
-    Ok(heard(node, mem, area, peer, ballot, conf, rows, commit, exec, snap))
+    Ok(heard(
+        node, mem, area, peer, ballot, conf, rows, commit, exec, snap,
+    ))
 }
