@@ -1,5 +1,5 @@
 -- Trusted: the node and a roster as plain structs, for a caller that has no enums.
-use Rattle.std.specs.Prelude.{◌≡◌, ℕ, eqb, if◌then◌else◌}
+use Rattle.std.specs.Prelude.{◌≡◌, ℕ, Bool, true, false, ◌&&◌, List, length, eqb, leb, if◌then◌else◌}
 use Rattle.roster_conf.specs.declared.RespondersConf.{RespondersConf}
 use Rattle.node.specs.declared.Node.{Node}
 use Rattle.bodega.specs.Answers.{Given}
@@ -10,6 +10,9 @@ use Rattle.std.specs.Prelude.{Option, Some, None}
 use Rattle.ids.specs.declared.Replica.{Replica}
 use Rattle.std.specs.Prelude.{Result, Ok, Err}
 use Rattle.ids.specs.declared.Refusal.{Refusal}
+use Rattle.ids.specs.Refusal.{number_of}
+use Rattle.node.specs.View.{size, in_range}
+use Rattle.node.specs.Begins.{Stands}
 use Rattle.node.specs.declared.Taken.{Taken}
 
 abbrev pub leader_at : ℕ → ℕ → Option Replica
@@ -23,11 +26,8 @@ abbrev pub leader_in : Option Replica → ℕ
 leader_in None = 0
 leader_in (Some r) = r.0
 
-abbrev pub conf_with : Option Replica → Roster → RespondersConf
-conf_with l r = record { leader = l; count = r.ranges; default = r.default }
-
 abbrev pub conf_of : Roster → RespondersConf
-conf_of r = conf_with (leader_at r.has_leader r.leader) r
+conf_of r = record { leader = leader_at r.has_leader r.leader; count = r.ranges; default = r.default }
 
 abbrev pub node_with : Option Replica → Plain → Node
 node_with l p =
@@ -51,14 +51,14 @@ node_with l p =
 abbrev pub node_of : Plain → Node
 node_of p = node_with (leader_at p.has_leader p.leader) p
 
-abbrev pub plain_with : ℕ → ℕ → Node → Plain
-plain_with l has n =
+abbrev pub plain_of : Node → Plain
+plain_of n =
     record {
       id = n.id.0;
       population = n.population;
       quorum = n.quorum;
-      leader = l;
-      has_leader = has;
+      leader = leader_in n.bodega_conf.leader;
+      has_leader = has_leader n.bodega_conf.leader;
       ranges = n.bodega_conf.count;
       default = n.bodega_conf.default;
       bal_max_seen = n.bal_max_seen.0;
@@ -72,9 +72,6 @@ plain_with l has n =
       peer_accept_max = n.peer_accept_max.0;
       slots = n.slots;
     }
-
-abbrev pub plain_of : Node → Plain
-plain_of n = plain_with (leader_in n.bodega_conf.leader) (has_leader n.bodega_conf.leader) n
 
 -- all fields are 0
 abbrev pub no_node : Plain
@@ -101,23 +98,27 @@ no_node =
 
 -- ---- what the functions give
 
-abbrev pub shown_of : Plain → Result Taken Refusal → Plain
-shown_of p a = if eqb a.number 0 then plain_of a.node else p
-
+-- where a call is refused, the number, no items, and the node that was handed in
 abbrev pub answered_of : Plain → Result Taken Refusal → PlainAnswered
-answered_of p a = record { number = a.number; count = a.count; node = shown_of p a }
+answered_of p (Ok t) = record { number = 0; count = t.count; node = plain_of t.node }
+answered_of p (Err r) = record { number = number_of r; count = 0; node = p }
 
 unfoldable pub begun_of : Result Node Refusal → PlainAnswered
 begun_of (Ok n) = record { number = 0; count = 0; node = plain_of n }
-begun_of (Err k) = record { number = k; count = 0; node = no_node }
+begun_of (Err r) = record { number = number_of r; count = 0; node = no_node }
 
 -- ---- read back
 
 abbrev pub given : PlainAnswered → Given Node
 given r = record { number = r.number; count = r.count; node = node_of r.node }
 
-abbrev pub fresh_of : PlainAnswered → Result Node Refusal
-fresh_of r = if eqb r.number 0 then Ok (node_of r.node) else Err r.number
+-- `Node::fresh`: 0 and a fresh node, or 2
+abbrev pub BeginsIf : Bool → ℕ → ℕ → ℕ → List ℕ → PlainAnswered → List ℕ → Type 0
+BeginsIf true id population quorum before r after = (r.number ≡ 0) × Stands id population quorum before (node_of r.node) after
+BeginsIf false id population quorum before r after = (r.number ≡ 2) × (after ≡ before)
+
+abbrev pub Begins : ℕ → ℕ → ℕ → List ℕ → PlainAnswered → List ℕ → Type 0
+Begins id population quorum before r after = BeginsIf (leb size (length before) && in_range id population quorum) id population quorum before r after
 
 -- No field is free: a call that is taken gives what `plain_of` makes of its node, one that is refused what it was
 -- handed.

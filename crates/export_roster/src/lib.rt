@@ -8,10 +8,11 @@ ghost use Rattle.roster_conf.specs.Edit.{SetResponders, SetFull, IntoFiltered};
 ghost use Rattle.roster_conf.specs.Edits.{lookup};
 ghost use Rattle.export_roster.specs.Numbers.{key_of, plain, count_of, Counts, mask_of};
 
-use ids::Replica;
-use roster_conf::{Edited, Responders, RespondersConf};
+use ids::{Refusal, Replica};
+use roster_conf::RespondersConf;
 
-// read is 1, or 0 where the key does not read.
+// read is 1, or 0 where the key does not read. Numbers stand in place of an `Option` or a `Result` in these three: the
+// C interface has neither.
 #[repr(C)]
 #[derive(Clone, Copy)]
 pub struct Key {
@@ -54,24 +55,27 @@ fn counted(edited: Result<RespondersConf, Refusal>, count: usize) -> Count
             number: 0,
             count: next.count,
         },
-        Err(number) => Count { number, count },
+        Err(refusal) => Count {
+            number: refusal.number(),
+            count,
+        },
     }
 }
 
 pub fn key_to_inty(key: &[u8]) -> Key
     ensures { result ≡ key_of (read_key key.now) }
 {
-    let Some(n) = keys::key_to_inty(key) else {
-        return Key {
+    match keys::key_to_inty(key) {
+        Some(n) => Key {
+            read: 1,
+            hi: n.hi,
+            lo: n.lo,
+        },
+        None => Key {
             read: 0,
             hi: 0,
             lo: 0,
-        };
-    };
-    Key {
-        read: 1,
-        hi: n.hi,
-        lo: n.lo,
+        },
     }
 }
 
@@ -86,37 +90,32 @@ pub fn set_responders(
 ) -> Count
     ensures { Counts (SetResponders start.now end.now mask) population count rows.old result rows.new }
 {
-    let roster = conf(count, 0);
-    counted(
-        roster.set_responders(rows, population, start, end, mask),
-        count,
-    )
+    let edited = conf(count, 0).set_responders(rows, population, start, end, mask);
+    counted(edited, count)
 }
 
 // `set_full` of such a roster.
 pub fn set_full(rows: &mut [u64], count: usize, population: u8, mask: u64) -> Count
     ensures { Counts (SetFull mask) population count rows.old result rows.new }
 {
-    let roster = conf(count, 0);
-    counted(roster.set_full(rows, population, mask), count)
+    counted(conf(count, 0).set_full(rows, population, mask), count)
 }
 
 // `into_filtered` of such a roster.
 pub fn into_filtered(rows: &mut [u64], count: usize, population: u8, id: u8) -> Count
     ensures { Counts (IntoFiltered id) population count rows.old result rows.new }
 {
-    let roster = conf(count, 0);
-    counted(roster.into_filtered(rows, population, Replica(id)), count)
+    let edited = conf(count, 0).into_filtered(rows, population, Replica(id));
+    counted(edited, count)
 }
 
 // `get_responders_by_key` of a roster with no leader.
 pub fn get_responders_by_key(rows: &[u64], count: usize, default: u64, key: &[u8]) -> Mask
     ensures { result ≡ mask_of (lookup (plain count default) rows.now key.now) }
 {
-    let roster = conf(count, default);
-    match roster.get_responders_by_key(rows, key) {
-        Responders::Mask(mask) => Mask { found: 1, mask },
-        Responders::NoRoster => Mask { found: 0, mask: 0 },
-        Responders::Refused(_) => Mask { found: 2, mask: 0 },
+    match conf(count, default).get_responders_by_key(rows, key) {
+        Ok(Some(mask)) => Mask { found: 1, mask },
+        Ok(None) => Mask { found: 0, mask: 0 },
+        Err(_) => Mask { found: 2, mask: 0 },
     }
 }

@@ -173,9 +173,6 @@ module _ (f : Range → List Range) (s : List ℕ) (i n : ℕ) (l k : List Range
       ∙ sym (push_all_append l (f (range_at s (i * roster_row))) (each f (rows_from s (i + 1) n)))
       ∙ sym (ap (λ (x : List Range). push_all l (each f x)) (from_first s i n h)) ∙ p
 
-  pub pass_end : n ≤ i → push_all l (each f (rows_from s i n)) ≡ k → l ≡ k
-  pass_end h p = sym (ap (λ (x : List Range). push_all l (each f x)) (from_none s i n h)) ∙ p
-
 pub pass_start : (f : Range → List Range) (s : List ℕ) (n : ℕ) (l : List Range) → push_all l (each f (rows_from s 0 n)) ≡ push_all l (each f (ranges_of s n))
 pass_start f s n l = ap (λ (x : List Range). push_all l (each f x)) (from_all s n)
 
