@@ -1,5 +1,5 @@
+use Rattle.std.proofs.Common.{rules}
 use Rattle.text.proofs.Laws as law
-use borrow.Author.Rules.{rules}
 use Rattle.text.proofs.put_u64.Goals as goal
 
 pub digits-requires : goal.digits-requires

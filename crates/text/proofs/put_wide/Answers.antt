@@ -1,9 +1,9 @@
+use Rattle.std.proofs.Common.{rules}
 use Rattle.text.proofs.Laws as law
-use borrow.Author.Rules.{rules}
 use Rattle.text.proofs.put_wide.Goals as goal
 
-pub returns-in_default : goal.returns-in_default
-returns-in_default c = search (rules, law.wide_never)
+pub unwrap-requires : goal.unwrap-requires
+unwrap-requires c = search (rules, law.wide_some)
 
 pub returns : goal.returns
 returns c = search (rules, law.wide_put)
