@@ -43,26 +43,13 @@ take_min n l = elim (dec_lt n (length l)) [
       rw e (take-length l ∙ sym (take_all n l (omega arith))))
 ]
 
-module _ (text : List ℕ) (start len from n : ℕ) (a : from ≡ min start (length text)) (b : n ≡ min len (length text - from)) where
-  key_length : length (part text start len) ≡ n
-  unfolding part
-  key_length = simp (length-take, length-drop) (omega arith)
-
-  pub long_is : ltb 48 n ≡ long_key (part text start len)
-  long_is = ap (ltb 48) (sym key_length)
-
-  module _ (m : ℕ) (e : m ≡ from + n - from) where
-    pub key_is : take m (drop from text) ≡ part text start len
-    unfolding part
-    key_is =
-        let d : drop from text ≡ drop start text = rw a (drop_min start text) in
-        let q : m ≡ min len (length (drop start text)) = rw (← d, length-drop) (omega arith) in
-        rw (d, q) (take_min len (drop start text))
-
-    pub key_short : long_key (part text start len) ≡ false → length (take m (drop from text)) ≤ 48
-    key_short h =
-        let l : length (part text start len) ≤ 48 = ltb-false 48 (length (part text start len)) h in
-        rw key_is l
+pub part_is : (text : List ℕ) (start len from n : ℕ) → from ≡ min start (length text) → n ≡ min len (length (take (length text - from) (drop from text)))
+    → take n (take (length text - from) (drop from text)) ≡ part text start len
+unfolding part
+part_is text start len from n a b =
+    let l : length (drop from text) ≤ length text - from = rw length-drop (omega arith) in
+    let e : take (length text - from) (drop from text) ≡ drop start text = take_all (length text - from) (drop from text) l ∙ rw a (drop_min start text) in
+    rw (b, e) (take_min len (drop start text))
 
 -- ---- whether a key is long, from i on
 

@@ -1,4 +1,4 @@
-use mathlib.Core.Path.{sym}
+use Rattle.std.proofs.Common.{sym}
 use Rattle.req_batch.proofs.Laws as law
 use Rattle.req_batch.proofs.count.Goals as goal
 

@@ -1,10 +1,7 @@
-use Prim.Native.Nat.{◌≤◌, ◌-◌}
+use Rattle.std.proofs.Common.{◌≤◌}
 use Rattle.layout.specs.Layout.{request_places}
 use Rattle.req_batch.proofs.Laws as law
 use Rattle.req_batch.proofs.load.Given as goal
 
 abbrev pub invariant-loop-i : goal.invariant-loop-i
-invariant-loop-i l = (l.i ≤ l.n) × (l.n ≤ request_places) × law.Loaded l.rows l.text l.initial.out l.out l.i
-
-abbrev pub decreases-loop-i : goal.decreases-loop-i
-decreases-loop-i l = l.n - l.i
+invariant-loop-i l = (l.i-end ≤ request_places) × law.Loaded l.rows l.text l.initial.out l.out l.i
