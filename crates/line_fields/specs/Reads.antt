@@ -74,12 +74,10 @@ Reaches s at k (Some next) = AfterNumbers s at k next
 abbrev pub ReadsNumbersAt : Bytes → ℕ → ℕ → List ℕ → Option ℕ → List ℕ → Type 0
 ReadsNumbersAt s at k out o out' = Reaches s at k o × PutsNumbers s at k out out'
 
--- exactly k fields are left, each a number, and which; words of `out` from k on stay
-pub record ReadsNumbers (s : Bytes) (at k : ℕ) (out : List ℕ) (r : Bool) (out' : List ℕ) : Type 0 where
-  pub good : r ≡ numbers k (fields_from s at)
-  pub values : r ≡ true → (i : ℕ) → i < k → get_or out' i 0 ≡ number_at (fields_from s at) i
-  pub rest : (i : ℕ) → k ≤ i → get_or out' i 0 ≡ get_or out i 0
-  pub size : length out' ≡ length out
+-- whether exactly k fields are left, each a number, and which
+abbrev pub ReadsNumbers : Bytes → ℕ → ℕ → Option (List ℕ) → Type 0
+ReadsNumbers s at k None = numbers k (fields_from s at) ≡ false
+ReadsNumbers s at k (Some a) = (numbers k (fields_from s at) ≡ true) × ((i : ℕ) → i < k → get_or a i 0 ≡ number_at (fields_from s at) i)
 
 -- whether there is a field that is empty or a number
 abbrev pub is_optional : List Bytes → Bool

@@ -91,16 +91,15 @@ pub fn number_at(line: &[u8], at: usize) -> Option<NumberAt>
     })
 }
 
-// k numbers from a position on, put into `out`, up to the first field that is none. Where the field after the last one
-// begins.
-pub fn numbers_at(line: &[u8], at: usize, k: usize, out: &mut [u64]) -> Option<usize>
-    requires { k ≤ length out.old }
-    ensures { ReadsNumbersAt line.now at k out.old result out.new }
+// As many numbers as `out` has words, from a position on, put there up to the first field that is none. Where the field
+// after the last one begins.
+pub fn numbers_at(line: &[u8], at: usize, out: &mut [u64]) -> Option<usize>
+    ensures { ReadsNumbersAt line.now at (length out.old) out.old result out.new }
 {
     let mut next = at;
-    for i in 0..k {
+    for word in out.iter_mut() {
         let number = number_at(line, next)?;
-        out[i] = number.value;
+        *word = number.value;
         next = number.next;
     }
     Some(next)

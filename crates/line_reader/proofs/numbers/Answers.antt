@@ -1,9 +1,11 @@
-use borrow.Author.Rules.{rules}
+use mathlib.Core.List.{[]}
+use Rattle.std.proofs.lemmas.List.{length-replicate}
 use Rattle.line_reader.proofs.Laws as law
 use Rattle.line_reader.proofs.numbers.Goals as goal
 
-pub returns-then-not-n : goal.returns-then-not-n
-returns-then-not-n c = search (rules, law.numbers_bad)
+pub returns-in_err-next_numbers : goal.returns-in_err-next_numbers
+returns-in_err-next_numbers g c =
+    rw c.from_residual.ensures (law.too_few _ _ _ _ c.new-reader.ensures [] [] _ (length-replicate _ _) c.in_err-next_numbers.ensures.0.0)
 
 pub returns : goal.returns
-returns c = search (rules, law.numbers_ended)
+returns g c = rw c.then_some.ensures (law.all_read _ _ _ _ c.new-reader.ensures _ _ _ (length-replicate _ _) _ c.in_ok-next_numbers.ensures _ c.is_ended.ensures)
