@@ -1,5 +1,5 @@
 -- Trusted: what the code's host stands for, and what a line leaves in its buffers.
-use Rattle.std.specs.Prelude.{◌≡◌, Bool, true, false, ◌&&◌, List, ℕ, ◌*◌, ◌<◌, leb, ltb, length, if◌then◌else◌}
+use Rattle.std.specs.Prelude.{◌≡◌, Bool, true, false, ◌&&◌, List, ℕ, ◌<◌, leb, ltb, length, if◌then◌else◌}
 use Rattle.std.specs.Prelude.{Option, None, Some, Result, Ok, Err}
 use Rattle.words.specs.Choice.{if_none◌then◌else◌}
 use Rattle.words.specs.Writes.{writes}

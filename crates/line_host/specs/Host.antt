@@ -9,7 +9,7 @@ use Rattle.roster_conf.specs.Conf.{Conf, empty}
 use Rattle.roster_conf.specs.Edit.{Edit, edit_result, refused, taken}
 use Rattle.roster_conf.specs.Edit as edits
 use Rattle.roster_show.specs.Show.{show}
-use Rattle.bodega.specs.Replica.{Replica, fresh, Call, Heartbeat}
+use Rattle.bodega.specs.Replica.{Replica, fresh, Heartbeat}
 use Rattle.bodega.specs.Step.{Step, Refused, Taken, step}
 use Rattle.node.specs.View.{in_range}
 use Rattle.line_answer.specs.Text.{refused_text, taken_text}

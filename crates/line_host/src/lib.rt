@@ -60,6 +60,7 @@ impl Host {
 }
 
 // Whether the buffers are long enough, and edits can have made the draft.
+#[tactic(auto, unfolding(crate::specs::Follows::sound))]
 pub fn is_sound(draft: RespondersConf, mem: &[u64], rows: &[u64]) -> bool
     ensures { result ≡ sound draft mem.now rows.now }
 {

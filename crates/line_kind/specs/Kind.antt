@@ -1,6 +1,6 @@
 -- Trusted: document 01, "The event program": the seventeen kinds of lines, by their names. A name as one word is a
 -- bridge, tied by proofs/Names.
-use Rattle.std.specs.Prelude.{ℕ, ◌+◌, ◌*◌, ◌&&◌, [], ◌∷◌, eqb, length, if◌then◌else◌}
+use Rattle.std.specs.Prelude.{ℕ, ◌+◌, ◌*◌, ◌&&◌, [], ◌∷◌, eqb, if◌then◌else◌}
 use Rattle.words.specs.Text.{Bytes, bytes}
 use Rattle.keys.specs.Same.{same_bytes}
 use Rattle.line_kind.specs.declared.Kind.{Kind}
