@@ -15,8 +15,6 @@ use Rattle.words.proofs.Tests.{and_both}
 use Rattle.ids.specs.Limits.{items}
 use Rattle.items.specs.Item.{Item, encode, places}
 use Rattle.roster_conf.specs.declared.RespondersConf.{RespondersConf}
-use Rattle.roster_conf.specs.declared.Edited.TheVariants as edits
-use Rattle.roster_show.specs.declared.Shown.TheVariants as shows
 use Rattle.roster_conf.specs.Ground.{Ground, ◌when◌or◌, refusal}
 use Rattle.roster_conf.proofs.Grounds.{NoneApply, none_apply, not_0, edit_positive}
 use Rattle.roster_conf.specs.Conf.{Conf}
@@ -32,7 +30,7 @@ use Rattle.bodega.specs.Grounds as machine-grounds
 use Rattle.bodega.specs.Answers as machine
 use Rattle.bodega.proofs.Taken.{refused_not_0}
 use Rattle.node.specs.declared.Node.{Node}
-use Rattle.node.specs.declared.Answered as code-answered
+use Rattle.node.specs.declared.Taken as code-taken
 use Rattle.node.specs.View.{size, view, ready, given_of, in_range as inRangeOf}
 use Rattle.node.proofs.Calls.{is_ready}
 use Rattle.line_fields.specs.Split.{fields_from}
@@ -42,11 +40,11 @@ use Rattle.line_kind.specs.declared.Kind.{Kind}
 use Rattle.line_fields.specs.declared.Field.{Field}
 use Rattle.line_fields.proofs.Laws.{from_start}
 use Rattle.line_host.specs.declared.Host as code
-use Rattle.line_host.specs.declared.LineDone.{LineDone}
+use Rattle.line_host.specs.declared.LineTaken.{LineTaken}
 use Rattle.line_host.specs.Line.{Line, NodeLine, EditLine, ShowLine, HeardLine, CallLine, only, line_by, line_of}
 use Rattle.line_host.specs.Host.{Host, LineResult, refused_line, first_line, line_at, answer_line, text_of}
 use Rattle.line_host.specs.Host as lines
-use Rattle.line_host.specs.Follows.{host_of, sound, LineFollowsBy, LineFollows, result_by, AnswersLine, EditsLine}
+use Rattle.line_host.specs.Follows.{host_of, sound, LineGiven, line_given, LineFollowsBy, LineFollows, result_by, AnswersLine, EditsLine}
 use Rattle.line_draft.specs.Drafts.{ShowsLine, Refuses, BeginsLine, BeginsBy}
 use Rattle.line_answer.specs.Text.{refused_text}
 use Rattle.text.specs.Wrote.{Wrote}
@@ -56,15 +54,17 @@ use Rattle.words.specs.Writes.{length_writes}
 use Rattle.layout.specs.Layout.{roster_words, node_words}
 use Rattle.line_event.specs.Ways as ways
 use Rattle.line_event.specs.Event.{whole, fit, due_in, due as due-line, AnswersEvent}
-use Rattle.std.specs.Prelude.{Result}
+use Rattle.std.specs.Prelude.{Result, Ok, Err, option_map}
+use Rattle.std.specs.Bool.{then_some}
 use Rattle.ids.specs.declared.Refusal.{Refusal}
+use Rattle.ids.specs.declared.Refusal.TheVariants.{Malformed, NotReady}
+use Rattle.ids.specs.Refusal.{number_of}
 
 -- ---- a refusal changes nothing
 
-pub turned_acts : (n : ℕ) (next : Host) (h : code.Host) (mem rows area : List ℕ) (a : LineDone) → 0 < n → a ≡ ways.refused h n
-    → LineFollowsBy next (lines.Refusal n) h mem rows area a mem rows area
-turned_acts n next h mem rows area a p e =
-    rw e (record { refused = p; number = refl; count = refl; same_host = refl; same_mem = refl; same_rows = refl; same_area = refl })
+turned_acts : (x : Refusal) (next : Host) (h : code.Host) (mem rows area : List ℕ) → 0 < number_of x → LineFollowsBy next (lines.Refusal (number_of x)) h mem rows area (line_given h (Err x)) mem rows area
+turned_acts x next h mem rows area p =
+    record { refused = p; number = refl; count = refl; same_host = refl; same_mem = refl; same_rows = refl; same_area = refl }
 
 -- ---- calls
 
@@ -76,8 +76,20 @@ step_positive r c places n e = go (refusal_of r c places) refl e
     go None f g = let z : ◌≡◌ {A = ℕ} 0 1 = cc in absurd (omega arith)
     go (Some k) f g = let q : k ≡ n = cc in refused_not_0 r c places n (f ∙ ap Some q)
 
-module _ (h : code.Host) (mem rows area mem' area' : List ℕ) (a : code-answered.Answered) (r : LineDone) (e : r ≡ ways.called h a) where
-  refuses : (n : ℕ) (next : Host) → 0 < n → machine.Refuses ready view n h.node mem area (given_of a) mem' area' → LineFollowsBy next (lines.Refusal n) h mem rows area r mem' rows area'
+-- what a line leaves, by what it gives
+abbrev FollowsGiven : LineResult → code.Host → List ℕ → List ℕ → List ℕ → LineGiven → List ℕ → List ℕ → List ℕ → Type 0
+FollowsGiven t h mem rows area g mem' rows' area' = LineFollowsBy t.host t.outcome h mem rows area g mem' rows' area'
+
+-- the host after a call
+abbrev given_host : code.Host → machine.Given Node → LineGiven
+given_host h g = record { number = g.number; count = g.count; host = record { node = g.node; draft = h.draft } }
+
+called_given : (h : code.Host) (a : Result code-taken.Taken Refusal) → line_given h (ways.called h a) ≡ given_host h (given_of h.node a)
+called_given h (Ok t) = refl
+called_given h (Err x) = refl
+
+module _ (h : code.Host) (mem rows area mem' area' : List ℕ) (a : Result code-taken.Taken Refusal) (r : LineGiven) (e : r ≡ given_host h (given_of h.node a)) where
+  refuses : (n : ℕ) (next : Host) → 0 < n → machine.Refuses ready view n h.node mem area (given_of h.node a) mem' area' → LineFollowsBy next (lines.Refusal n) h mem rows area r mem' rows area'
   refuses n next p f =
       rw e
       (record {
@@ -95,7 +107,7 @@ module _ (h : code.Host) (mem rows area mem' area' : List ℕ) (a : code-answere
     unfolding sound
     long_again l = rw l s
 
-    takes : (x : Replica) (l : List Item) → machine.Takes ready view x l mem area (given_of a) mem' area'
+    takes : (x : Replica) (l : List Item) → machine.Takes ready view x l mem area (given_of h.node a) mem' area'
         → LineFollowsBy (record { node = Some x; draft = (host_of h mem rows).draft }) (lines.Items l) h mem rows area r mem' rows area'
     takes x l t =
         rw e
@@ -111,39 +123,45 @@ module _ (h : code.Host) (mem rows area mem' area' : List ℕ) (a : code-answere
           sound_again = long_again t.size;
         })
 
-    follows : (x : Step) (H : Host) → H ≡ host_of h mem rows → ((n : ℕ) → x ≡ Refused n → 0 < n) → machine.Follows ready view x h.node mem area (given_of a) mem' area'
-        → LineFollows (lines.called H x) h mem rows area r mem' rows area'
+    follows : (x : Step) (H : Host) → H ≡ host_of h mem rows → ((n : ℕ) → x ≡ Refused n → 0 < n) → machine.Follows ready view x h.node mem area (given_of h.node a) mem' area'
+        → LineFollowsBy (lines.called H x).host (lines.called H x).outcome h mem rows area r mem' rows area'
     follows (Refused n) H g p f = refuses n H (p n refl) f
     follows (Taken x l) H g p f = rw g (takes x l f)
 
     -- a line that is the call c: where there is no node it is refused 2
     pub acts : (good : Bool) (c : Call) (l : Line) → places area ≡ items → ((H : Host) → first_line H l ≡ refused_line H 2)
         → ((x : Replica) → line_at (host_of h mem rows) x l ≡ lines.called (host_of h mem rows) (step x c items)) → AnswersLine good c h.node mem area a mem' area'
-        → LineFollows (result_by (host_of h mem rows) (only good l)) h mem rows area r mem' rows area'
+        → FollowsGiven (result_by (host_of h mem rows) (only good l)) h mem rows area r mem' rows area'
     unfolding machine.due
     acts false c l q first later f = refuses 1 (host_of h mem rows) (omega arith) (f.bad refl)
     acts true c l q first later f = go (ready h.node mem) refl (f.well refl)
       where
         go : (t : Bool) → ready h.node mem ≡ t
-            → machine.Follows ready view (if t then step (view h.node mem) c (places area) else Refused 2) h.node mem area (given_of a) mem' area'
-            → LineFollows (if_none (if t then Some (view h.node mem) else None) then first_line (host_of h mem rows) l else λ x. line_at (host_of h mem rows) x l) h mem rows area r mem' rows area'
+            → machine.Follows ready view (if t then step (view h.node mem) c (places area) else Refused 2) h.node mem area (given_of h.node a) mem' area'
+            → FollowsGiven (if_none (if t then Some (view h.node mem) else None) then first_line (host_of h mem rows) l else λ x. line_at (host_of h mem rows) x l) h mem rows area r mem' rows area'
         go true g k = rw (later (view h.node mem)) (follows _ _ refl (step_positive _ c items) (rw q at k))
         go false g k = rw (first (host_of h mem rows)) (refuses 2 (host_of h mem rows) (omega arith) k)
 
 -- the nine calls' lines, and the heartbeat's
-pub call_line : (h : code.Host) (mem rows area mem' area' : List ℕ) (a : code-answered.Answered) (r : LineDone) (good : Bool) (c : Call) → r ≡ ways.called h a → sound h.draft mem rows ≡ true → places area ≡ items
+pub call_line : (h : code.Host) (mem rows area mem' area' : List ℕ) (a : Result code-taken.Taken Refusal) (r : Result LineTaken Refusal) (good : Bool) (c : Call) → r ≡ ways.called h a → sound h.draft mem rows ≡ true → places area ≡ items
     → AnswersLine good c h.node mem area a mem' area' → LineFollows (result_by (host_of h mem rows) (only good (CallLine c))) h mem rows area r mem' rows area'
 unfolding first_line line_at
-call_line h mem rows area mem' area' a r good c e s q f = acts h mem rows area mem' area' a r e s good c (CallLine c) q (λ H. refl) (λ x. refl) f
+call_line h mem rows area mem' area' a r good c e s q f = acts h mem rows area mem' area' a (line_given h r) (ap (line_given h) e ∙ called_given h a) s good c (CallLine c) q (λ H. refl) (λ x. refl) f
 
-pub heard_line_lem : (h : code.Host) (mem rows area mem' area' : List ℕ) (a : code-answered.Answered) (r : LineDone) (good : Bool) (peer ballot : ℕ) (with : Bool) (commit exec snap : ℕ) → r ≡ ways.called h a
+pub heard_line_lem : (h : code.Host) (mem rows area mem' area' : List ℕ) (a : Result code-taken.Taken Refusal) (r : Result LineTaken Refusal) (good : Bool) (peer ballot : ℕ) (attached : Bool) (commit exec snap : ℕ) → r ≡ ways.called h a
     → sound h.draft mem rows ≡ true → places area ≡ items
     → (holds_rows (length rows) h.draft.count ≡ true
-    → AnswersLine good (Heartbeat peer ballot (if with then Some (edits-specs.view h.draft rows) else None) commit exec snap) h.node mem area a mem' area')
-    → LineFollows (result_by (host_of h mem rows) (only good (HeardLine peer ballot with commit exec snap))) h mem rows area r mem' rows area'
+    → AnswersLine good (Heartbeat peer ballot (option_map (λ c. edits-specs.view c rows) (then_some attached h.draft)) commit exec snap) h.node mem area a mem' area')
+    → LineFollows (result_by (host_of h mem rows) (only good (HeardLine peer ballot attached commit exec snap))) h mem rows area r mem' rows area'
 unfolding first_line line_at sound
-heard_line_lem h mem rows area mem' area' a r good peer ballot with commit exec snap e s q f =
-    acts h mem rows area mem' area' a r e s good _ (HeardLine peer ballot with commit exec snap) q (λ H. refl) (λ x. refl) (f (and_both (leb size (length mem)) _ s).1)
+heard_line_lem h mem rows area mem' area' a r good peer ballot attached commit exec snap e s q f =
+    acts h mem rows area mem' area' a (line_given h r) (ap (line_given h) e ∙ called_given h a) s good _ (HeardLine peer ballot attached commit exec snap) q (λ H. refl)
+    (λ x. ap (λ (o : Option Conf). lines.called (host_of h mem rows) (step x (Heartbeat peer ballot o commit exec snap) items)) (carries attached))
+    (f (and_both (leb size (length mem)) _ s).1)
+  where
+    carries : (b : Bool) → (if b then Some (edits-specs.view h.draft rows) else None) ≡ option_map (λ c. edits-specs.view c rows) (then_some b h.draft)
+    carries true = refl
+    carries false = refl
 
 -- ---- edits
 
@@ -159,27 +177,16 @@ answer_positive population c e = go (refusal (grounds population c e)) refl
     go None f = tt
     go (Some n) f = not_0 (grounds population c e) n (edit_positive population c e) f
 
-module _ (h : code.Host) (mem rows area rows' : List ℕ) (d : Result RespondersConf Refusal) (r : LineDone) (e : r ≡ ways.edited h d) (s : sound h.draft mem rows ≡ true) (l : length rows' ≡ length rows) where
-  gives : (x : answers.EditResult) (d : Result RespondersConf Refusal) → Above0 x → Gives x d rows rows' → (q : LineDone) → q ≡ ways.edited h d
-      → LineFollows (lines.edited (host_of h mem rows) x) h mem rows area q mem rows' area
+module _ (h : code.Host) (mem rows area rows' : List ℕ) (s : sound h.draft mem rows ≡ true) (l : length rows' ≡ length rows) where
+  gives : (x : answers.EditResult) (d : Result RespondersConf Refusal) → Above0 x → Gives x d rows rows' → FollowsGiven (lines.edited (host_of h mem rows) x) h mem rows area (line_given h (ways.edited h d)) mem rows' area
   unfolding sound encode
-  gives (answers.refused n) (edits.Refused k) p g q f =
-      rw f
-      (record {
-        refused = p;
-        number = g.0;
-        count = refl;
-        same_host = refl;
-        same_mem = refl;
-        same_rows = g.1;
-        same_area = refl;
-      })
-  gives (answers.refused n) (edits.Taken c) p g q f = absurd g
-  gives (answers.taken c) (edits.Refused k) p g q f = absurd g
-  gives (answers.taken c) (edits.Taken k) p g q f =
+  gives (answers.refused n) (Err k) p g =
+      record { refused = p; number = g.0; count = refl; same_host = refl; same_mem = refl; same_rows = g.1; same_area = refl }
+  gives (answers.refused n) (Ok c) p g = absurd g
+  gives (answers.taken c) (Err k) p g = absurd g
+  gives (answers.taken c) (Ok k) p g =
       let m = and_both (leb size (length mem)) (holds_rows (length rows) h.draft.count) s in
-      rw f
-      (record {
+      record {
         number = refl;
         count = refl;
         host = rw g.roster;
@@ -189,30 +196,35 @@ module _ (h : code.Host) (mem rows area rows' : List ℕ) (d : Result Responders
         beyond_mem = λ j b. refl;
         beyond_rows = g.beyond;
         sound_again = rw (m.0, l, (and_both (leb roster_words (length rows)) (leb h.draft.count 64) m.1).0, le-leb k.count 64 g.few);
-      })
+      }
 
   -- the population that the code gave the edit
-  pub edit_line : (good : Bool) (x : Edit) (population : ℕ) → population ≡ (if ready h.node mem then h.node.population else 0) → EditsLine good x population h.draft rows d rows'
-      → LineFollows (result_by (host_of h mem rows) (only good (EditLine x))) h mem rows area r mem rows' area
+  by_population : (d : Result RespondersConf Refusal) (good : Bool) (x : Edit) (population : ℕ) → population ≡ (if ready h.node mem then h.node.population else 0) → EditsLine good x population h.draft rows d rows'
+      → FollowsGiven (result_by (host_of h mem rows) (only good (EditLine x))) h mem rows area (line_given h (ways.edited h d)) mem rows' area
   unfolding due line_at first_line sound view
-  edit_line false x population p f = gives (answers.refused 1) d (omega arith) (f.bad refl) r e
-  edit_line true x population p f = go (ready h.node mem) refl p (f.well refl)
+  by_population d false x population p f = gives (answers.refused 1) d (omega arith) (f.bad refl)
+  by_population d true x population p f = go (ready h.node mem) refl p (f.well refl)
     where
       whole : holds_rows (length rows) h.draft.count ≡ true
       whole = (and_both (leb size (length mem)) _ s).1
 
       go : (t : Bool) → ready h.node mem ≡ t → population ≡ (if t then h.node.population else 0) → Gives (due population h.draft rows x) d rows rows'
-          → LineFollows (if_none (if t then Some (view h.node mem) else None) then first_line (host_of h mem rows) (EditLine x) else λ y. line_at (host_of h mem rows) y (EditLine x)) h mem rows area r mem rows'
+          → FollowsGiven (if_none (if t then Some (view h.node mem) else None) then first_line (host_of h mem rows) (EditLine x) else λ y. line_at (host_of h mem rows) y (EditLine x)) h mem rows area (line_given h (ways.edited h d)) mem rows'
           area
       go true g u k =
           let y = is_ready h.node mem true (sym g) refl in
           let b : in_range population ≡ true = rw (le-leb 1 population (omega (arith, u, y)), le-leb population 64 (omega (arith, u, y))) in
           let w : Gives (edit_result population (edits-specs.view h.draft rows) x) d rows rows' = rw (whole, b) at k in
-          gives (edit_result h.node.population (edits-specs.view h.draft rows) x) d (answer_positive h.node.population (edits-specs.view h.draft rows) x) (rw u at w) r e
+          gives (edit_result h.node.population (edits-specs.view h.draft rows) x) d (answer_positive h.node.population (edits-specs.view h.draft rows) x) (rw u at w)
       go false g u k =
           let b : in_range population ≡ false = rw (lt-leb 1 population (omega (arith, u))) in
           let w : Gives (answers.refused 2) d rows rows' = rw (whole, b) at k in
-          gives (answers.refused 2) d (omega arith) w r e
+          gives (answers.refused 2) d (omega arith) w
+
+pub edit_line : (h : code.Host) (mem rows area rows' : List ℕ) (d : Result RespondersConf Refusal) (r : Result LineTaken Refusal) → r ≡ ways.edited h d → sound h.draft mem rows ≡ true → length rows' ≡ length rows
+    → (good : Bool) (x : Edit) (population : ℕ) → population ≡ (if ready h.node mem then h.node.population else 0) → EditsLine good x population h.draft rows d rows'
+    → LineFollows (result_by (host_of h mem rows) (only good (EditLine x))) h mem rows area r mem rows' area
+edit_line h mem rows area rows' d r e s l good x population p f = rw e (by_population h mem rows area rows' s l d good x population p f)
 
 -- ---- the listing
 
@@ -220,22 +232,22 @@ show_length : (c : RespondersConf) (rows : List ℕ) → c.count ≤ 64 → leng
 unfolding show spans_of edits-specs.view
 show_length c rows l = simp (length-append, length-map, length_ranges) (omega arith)
 
-module _ (h : code.Host) (mem rows area area' : List ℕ) (d : Result ℕ Refusal) (r : LineDone) (e : r ≡ ways.shown h d) (s : sound h.draft mem rows ≡ true) (q : places area ≡ items) where
-  shown_refused : (n : ℕ) → 0 < n → d ≡ shows.Refused n → area' ≡ area → LineFollowsBy (host_of h mem rows) (lines.Refusal n) h mem rows area r mem rows area'
-  shown_refused n p f g = rw (e, f) (record { refused = p; number = refl; count = refl; same_host = refl; same_mem = refl; same_rows = refl; same_area = g })
+module _ (h : code.Host) (mem rows area area' : List ℕ) (d : Result ℕ Refusal) (s : sound h.draft mem rows ≡ true) (q : places area ≡ items) where
+  shown_refused : (x : Refusal) → 0 < number_of x → d ≡ Err x → area' ≡ area → LineFollowsBy (host_of h mem rows) (lines.Refusal (number_of x)) h mem rows area (line_given h (ways.shown h d)) mem rows area'
+  shown_refused x p f g = rw f (record { refused = p; number = refl; count = refl; same_host = refl; same_mem = refl; same_rows = refl; same_area = g })
 
   room : h.draft.count ≤ 64
   unfolding sound
   room = leb-true h.draft.count 64 (and_both (leb roster_words (length rows)) _ (and_both (leb size (length mem)) _ s).1).1
 
   lists : ◌≡◌ {A = Listing} (record { answer = d; area = area' }) (listing h.draft rows area)
-      → LineFollowsBy (host_of h mem rows) (lines.Items (show (edits-specs.view h.draft rows))) h mem rows area r mem rows area'
+      → LineFollowsBy (host_of h mem rows) (lines.Items (show (edits-specs.view h.draft rows))) h mem rows area (line_given h (ways.shown h d)) mem rows area'
   unfolding listing sound
   lists f =
       let whole : holds_rows (length rows) h.draft.count ≡ true = (and_both (leb size (length mem)) _ s).1 in
       let fits : ltb (places area) (length (show (edits-specs.view h.draft rows))) ≡ false = le-ltb (places area) (length (show (edits-specs.view h.draft rows))) (omega (arith, q, room, show_length h.draft rows room)) in
       let g = rw (whole, fits) at f in
-      rw (e, ap (λ (x : Listing). x.answer) g)
+      rw (ap (λ (x : Listing). x.answer) g)
       (record {
         number = refl;
         count = refl;
@@ -248,25 +260,30 @@ module _ (h : code.Host) (mem rows area area' : List ℕ) (d : Result ℕ Refusa
         sound_again = s;
       })
 
-  pub show_line : (good : Bool) (population : ℕ) → population ≡ (if ready h.node mem then h.node.population else 0) → ShowsLine good population h.draft rows area d area'
-      → LineFollows (result_by (host_of h mem rows) (only good ShowLine)) h mem rows area r mem rows area'
+  shows_line : (good : Bool) (population : ℕ) → population ≡ (if ready h.node mem then h.node.population else 0) → ShowsLine good population h.draft rows area d area'
+      → FollowsGiven (result_by (host_of h mem rows) (only good ShowLine)) h mem rows area (line_given h (ways.shown h d)) mem rows area'
   unfolding line_at first_line
-  show_line false population p f = shown_refused 1 (omega arith) (f.bad refl).0 (f.bad refl).1
-  show_line true population p f = go (ready h.node mem) refl p
+  shows_line false population p f = shown_refused Malformed (omega arith) (f.bad refl).0 (f.bad refl).1
+  shows_line true population p f = go (ready h.node mem) refl p
     where
       go : (t : Bool) → ready h.node mem ≡ t → population ≡ (if t then h.node.population else 0)
-          → LineFollows (if_none (if t then Some (view h.node mem) else None) then first_line (host_of h mem rows) ShowLine else λ y. line_at (host_of h mem rows) y ShowLine) h mem rows area r mem rows area'
+          → FollowsGiven (if_none (if t then Some (view h.node mem) else None) then first_line (host_of h mem rows) ShowLine else λ y. line_at (host_of h mem rows) y ShowLine) h mem rows area (line_given h (ways.shown h d)) mem rows area'
       go true g u = lists (f.well refl (λ z. omega (arith, u, is_ready h.node mem true (sym g) refl)))
-      go false g u = shown_refused 2 (omega arith) (f.unmade refl u).0 (f.unmade refl u).1
+      go false g u = shown_refused NotReady (omega arith) (f.unmade refl u).0 (f.unmade refl u).1
+
+pub show_line : (h : code.Host) (mem rows area area' : List ℕ) (d : Result ℕ Refusal) (r : Result LineTaken Refusal) → r ≡ ways.shown h d → sound h.draft mem rows ≡ true → places area ≡ items
+    → (good : Bool) (population : ℕ) → population ≡ (if ready h.node mem then h.node.population else 0) → ShowsLine good population h.draft rows area d area'
+    → LineFollows (result_by (host_of h mem rows) (only good ShowLine)) h mem rows area r mem rows area'
+show_line h mem rows area area' d r e s q good population p f = rw e (shows_line h mem rows area area' d s q good population p f)
 
 -- ---- the node line
 
-module _ (h : code.Host) (mem rows area mem' : List ℕ) (a : code-answered.Answered) (r : LineDone) (e : r ≡ ways.called h a) (s : sound h.draft mem rows ≡ true) (id population quorum : ℕ) where
+module _ (h : code.Host) (mem rows area mem' : List ℕ) (a : Result code-taken.Taken Refusal) (r : LineGiven) (e : r ≡ given_host h (given_of h.node a)) (s : sound h.draft mem rows ≡ true) (id population quorum : ℕ) where
   node_refused : (n : ℕ) → 0 < n → Refuses n h.node mem a mem' → LineFollowsBy (host_of h mem rows) (lines.Refusal n) h mem rows area r mem' rows area
   node_refused n p f = rw (e, f.answer) (record { refused = p; number = refl; count = refl; same_host = refl; same_mem = f.same_mem; same_rows = refl; same_area = refl })
 
   begins : (t : Bool) → BeginsBy t id population quorum h.node mem a mem'
-      → LineFollows (if t then record { host = record { node = Some (fresh id population quorum); draft = (host_of h mem rows).draft }; outcome = lines.Items [] } else refused_line (host_of h mem rows) 2) h mem rows area r
+      → FollowsGiven (if t then record { host = record { node = Some (fresh id population quorum); draft = (host_of h mem rows).draft }; outcome = lines.Items [] } else refused_line (host_of h mem rows) 2) h mem rows area r
       mem' rows area
   unfolding encode
   begins true f =
@@ -284,78 +301,48 @@ module _ (h : code.Host) (mem rows area mem' : List ℕ) (a : code-answered.Answ
       })
   begins false f = node_refused 2 (omega arith) f
 
-  pub node_line : (good : Bool) → (node_words ≤ length mem → BeginsLine good id population quorum h.node mem a mem')
-      → LineFollows (result_by (host_of h mem rows) (only good (NodeLine id population quorum))) h mem rows area r mem' rows area
+  begins_line : (good : Bool) → (node_words ≤ length mem → BeginsLine good id population quorum h.node mem a mem')
+      → FollowsGiven (result_by (host_of h mem rows) (only good (NodeLine id population quorum))) h mem rows area r mem' rows area
   unfolding line_at first_line sound
-  node_line good f = by_fields good (f (leb-true node_words (length mem) (and_both (leb size (length mem)) _ s).0))
+  begins_line good f = by_fields good (f (leb-true node_words (length mem) (and_both (leb size (length mem)) _ s).0))
     where
       go : (t : Bool) → ready h.node mem ≡ t → BeginsLine true id population quorum h.node mem a mem'
-          → LineFollows (if_none (if t then Some (view h.node mem) else None) then first_line (host_of h mem rows) (NodeLine id population quorum) else λ y. line_at (host_of h mem rows) y (NodeLine id population quorum)) h
+          → FollowsGiven (if_none (if t then Some (view h.node mem) else None) then first_line (host_of h mem rows) (NodeLine id population quorum) else λ y. line_at (host_of h mem rows) y (NodeLine id population quorum)) h
           mem rows area r mem' rows area
       go true g f = node_refused 2 (omega arith) (f.second refl g)
       go false g f = begins (inRangeOf id population quorum) (f.first refl g)
 
       by_fields : (good : Bool) → BeginsLine good id population quorum h.node mem a mem'
-          → LineFollows (result_by (host_of h mem rows) (only good (NodeLine id population quorum))) h mem rows area r mem' rows area
+          → FollowsGiven (result_by (host_of h mem rows) (only good (NodeLine id population quorum))) h mem rows area r mem' rows area
       by_fields false f = node_refused 1 (omega arith) (f.bad refl)
       by_fields true f = go (ready h.node mem) refl f
 
+pub node_line : (h : code.Host) (mem rows area mem' : List ℕ) (a : Result code-taken.Taken Refusal) (r : Result LineTaken Refusal) → r ≡ ways.called h a → sound h.draft mem rows ≡ true → (id population quorum : ℕ) (good : Bool)
+    → (node_words ≤ length mem → BeginsLine good id population quorum h.node mem a mem') → LineFollows (result_by (host_of h mem rows) (only good (NodeLine id population quorum))) h mem rows area r mem' rows area
+node_line h mem rows area mem' a r e s id population quorum good f = begins_line h mem rows area mem' a (line_given h r) (ap (line_given h) e ∙ called_given h a) s id population quorum good f
+
 -- ---- the kind of the name
 
-pub unknown : (h : code.Host) (mem rows area : List ℕ) (r : LineDone) → r ≡ ways.refused h 1 → LineFollows (refused_line (host_of h mem rows) 1) h mem rows area r mem rows area
-unknown h mem rows area r e = turned_acts 1 (host_of h mem rows) h mem rows area r (omega arith) e
+pub unknown : (h : code.Host) (mem rows area : List ℕ) → LineFollows (refused_line (host_of h mem rows) 1) h mem rows area (Err Malformed) mem rows area
+unknown h mem rows area = turned_acts Malformed (host_of h mem rows) h mem rows area (omega arith)
 
-pub of_kind : (k x : Kind) (h : code.Host) (mem rows area mem' rows' area' : List ℕ) (r : LineDone) (fs : List Bytes) → k ≡ x
+pub of_kind : (k x : Kind) (h : code.Host) (mem rows area mem' rows' area' : List ℕ) (r : Result LineTaken Refusal) (fs : List Bytes) → k ≡ x
     → LineFollows (result_by (host_of h mem rows) (line_by x fs)) h mem rows area r mem' rows' area' → LineFollows (result_by (host_of h mem rows) (line_by k fs)) h mem rows area r mem' rows' area'
 of_kind k x h mem rows area mem' rows' area' r fs e f = subst (λ (y : Kind). LineFollows (result_by (host_of h mem rows) (line_by y fs)) h mem rows area r mem' rows' area') (sym e) f
 
 -- ---- the name, and the line
 
-pub long_line : (h : code.Host) (mem rows area : List ℕ) (s : Bytes) (r : LineDone) → 1024 < length s → r ≡ ways.refused h 1 → LineFollows (answer_line (host_of h mem rows) s) h mem rows area r mem rows area
+pub long_line : (h : code.Host) (mem rows area : List ℕ) (s : Bytes) → 1024 < length s → LineFollows (answer_line (host_of h mem rows) s) h mem rows area (Err Malformed) mem rows area
 unfolding answer_line line_of
-long_line h mem rows area s r l e = rw (lt-ltb 1024 (length s) l) (unknown h mem rows area r e)
+long_line h mem rows area s l = rw (lt-ltb 1024 (length s) l) (unknown h mem rows area)
 
-pub by_name : (h : code.Host) (mem rows area mem' rows' area' : List ℕ) (s : Bytes) (f : Field) (k : Kind) (r : LineDone) → length s ≤ 1024 → ReadsField s 0 f
+pub by_name : (h : code.Host) (mem rows area mem' rows' area' : List ℕ) (s : Bytes) (f : Field) (k : Kind) (r : Result LineTaken Refusal) → length s ≤ 1024 → ReadsField s 0 f
     → k ≡ kind_of (between s f.start f.end) → LineFollows (result_by (host_of h mem rows) (line_by k (fields_from s f.next))) h mem rows area r mem' rows' area'
     → LineFollows (answer_line (host_of h mem rows) s) h mem rows area r mem' rows' area'
 unfolding answer_line line_of
 by_name h mem rows area mem' rows' area' s f k r l g e a =
     let q = sym (from_start s) ∙ (g.first (omega arith)).here in
     rw (le-ltb 1024 (length s) l, q) (subst (λ (y : Kind). LineFollows (result_by (host_of h mem rows) (line_by y (fields_from s f.next))) h mem rows area r mem' rows' area') e a)
-
--- ---- the code's own tests
-
-pub edited_taken : (h : code.Host) (d : Result RespondersConf Refusal) (c : RespondersConf) → d ≡ edits.Taken c → ◌≡◌ {A = LineDone} (record { number = 0; count = 0; host = record { node = h.node; draft = c } }) (ways.edited h d)
-edited_taken h d c e = sym (ap (λ (x : Result RespondersConf Refusal). ways.edited h x) e)
-
-pub edited_refused : (h : code.Host) (d : Result RespondersConf Refusal) (n : ℕ) (r : LineDone) → d ≡ edits.Refused n → r ≡ ways.refused h n → r ≡ ways.edited h d
-edited_refused h d n r e f = f ∙ sym (ap (λ (x : Result RespondersConf Refusal). ways.edited h x) e)
-
-pub shown_items : (h : code.Host) (d : Result ℕ Refusal) (n : ℕ) → d ≡ shows.Items n → ◌≡◌ {A = LineDone} (record { number = 0; count = n; host = h }) (ways.shown h d)
-shown_items h d n e = sym (ap (λ (x : Result ℕ Refusal). ways.shown h x) e)
-
-pub shown_number : (h : code.Host) (d : Result ℕ Refusal) (n : ℕ) (r : LineDone) → d ≡ shows.Refused n → r ≡ ways.refused h n → r ≡ ways.shown h d
-shown_number h d n r e f = f ∙ sym (ap (λ (x : Result ℕ Refusal). ways.shown h x) e)
-
-pub population_made : (n : Node) (mem : List ℕ) (t : Bool) → t ≡ ready n mem → t ≡ true → n.population ≡ (if ready n mem then n.population else 0)
-population_made n mem t e f = rw (sym e ∙ f)
-
-pub population_none : (n : Node) (mem : List ℕ) (t : Bool) → t ≡ ready n mem → t ≡ false → 0 ≡ (if ready n mem then n.population else 0)
-population_none n mem t e f = rw (sym e ∙ f)
-
-module _ (d : RespondersConf) (mem rows area groups : List ℕ) (t : Bool) (e : t ≡ sound d mem rows) where
-  pub unsound : not t ≡ true → false ≡ whole d mem rows area groups
-  unfolding whole
-  unsound f = sym (rw (sym e ∙ not-true t f))
-
-  module _ (f : not t ≡ false) where
-    pub other_places : (length area / 6 ≡ 546 → ⊥) → false ≡ whole d mem rows area groups
-    unfolding whole
-    other_places g = sym (rw (sym e ∙ not-false t f, ne_eqb (length area / 6) 546 g))
-
-    pub by_groups : length area / 6 ≡ 546 → leb 1542 (length groups) ≡ whole d mem rows area groups
-    unfolding whole
-    by_groups g = sym (rw (sym e ∙ not-false t f, eq-eqb (length area / 6) 546 g))
 
 -- ---- no line has more than 546 items
 
@@ -422,9 +409,9 @@ few_heard h mem rows s e =
 
 -- ---- whole buffers
 
-module _ (d : RespondersConf) (mem rows area groups : List ℕ) (t : Bool) (e : t ≡ whole d mem rows area groups) (f : not t ≡ false) where
+module _ (d : RespondersConf) (mem rows area groups : List ℕ) (t : Bool) (e : t ≡ whole d mem rows area groups) (f : t ≡ true) where
   is_whole : whole d mem rows area groups ≡ true
-  is_whole = sym e ∙ not-false t f
+  is_whole = sym e ∙ f
 
   pub is_sound_lem : sound d mem rows ≡ true
   unfolding whole
@@ -438,12 +425,12 @@ module _ (d : RespondersConf) (mem rows area groups : List ℕ) (t : Bool) (e : 
   unfolding whole
   has_groups = leb-true 1542 (length groups) (and_both (sound d mem rows && eqb (places area) items) _ is_whole).1
 
-module _ (h : code.Host) (mem rows area groups : List ℕ) (line : Bytes) (t : Bool) (a : LineDone) (e : t ≡ whole h.draft mem rows area groups) where
-  pub unfit : not t ≡ true → a ≡ ways.refused h 2 → LineFollows (due_in h mem rows area groups line) h mem rows area a mem rows area
+module _ (h : code.Host) (mem rows area groups : List ℕ) (line : Bytes) (t : Bool) (a : Result LineTaken Refusal) (e : t ≡ whole h.draft mem rows area groups) where
+  pub unfit : t ≡ false → LineFollows (due_in h mem rows area groups line) h mem rows area (Err NotReady) mem rows area
   unfolding due_in
-  unfit f g = rw (sym e ∙ not-true t f) (turned_acts 2 (host_of h mem rows) h mem rows area a (omega arith) g)
+  unfit f = rw (sym e ∙ f) (turned_acts NotReady (host_of h mem rows) h mem rows area (omega arith))
 
-  pub fitted : (mem' rows' area' : List ℕ) → not t ≡ false → LineFollows (answer_line (host_of h mem rows) line) h mem rows area a mem' rows' area'
+  pub fitted : (mem' rows' area' : List ℕ) → t ≡ true → LineFollows (answer_line (host_of h mem rows) line) h mem rows area a mem' rows' area'
       → LineFollows (due_in h mem rows area groups line) h mem rows area a mem' rows' area'
   unfolding due_in
   fitted mem' rows' area' f x = rw (is_whole h.draft mem rows area groups t e f) x
@@ -460,17 +447,19 @@ module _ (h : code.Host) (mem rows area groups : List ℕ) (out line : Bytes) wh
   unfolding due-line fit
   small_fit l = rw (lt-leb 65536 (length out) l, and-false (whole h.draft mem rows area groups))
 
-  pub small_out : (n : ℕ) (a : LineDone) → length out < 65536 → a ≡ ways.refused h 2
-      → AnswersEvent h mem rows area groups n line out (record { acted = a; end = 0 }) mem rows area groups out
-  small_out n a l e =
+  pub small_out : (n : ℕ) → length out < 65536 → AnswersEvent h mem rows area groups n line out (record { acted = Err NotReady; end = 0 }) mem rows area groups out
+  small_out n l =
       record {
-        acts = subst (λ (t : LineResult). LineFollows t h mem rows area a mem rows area) (sym (small_fit l)) (turned_acts 2 (host_of h mem rows) h mem rows area a (omega arith) e);
+        acts = subst (λ (t : LineResult). LineFollows t h mem rows area (Err NotReady) mem rows area) (sym (small_fit l)) (turned_acts NotReady (host_of h mem rows) h mem rows area (omega arith));
         text = λ m. absurd (omega arith);
         silent = λ m. (refl, refl);
         groups_size = refl;
       }
 
-  module _ (l : 65536 ≤ length out) (a : LineDone) (mem' rows' area' : List ℕ) (x : LineFollows (due_in h mem rows area groups line) h mem rows area a mem' rows' area') where
+  module _ (l : 65536 ≤ length out) (r : Result LineTaken Refusal) (mem' rows' area' : List ℕ) (x : LineFollows (due_in h mem rows area groups line) h mem rows area r mem' rows' area') where
+    abbrev pub given : LineGiven
+    given = line_given h r
+
     same_due : due_in h mem rows area groups line ≡ due-line h mem rows area groups out line
     unfolding due_in due-line fit
     same_due = rw (le-leb 65536 (length out) l, and-true (whole h.draft mem rows area groups))
@@ -487,26 +476,26 @@ module _ (h : code.Host) (mem rows area groups : List ℕ) (out line : Bytes) wh
         go true g = both (answer_line (host_of h mem rows) line).outcome (few_heard h mem rows line (is_sound_lem h.draft mem rows area groups true (sym g) refl)) (has_places h.draft mem rows area groups true (sym g) refl)
         go false g = tt
 
-    few_of : (next : Host) (y : lines.Outcome) → Fits area y → LineFollowsBy next y h mem rows area a mem' rows' area' → (a.count ≤ 546) × (a.count * 6 ≤ length area')
+    few_of : (next : Host) (y : lines.Outcome) → Fits area y → LineFollowsBy next y h mem rows area given mem' rows' area' → (given.count ≤ 546) × (given.count * 6 ≤ length area')
     few_of next (lines.Refusal k) p g = (omega (arith, g.count), omega (arith, g.count))
     few_of next (lines.Items m) p g = (omega (arith, p.0, g.count), omega (arith, p.0, p.1, g.count, ap length g.items ∙ length_writes area 0 (encode m)))
 
-    pub few_items : (a.count ≤ 546) × (a.count * 6 ≤ length area')
+    pub few_items : (given.count ≤ 546) × (given.count * 6 ≤ length area')
     few_items = few_of _ (due_in h mem rows area groups line).outcome fits x
 
-    module _ (n end : ℕ) (out' : Bytes) (w : Answered out n a.number a.count area' end out') where
-      wrote : (next : Host) (y : lines.Outcome) → Fits area y → LineFollowsBy next y h mem rows area a mem' rows' area' → Wrote out 0 (text_of n y) 65536 end out'
+    module _ (n end : ℕ) (out' : Bytes) (w : Answered out n given.number given.count area' end out') where
+      wrote : (next : Host) (y : lines.Outcome) → Fits area y → LineFollowsBy next y h mem rows area given mem' rows' area' → Wrote out 0 (text_of n y) 65536 end out'
       wrote next (lines.Refusal k) p g =
           let v = w.refused (λ z. omega (arith, z, g.number, g.refused)) in
           subst (λ (i : ℕ). Wrote out 0 (refused_text n i) 65536 end out') g.number (record { end = v.end; bytes = v.bytes; short = omega (arith, v.short) })
       wrote next (lines.Items m) p g =
-          let v = w.taken m g.number (holds area area' m a.count g.count (omega (arith, p.0, p.1, g.count, ap length g.items ∙ length_writes area 0 (encode m))) g.items) in
+          let v = w.taken m g.number (holds area area' m given.count g.count (omega (arith, p.0, p.1, g.count, ap length g.items ∙ length_writes area 0 (encode m))) g.items) in
           record { end = v.end; bytes = v.bytes; short = omega (arith, v.short, p.0, g.count) }
 
-      pub tells : (groups' : List ℕ) → length groups' ≡ length groups → AnswersEvent h mem rows area groups n line out (record { acted = a; end = end }) mem' rows' area' groups' out'
+      pub tells : (groups' : List ℕ) → length groups' ≡ length groups → AnswersEvent h mem rows area groups n line out (record { acted = r; end = end }) mem' rows' area' groups' out'
       tells groups' q =
           record {
-            acts = subst (λ (y : LineResult). LineFollows y h mem rows area a mem' rows' area') same_due x;
+            acts = subst (λ (y : LineResult). LineFollows y h mem rows area r mem' rows' area') same_due x;
             text = λ m. subst (λ (y : LineResult). Wrote out 0 (text_of n y.outcome) 65536 end out') same_due (wrote _ (due_in h mem rows area groups line).outcome fits x);
             silent = λ m. absurd (omega arith);
             groups_size = q;

@@ -10,70 +10,44 @@ ghost use Rattle.line_host.specs.Follows.{host_of, sound, LineFollows, result_by
 ghost use Rattle.line_event.specs.Ways as ways;
 ghost use Rattle.line_event.specs.Event.{whole, due_in, AnswersEvent};
 
-use line_host::{Host, LineDone};
+use ids::Refusal;
+use line_buffers::{GROUP_WORDS, ITEM_PLACES, LINE_BYTES, TEXT_BYTES};
+use line_host::{Host, LineTaken};
 use line_kind::Kind;
-use node::{Taken, Node};
+use node::{Node, Taken};
+use roster_conf::RespondersConf;
 
 // What a line did, and where its text ends.
 #[derive(Clone, Copy)]
 pub struct LineAnswer {
-    pub acted: LineDone,
+    pub acted: Result<LineTaken, Refusal>,
     pub end: usize,
 }
 
 // ---- what a call, an edit or a listing comes to
 
-fn refused(host: Host, number: u64) -> LineDone
-    ensures { result ≡ ways.refused host number }
-{
-    LineDone {
-        number,
-        count: 0,
-        host,
-    }
-}
-
-fn called(host: Host, a: Result<Taken, Refusal>) -> LineDone
+fn called(host: Host, a: Result<Taken, Refusal>) -> Result<LineTaken, Refusal>
     ensures { result ≡ ways.called host a }
 {
-    let node = a.node;
-    let draft = host.draft;
-    let next = Host { node, draft };
-    LineDone {
-        number: a.number,
-        count: a.count,
-        host: next,
-    }
+    a.map(|Taken { node, count }| LineTaken {
+        host: Host { node, ..host },
+        count,
+    })
 }
 
-fn edited(host: Host, e: Result<RespondersConf, Refusal>) -> LineDone
+fn edited(host: Host, e: Result<RespondersConf, Refusal>) -> Result<LineTaken, Refusal>
     ensures { result ≡ ways.edited host e }
 {
-    match e {
-        Ok(draft) => {
-            let node = host.node;
-            let next = Host { node, draft };
-            LineDone {
-                number: 0,
-                count: 0,
-                host: next,
-            }
-        }
-        Err(number) => refused(host, number),
-    }
+    e.map(|draft| LineTaken {
+        host: Host { draft, ..host },
+        count: 0,
+    })
 }
 
-fn shown(host: Host, s: Result<usize, Refusal>) -> LineDone
+fn shown(host: Host, s: Result<usize, Refusal>) -> Result<LineTaken, Refusal>
     ensures { result ≡ ways.shown host s }
 {
-    match s {
-        Ok(count) => LineDone {
-            number: 0,
-            count,
-            host,
-        },
-        Err(number) => refused(host, number),
-    }
+    s.map(|count| LineTaken { host, count })
 }
 
 // 0 where no call made the node.
@@ -81,9 +55,10 @@ fn population_of(node: Node, mem: &[u64]) -> u8
     ensures { result ≡ (if ready node mem.now then node.population else 0) }
 {
     if node::is_ready(node, mem) {
-        return node.population;
+        node.population
+    } else {
+        0
     }
-    0
 }
 
 // ---- by the kind of the line
@@ -97,12 +72,11 @@ fn act(
     kind: Kind,
     line: &[u8],
     at: usize,
-) -> LineDone
+) -> Result<LineTaken, Refusal>
     requires { (sound host.draft mem.old rows.old ≡ true) × (places area.old ≡ 546) × (1542 ≤ length groups.old) × (length line.now ≤ 1024) }
     ensures { LineFollows (result_by (host_of host mem.old rows.old) (line_by kind (fields_from line.now at))) host mem.old rows.old area.old result mem.new rows.new area.new }
 {
-    let node = host.node;
-    let draft = host.draft;
+    let Host { node, draft } = host;
     match kind {
         Kind::Node => called(host, line_draft::node_line(node, mem, line, at)),
         Kind::Edit(edit) => {
@@ -128,22 +102,18 @@ fn act(
             line_record::record_line(node, mem, area, groups, line, at),
         ),
         Kind::Call(call) => called(host, line_calls::call_line(call, node, mem, area, line, at)),
-        Kind::Unknown => refused(host, 1),
+        Kind::Unknown => Err(Refusal::Malformed),
     }
 }
 
 // Whether the lent buffers are long enough, with 546 places for items.
+#[tactic(auto, unfolding(crate::specs::Event::whole))]
 fn is_fit(host: Host, mem: &[u64], rows: &[u64], area: &[u64], groups: &[u64]) -> bool
     ensures { result ≡ whole host.draft mem.now rows.now area.now groups.now }
 {
-    let draft = host.draft;
-    if !line_host::is_sound(draft, mem, rows) {
-        return false;
-    }
-    if area.len() / 6 != 546 {
-        return false;
-    }
-    1542 <= groups.len()
+    line_host::is_sound(host.draft, mem, rows)
+        && area.len() / 6 == ITEM_PLACES
+        && GROUP_WORDS <= groups.len()
 }
 
 // What a line does, 2 where the buffers do not fit.
@@ -154,19 +124,17 @@ fn hear(
     area: &mut [u64],
     groups: &mut [u64],
     line: &[u8],
-) -> LineDone
+) -> Result<LineTaken, Refusal>
     ensures { LineFollows (due_in host mem.old rows.old area.old groups.old line.now) host mem.old rows.old area.old result mem.new rows.new area.new }
 {
     if !is_fit(host, mem, rows, area, groups) {
-        return refused(host, 2);
+        return Err(Refusal::NotReady);
     }
-    if 1024 < line.len() {
-        return refused(host, 1);
+    if LINE_BYTES < line.len() {
+        return Err(Refusal::Malformed);
     }
     let name = line_reader::field_from(line, 0);
-    let start = name.start;
-    let end = name.end;
-    let kind = line_kind::kind_of(&line[start..end]);
+    let kind = line_kind::kind_of(&line[name.start..name.end]);
     act(host, mem, rows, area, groups, kind, line, name.next)
 }
 
@@ -183,11 +151,16 @@ pub fn event(
 ) -> LineAnswer
     ensures { AnswersEvent host mem.old rows.old area.old groups.old n line.now out.old result mem.new rows.new area.new groups.new out.new }
 {
-    if out.len() < 65536 {
-        let acted = refused(host, 2);
-        return LineAnswer { acted, end: 0 };
+    if out.len() < TEXT_BYTES {
+        return LineAnswer {
+            acted: Err(Refusal::NotReady),
+            end: 0,
+        };
     }
     let acted = hear(host, mem, rows, area, groups, line);
-    let end = line_answer::put_answer(out, n, acted.number, acted.count, area);
+    let end = match acted {
+        Ok(taken) => line_answer::put_answer(out, n, 0, taken.count, area),
+        Err(refusal) => line_answer::put_answer(out, n, refusal.number(), 0, area),
+    };
     LineAnswer { acted, end }
 }

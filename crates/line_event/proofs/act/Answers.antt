@@ -1,4 +1,6 @@
 use Rattle.line_kind.specs.declared.Kind.TheVariants.{Node, Edit, Show, Heard, Record, Call, Unknown}
+use Rattle.std.specs.Prelude.{Err}
+use Rattle.ids.specs.declared.Refusal.TheVariants.{Malformed}
 use Rattle.line_event.proofs.Laws as law
 use Rattle.line_event.proofs.act.Goals as goal
 
@@ -27,4 +29,4 @@ returns-in-Call c =
     law.of_kind _ (Call _) _ _ _ _ _ _ _ _ _ c.in-Call.is (law.call_line _ _ _ _ _ _ _ _ _ _ c.called-in-Call.ensures c.requires.0 c.requires.1 c.call_line.ensures)
 
 pub returns-in-Unknown : goal.returns-in-Unknown
-returns-in-Unknown c = law.of_kind _ Unknown _ _ _ _ _ _ _ _ _ c.in-Unknown.is (law.unknown _ _ _ _ _ c.refused.ensures)
+returns-in-Unknown c = let a = c.args in law.of_kind _ Unknown a.host a.mem.now a.rows.now a.area.now _ _ _ (Err Malformed) _ c.in-Unknown.is (law.unknown a.host a.mem.now a.rows.now a.area.now)

@@ -1,29 +1,20 @@
 use Rattle.line_event.proofs.Laws as law
+use Rattle.std.specs.Prelude.{Err}
+use Rattle.ids.specs.declared.Refusal.TheVariants.{Malformed, NotReady}
 use native.Mathlib.Omega.{arith}
-use mathlib.Core.Path.{ap}
-use mathlib.Core.Bool.{not}
 use Rattle.line_event.proofs.hear.Goals as goal
 
 pub returns-then-not-is_fit : goal.returns-then-not-is_fit
-returns-then-not-is_fit c = law.unfit _ _ _ _ _ _ _ _ c.is_fit.ensures (ap not c.if-not-is_fit.true) c.refused.ensures
+returns-then-not-is_fit c = let a = c.args in law.unfit a.host a.mem.now a.rows.now a.area.now a.groups.now a.line.now _ (Err NotReady) c.is_fit.ensures c.if-not-is_fit.true
 
-pub returns-then-line-gt1024 : goal.returns-then-line-gt1024
-returns-then-line-gt1024 c =
-    law.fitted _ _ _ _ _ _ _ _ c.is_fit.ensures _ _ _ (ap not c.if-not-is_fit.false) (law.long_line _ _ _ _ _ _ c.if-line-gt1024.true c.refused-then-line-gt1024.ensures)
-
-pub slice_bounds-kind_of-count : goal.slice_bounds-kind_of-count
-slice_bounds-kind_of-count c = omega (arith, c.field_from-name.ensures.first (omega arith))
-
-pub slice_bounds-kind_of-start : goal.slice_bounds-kind_of-start
-slice_bounds-kind_of-start c = omega (arith, c.field_from-name.ensures.first (omega arith))
-
-pub slice_bounds-kind_of-end : goal.slice_bounds-kind_of-end
-slice_bounds-kind_of-end c = omega (arith, c.field_from-name.ensures.first (omega arith))
+pub returns-then-line-gt-LINE_BYTES : goal.returns-then-line-gt-LINE_BYTES
+returns-then-line-gt-LINE_BYTES c =
+    let a = c.args in law.fitted a.host a.mem.now a.rows.now a.area.now a.groups.now a.line.now _ (Err Malformed) c.is_fit.ensures _ _ _ c.if-not-is_fit.false (law.long_line a.host a.mem.now a.rows.now a.area.now a.line.now c.if-line-gt-LINE_BYTES.true)
 
 pub act-requires : goal.act-requires
 act-requires c =
-    let a = c.args in (law.is_sound_lem a.host.draft a.mem.now a.rows.now a.area.now a.groups.now _ c.is_fit.ensures (ap not c.if-not-is_fit.false), law.has_places a.host.draft a.mem.now a.rows.now a.area.now a.groups.now _ c.is_fit.ensures (ap not c.if-not-is_fit.false), law.has_groups a.host.draft a.mem.now a.rows.now a.area.now a.groups.now _ c.is_fit.ensures (ap not c.if-not-is_fit.false), c.if-line-gt1024.false)
+    let a = c.args in (law.is_sound_lem a.host.draft a.mem.now a.rows.now a.area.now a.groups.now _ c.is_fit.ensures c.if-not-is_fit.false, law.has_places a.host.draft a.mem.now a.rows.now a.area.now a.groups.now _ c.is_fit.ensures c.if-not-is_fit.false, law.has_groups a.host.draft a.mem.now a.rows.now a.area.now a.groups.now _ c.is_fit.ensures c.if-not-is_fit.false, c.if-line-gt-LINE_BYTES.false)
 
 pub returns : goal.returns
 returns c =
-    law.fitted _ _ _ _ _ _ _ _ c.is_fit.ensures _ _ _ (ap not c.if-not-is_fit.false) (law.by_name _ _ _ _ _ _ _ _ _ _ _ c.if-line-gt1024.false c.field_from-name.ensures c.kind_of-kind.ensures c.act.ensures)
+    law.fitted _ _ _ _ _ _ _ _ c.is_fit.ensures _ _ _ c.if-not-is_fit.false (law.by_name _ _ _ _ _ _ _ _ _ _ _ c.if-line-gt-LINE_BYTES.false c.field_from-name.ensures c.kind_of-kind.ensures c.act.ensures)
