@@ -5,9 +5,7 @@ use mathlib.Core.Bool.{Bool, true, false, not}
 use mathlib.Core.List.{List, [], ◌∷◌, ◌++◌}
 use Prim.Native.Nat.{ℕ, zero, suc, ◌+◌, ◌-◌, ◌*◌, ◌%◌, ◌≤◌, ◌<◌, min}
 use native.Mathlib.Omega.{arith}
-use lib.Dec.{ltb}
 use lib.ListN.{length, drop}
-use borrow.Author.Tests.{lt-ltb, le-ltb, not-true, not-false}
 use Rattle.words.specs.Writes.{writes}
 use Rattle.layout.specs.Layout.{slot_places}
 use Rattle.items.specs.Item.{Commit, encode, places}
@@ -15,47 +13,24 @@ use Rattle.items.specs.Area.{Put, put_item}
 use Rattle.items.proofs.Laws.{put_area}
 use Rattle.bodega.specs.Replica as machine
 use Rattle.bodega.specs.Heartbeat.{Walk, walk, advance_commit_bar}
-use Rattle.inst_cell.specs.Cell.{Short, cell_of, status_of, with_status}
-use Rattle.inst_cell.specs.declared.Cell.{Cell}
+use Rattle.inst_cell.specs.Cell.{with_status}
 use Rattle.insts.specs.Slots.{short_at, batch_at, reads_at, inst_of, inst_in, insts_of, Puts}
 use Rattle.insts.proofs.Laws.{first}
 use Rattle.insts.proofs.Rest.{puts_same}
 use Rattle.advance_commit_bar.proofs.Pass.{still, pass, left, left_is, Going, Passed, fits, going_step}
 use Rattle.advance_commit_bar.specs.Walk.{stops_at, one_if_open, mark_items, mark_short, Marks, walked, Advances}
 
--- ---- the tests at one slot
-
-module _ (s : List ℕ) (c : ℕ) (cell : Cell) (ballot : ℕ) (e : cell_of cell ≡ short_at s c) where
-  bal_is : (inst_in s c).bal ≡ cell.bal.0
-  unfolding inst_in
-  bal_is = sym (ap (λ (x : Short). x.bal) e)
-
-  status_is : (inst_in s c).status ≡ status_of cell.status
-  unfolding inst_in
-  status_is = sym (ap (λ (x : Short). x.status) e)
-
-  pub stops_lower : cell.bal.0 < ballot → true ≡ stops_at ballot (inst_in s c)
-  stops_lower h = sym (rw (bal_is, lt-ltb cell.bal.0 ballot h))
-
-  pub stops_below : (t : Bool) → ballot ≤ cell.bal.0 → t ≡ ltb (machine.order (status_of cell.status)) 2 → t ≡ stops_at ballot (inst_in s c)
-  stops_below t h f = f ∙ sym (rw (bal_is, le-ltb cell.bal.0 ballot h, status_is))
+-- ---- one slot
 
 module _ (s : List ℕ) (c : ℕ) (t : Bool) (e : t ≡ machine.is_open (inst_in s c).status) where
-  pub is_one : t ≡ true → 1 ≡ one_if_open (inst_in s c)
-  is_one f = sym (rw (sym e ∙ f))
-
-  pub is_none : t ≡ false → 0 ≡ one_if_open (inst_in s c)
-  is_none f = sym (rw (sym e ∙ f))
-
   short_open : (b : Bool) → t ≡ b → machine.is_open (short_at s c).status ≡ b
   unfolding inst_in
   short_open b f = sym e ∙ f
 
   module _ (area : List ℕ) (place slot : ℕ) where
-    pub passed : not t ≡ true → Marks c place slot s area place s area
+    pub passed : t ≡ false → Marks c place slot s area place s area
     unfolding encode
-    passed f =
-        let g : t ≡ false = not-true t f in
+    passed g =
         let q : mark_short (short_at s c) ≡ short_at s c = rw (short_open false g) in
         record {
           next = rw (sym e ∙ g) (omega arith);
@@ -63,12 +38,11 @@ module _ (s : List ℕ) (c : ℕ) (t : Bool) (e : t ≡ machine.is_open (inst_in
           marked = rw q (puts_same s c);
         }
 
-    pub marks : not t ≡ false → place + one_if_open (inst_in s c) ≤ places area → (u area' : List ℕ) (b : Bool)
+    pub marks : t ≡ true → place + one_if_open (inst_in s c) ≤ places area → (u area' : List ℕ) (b : Bool)
         → Puts s c (with_status machine.Committed (short_at s c)) (batch_at s c) (reads_at s c) u → ◌≡◌ {A = Put} (record { taken = b; area = area' }) (put_item area place (Commit slot))
         → Marks c place slot s area (place + 1) u area'
     unfolding encode
-    marks f h u area' b p w =
-        let g : t ≡ true = not-false t f in
+    marks g h u area' b p w =
         let k : one_if_open (inst_in s c) ≡ 1 = rw (sym e ∙ g) in
         let q : mark_short (short_at s c) ≡ with_status machine.Committed (short_at s c) = rw (short_open true g) in
         record {

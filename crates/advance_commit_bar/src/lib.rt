@@ -14,16 +14,13 @@ use inst_cell::Status;
 use items::Item;
 
 // Whether the walk ends before the slot at place c.
+#[tactic(auto, unfolding(insts::specs::Slots::inst_in))]
 fn stops(s: &[u64], c: usize, ballot: Ballot) -> bool
     requires { (c < slot_places) × (slot_words ≤ length s.now) }
     ensures { result ≡ stops_at ballot.0 (inst_in s.now c) }
 {
     let cell = insts::load(s, c);
-    if cell.bal.0 < ballot.0 {
-        return true;
-    }
-    let status = cell.status;
-    inst_cell::is_below_accepting(status)
+    cell.bal < ballot || inst_cell::is_below_accepting(cell.status)
 }
 
 // How many items an open slot gives.
@@ -31,10 +28,7 @@ pub fn one_if_open(s: &[u64], c: usize) -> usize
     requires { (c < slot_places) × (slot_words ≤ length s.now) }
     ensures { result ≡ one_if_open (inst_in s.now c) }
 {
-    if insts::is_open(s, c) {
-        return 1;
-    }
-    0
+    usize::from(insts::is_open(s, c))
 }
 
 // A slot that the walk passes: marked Committed, with its item, unless it was already. Gives the next place of the
@@ -55,14 +49,7 @@ fn mark(s: &mut [u64], c: usize, area: &mut [u64], place: usize, slot: Slot) -> 
 fn reach(start: Slot, n: usize, bar: Slot) -> usize
     ensures { result ≡ min n (bar.0 - start.0) }
 {
-    if bar.0 <= start.0 {
-        return 0;
-    }
-    let below = (bar.0 - start.0) as usize;
-    if n < below {
-        return n;
-    }
-    below
+    n.min(bar.0.saturating_sub(start.0) as usize)
 }
 
 // How many items the walk has.
@@ -77,16 +64,14 @@ pub fn count_commits(
     requires { (start.0 ≤ commit.0) × (commit.0 ≤ start.0 + n) × (start.0 ≤ top) × (n ≤ slot_places) × (slot_words ≤ length s.now) }
     ensures { result ≡ length (walked start.0 n commit.0 ballot.0 bar.0 s.now).items }
 {
-    let to = reach(start, n, bar);
-    let mut k = (commit.0 - start.0) as usize;
+    let from = (commit.0 - start.0) as usize;
     let mut count = 0;
-    while k < to {
+    for k in from..reach(start, n, bar) {
         let c = ((start.0 + k as u64) % layout::PLACES) as usize;
         if stops(s, c, ballot) {
             return count;
         }
         count += one_if_open(s, c);
-        k += 1;
     }
     count
 }
@@ -105,17 +90,15 @@ pub fn advance(
     requires { (start.0 ≤ commit.0) × (commit.0 ≤ start.0 + n) × (start.0 ≤ top) × (n ≤ slot_places) × (slot_words ≤ length s.old) × (place + length (walked start.0 n commit.0 ballot.0 bar.0 s.old).items ≤ places area.old) }
     ensures { Advances place start.0 n commit.0 ballot.0 bar.0 s.old area.old result s.new area.new }
 {
-    let to = reach(start, n, bar);
-    let mut k = (commit.0 - start.0) as usize;
+    let from = (commit.0 - start.0) as usize;
     let mut at = place;
-    while k < to {
-        let slot = start.0 + k as u64;
-        let c = (slot % layout::PLACES) as usize;
+    for k in from..reach(start, n, bar) {
+        let slot = Slot(start.0 + k as u64);
+        let c = (slot.0 % layout::PLACES) as usize;
         if stops(s, c, ballot) {
             return at;
         }
-        at = mark(s, c, area, at, Slot(slot));
-        k += 1;
+        at = mark(s, c, area, at, slot);
     }
     at
 }
