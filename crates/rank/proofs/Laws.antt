@@ -2,16 +2,16 @@
 -- most v.
 use Rattle.std.specs.Prelude.{if◌then◌else◌}
 use Prim.Native.Nat.{ℕ, zero, suc, ◌+◌, ◌-◌, ◌≤◌, ◌<◌}
-use mathlib.Core.Bool.{Bool, true, false}
+use mathlib.Core.Bool.{Bool, true, false, cond}
 use mathlib.Core.List.{List, [], ◌∷◌}
-use mathlib.Core.Path.{◌≡◌, refl, ap, ◌∙◌}
+use mathlib.Core.Path.{◌≡◌, refl, sym, ap, ◌∙◌}
 use native.Mathlib.Nat.{le_of_suc-le-suc}
 use native.Mathlib.Omega.{arith}
-use native.Mathlib.Numerals.{add-one}
 use borrow.Author.Tests.{leb-true, leb-false, le-leb, lt-leb, ltb-true, ltb-false}
 use lib.Dec.{leb, ltb}
-use lib.ListN.{length, get_or, drop, drop_of_length-le}
-use lib.Seq.{drop-cons}
+use Rattle.std.specs.List.{count_by}
+use Rattle.std.proofs.lemmas.List.Recursion.{is_count_by}
+use lib.ListN.{length, get_or}
 use Rattle.rank.specs.Sort.{insert, sort, count_le}
 
 -- P of each element
@@ -127,20 +127,14 @@ rank_le v l k h = nth_le v (sort l) k (sorted_sort l) (rw count_sort h)
 pub rank_count : (v : ℕ) (l : List ℕ) (k : ℕ) → k < length l → get_or (sort l) k 0 ≤ v → k < count_le v l
 rank_count v l k h g = rw count_sort at (nth_count v (sort l) k (sorted_sort l) (rw length_sort h) g)
 
--- one element more, for a loop that counts: what is left of the list begins with the element at i
-pub count_step : (v : ℕ) (l : List ℕ) (i : ℕ) → i < length l → count_le v (drop i l) ≡ if◌then◌else◌ (leb (get_or l i 0) v) 1 0 + count_le v (drop (i + 1) l)
+-- what the code counts
+pub count_is : (v : ℕ) (l : List ℕ) → count_by (λ x. leb x v) l ≡ count_le v l
 unfolding count_le
-count_step v l i h = rw (add-one, drop-cons l i 0)
-
-pub count_end : (v : ℕ) (l : List ℕ) (i : ℕ) → length l ≤ i → count_le v (drop i l) ≡ 0
-unfolding count_le
-count_end v l i h = rw (drop_of_length-le l h)
-
-pub count_more : (v : ℕ) (l : List ℕ) (i : ℕ) → i < length l → get_or l i 0 ≤ v → count_le v (drop i l) ≡ 1 + count_le v (drop (i + 1) l)
-count_more v l i h g = count_step v l i h ∙ rw (le-leb (get_or l i 0) v g)
-
-pub count_same : (v : ℕ) (l : List ℕ) (i : ℕ) → i < length l → v < get_or l i 0 → count_le v (drop i l) ≡ count_le v (drop (i + 1) l)
-count_same v l i h g = count_step v l i h ∙ rw (lt-leb (get_or l i 0) v g) (omega arith)
+count_is v l = sym (is_count_by (count_le v) (λ x. leb x v) refl (λ x xs. step (leb x v) (count_le v xs)) l)
+  where
+    step : (t : Bool) (n : ℕ) → (if t then 1 else 0) + n ≡ cond t (1 + n) n
+    step true n = refl
+    step false n = omega arith
 
 -- by cases on an order
 by_lt : {A : Type 0} (a b : ℕ) → (a < b → A) → (b ≤ a → A) → A
@@ -149,20 +143,6 @@ by_lt {A = A} a b f g = go (ltb a b) refl
     go : (t : Bool) → ltb a b ≡ t → A
     go true e = f (ltb-true a b e)
     go false e = g (ltb-false a b e)
-
--- what holds of each element before i, and of the one at i
-each_more : (P : ℕ → Type 0) (b : List ℕ) (i : ℕ) → ((k : ℕ) → k < i → P (get_or b k 0)) → P (get_or b i 0) → (k : ℕ) → k < i + 1 → P (get_or b k 0)
-each_more P b i f p k h = by_lt k i (f k) (λ g. let e : k ≡ i = omega arith in rw e p)
-
-pub least_more : (b : List ℕ) (i r s : ℕ) → ((k : ℕ) → k < i → r ≤ get_or b k 0) → s ≤ r → s ≤ get_or b i 0 → (k : ℕ) → k < i + 1 → s ≤ get_or b k 0
-least_more b i r s f g h = each_more (λ x. s ≤ x) b i (λ k l. omega (arith, f k l)) h
-
-abbrev Below : ℕ → ℕ → Type 0
-Below r x = x < 18446744073709551615 → x ≤ r
-
-pub most_more : (b : List ℕ) (i r s : ℕ) → ((k : ℕ) → k < i → get_or b k 0 < 18446744073709551615 → get_or b k 0 ≤ r) → r ≤ s → (get_or b i 0 < 18446744073709551615 → get_or b i 0 ≤ s)
-    → (k : ℕ) → k < i + 1 → get_or b k 0 < 18446744073709551615 → get_or b k 0 ≤ s
-most_more b i r s f g h = each_more (Below s) b i (λ k l m. omega (arith, f k l m)) h
 
 -- ---- the k-th smallest, x
 
@@ -188,7 +168,7 @@ module _ (b : List ℕ) (k : ℕ) (h : 0 < k) (l : k ≤ length b) where
   top_is v n f e g t =
       let above : v < x = too_few v n e g in
       let last : x < 18446744073709551616 = at_x (λ y. y < 18446744073709551616) (λ i m. t i) in
-      by_lt x 18446744073709551615 (λ m. absurd (omega (arith, at_x (Below v) f m))) (λ m. omega arith)
+      by_lt x 18446744073709551615 (λ m. absurd (omega (arith, at_x (λ y. y < 18446744073709551615 → y ≤ v) f m))) (λ m. omega arith)
 
   -- the next number is not above x
   pub past : (v n : ℕ) → n ≡ count_le v b → n < k → v + 1 ≤ x

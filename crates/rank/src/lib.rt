@@ -9,60 +9,27 @@ ghost use Rattle.rank.specs.Sort.{sort, count_le};
 fn count_le(b: &[u64], v: u64) -> usize
     ensures { result ≡ count_le v b.now }
 {
-    let mut n = 0;
-    let mut i = 0;
-    while i < b.len() {
-        if b[i] <= v {
-            n += 1;
-        }
-        i += 1;
-    }
-    n
-}
-
-fn lesser(a: u64, b: u64) -> u64
-    ensures { (result ≤ a) × (result ≤ b) }
-{
-    if a <= b { a } else { b }
+    b.iter().filter(|x| **x <= v).count()
 }
 
 // No element is below it.
 fn smallest(b: &[u64]) -> u64
     ensures { (k : ℕ) → k < length b.now → result ≤ get_or b.now k 0 }
 {
-    let mut r = 0xffff_ffff_ffff_ffff;
-    let mut i = 0;
-    while i < b.len() {
-        r = lesser(r, b[i]);
-        i += 1;
-    }
-    r
-}
-
-// The greater of the two, the last number left out.
-fn greater(a: u64, b: u64) -> u64
-    ensures { (a ≤ result) × (b < 18446744073709551615 → b ≤ result) }
-{
-    if b == 0xffff_ffff_ffff_ffff {
-        return a;
-    }
-    if a <= b {
-        return b;
-    }
-    a
+    b.iter().copied().min().unwrap_or(u64::MAX)
 }
 
 // No element is above it but the last number.
 fn largest(b: &[u64]) -> u64
     ensures { (k : ℕ) → k < length b.now → get_or b.now k 0 < 18446744073709551615 → get_or b.now k 0 ≤ result }
 {
-    let mut r = 0;
-    let mut i = 0;
-    while i < b.len() {
-        r = greater(r, b[i]);
-        i += 1;
+    let mut most = 0;
+    for x in b {
+        if *x < u64::MAX {
+            most = most.max(*x);
+        }
     }
-    r
+    most
 }
 
 // The k-th smallest, which is between the two.
@@ -89,7 +56,7 @@ pub fn kth(b: &[u64], k: usize) -> u64
 {
     let to = largest(b);
     if count_le(b, to) < k {
-        return 0xffff_ffff_ffff_ffff;
+        return u64::MAX;
     }
     search(b, k, smallest(b), to)
 }
