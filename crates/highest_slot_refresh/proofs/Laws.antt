@@ -1,8 +1,9 @@
 -- `refresh_highest_slot` request by request: which keys are written after it, how many, and the written keys in lent
 -- words.
-use Rattle.std.specs.Prelude.{if◌then◌else◌}
+use Rattle.std.specs.Prelude.{if◌then◌else◌, is_none}
+use Rattle.std.specs.Int.{from_bool}
 use mathlib.Core.Path.{◌≡◌, refl, sym, ap, ◌∙◌}
-use mathlib.Core.Bool.{Bool, true, false, ◌||◌, or-false}
+use mathlib.Core.Bool.{Bool, true, false, ◌||◌, ◌&&◌, or-false}
 use mathlib.Core.List.{List, [], ◌∷◌, ◌++◌}
 use Rattle.std.specs.Prelude.{Option, None, Some}
 use Prim.Native.Nat.{ℕ, suc, ◌+◌, ◌-◌, ◌≤◌, ◌<◌}
@@ -148,23 +149,28 @@ long_snoc slot qs q hs = rw refresh_snoc (go (is_put q.command))
 
 -- ---- the keys of one request, in the words of the code: a and b are what the searches said, r the request that was read
 
-module _ (key : List ℕ) (qs : List machine.Request) (hs : List machine.Highest) (a : Option Slot) (told : slot_in a ≡ highest_of key hs) where
-  pub key_written : (slot : Slot) → a ≡ Some slot → new_key key qs hs ≡ 0
-  key_written slot e = rw (← told, e)
+key_is : (key : List ℕ) (qs : List machine.Request) (hs : List machine.Highest) (a : Option Slot) (b : Option ℕ) → slot_in a ≡ highest_of key hs → b ≡ last_put key qs
+    → from_bool (is_none a && is_none b) ≡ new_key key qs hs
+key_is key qs hs a b e f = rw (← e, ← f) (pick a b)
+  where
+    pick : (a : Option Slot) (b : Option ℕ) → from_bool (is_none a && is_none b) ≡ (if_none slot_in a then (if_none b then 1 else λ v. 0) else λ s. 0)
+    pick None None = refl
+    pick None (Some v) = refl
+    pick (Some w) b = refl
 
-  module _ (e : a ≡ None) (b : Option ℕ) (put : b ≡ last_put key qs) where
-    pub key_put : (v : ℕ) → b ≡ Some v → new_key key qs hs ≡ 0
-    key_put v f = rw (← told, e, ← put, f)
+module _ (key : List ℕ) (qs : List machine.Request) (hs : List machine.Highest) (a : Option Slot) (told : slot_in a ≡ highest_of key hs) (t : Bool) (e : t ≡ is_none a) where
+  pub key_old : t ≡ false → from_bool t ≡ new_key key qs hs
+  key_old f = rw f (rw (← e, f) at (key_is key qs hs a (last_put key qs) told refl))
 
-    pub key_new : b ≡ None → new_key key qs hs ≡ 1
-    key_new f = rw (← told, e, ← put, f)
+  pub key_unless_put : t ≡ true → (b : Option ℕ) (u : Bool) → b ≡ last_put key qs → u ≡ is_none b → from_bool u ≡ new_key key qs hs
+  key_unless_put f b u g h = rw h (rw (← e, f) at (key_is key qs hs a b told g))
 
 module _ (q : machine.Request) (r : Request) (is : request_of r ≡ q) where
   pub keys_get : (qs : List machine.Request) (hs : List machine.Highest) → r.command ≡ Get → new_keys q qs hs ≡ 0
   keys_get qs hs e = rw (← is, e)
 
-  pub keys_put : (qs : List machine.Request) (hs : List machine.Highest) (v n : ℕ) → r.command ≡ Put v → n ≡ new_key (bytes_of r.key) qs hs → n ≡ new_keys q qs hs
-  keys_put qs hs v n e h = rw (← is, e) h
+  pub keys_put : (qs : List machine.Request) (hs : List machine.Highest) (v n : ℕ) (t : Bool) → r.command ≡ Put v → from_bool t ≡ new_key (bytes_of r.key) qs hs → n ≡ from_bool t → n ≡ new_keys q qs hs
+  keys_put qs hs v n t e h g = rw (← is, e) (g ∙ h)
 
   pub note_get : (slot : ℕ) (s : List ℕ) → r.command ≡ Get → Refreshes slot (q ∷ []) s s
   unfolding refresh_highest_slot
@@ -223,10 +229,10 @@ module _ (b w : List ℕ) where
       let g = rw (whole m slot k) at (after_grows m (i + 1) slot (omega arith)) in
       sym (lt-ltb keys (length (refresh_highest_slot slot (requests_of b) (written_of w))) (omega arith))
 
-  pub fits : (m n : ℕ) → m ≡ length (requests_of b) → n ≡ length (written_of w) → n + m ≤ keys → (slot : ℕ) → false ≡ ltb keys (length (refresh_highest_slot slot (requests_of b) (written_of w)))
+  pub fits : (m n : ℕ) → m ≡ length (requests_of b) → n ≡ length (written_of w) → n + m ≤ keys → (slot : ℕ) → ltb keys (n + m) ≡ ltb keys (length (refresh_highest_slot slot (requests_of b) (written_of w)))
   fits m n x y h slot =
       let l = long_after slot (requests_of b) (written_of w) in
-      sym (le-ltb keys (length (refresh_highest_slot slot (requests_of b) (written_of w))) (omega arith))
+      le-ltb keys (n + m) h ∙ sym (le-ltb keys (length (refresh_highest_slot slot (requests_of b) (written_of w))) (omega arith))
 
 -- ---- the written keys, request by request: from i on is left
 

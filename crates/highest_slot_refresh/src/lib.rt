@@ -2,6 +2,7 @@
 #![tactic(auto)]
 
 ghost use Rattle.std.specs.Prelude.{◌≡◌, [], ◌∷◌, ℕ, ◌<◌, ◌≤◌, ltb, length};
+ghost use Rattle.std.specs.Int.{from_bool};
 ghost use Rattle.words.specs.Tab.{tab};
 ghost use Rattle.ids.specs.Limits.{keys};
 ghost use Rattle.layout.specs.Layout.{request_places, batch_words, written_words};
@@ -15,22 +16,14 @@ use ids::Slot;
 use inst_reqs::Command;
 use key_words::Key;
 
-// How many keys a Put of a key as the i-th request adds.
-fn new_key(written: &[u64], batch: &[u64], i: usize, key: Key) -> usize
+// Whether a Put of a key as the i-th request adds it: it is not written, and no earlier request puts it.
+#[tactic(auto, using(crate::proofs::Laws::key_old, crate::proofs::Laws::key_unless_put))]
+fn is_new(written: &[u64], batch: &[u64], i: usize, key: Key) -> bool
     requires { (written_words ≤ length written.now) × ((i < request_places) × (batch_words ≤ length batch.now)) }
-    ensures { (result ≡ new_key (bytes_of key) (tab (request_at batch.now) 0 i) (written_of written.now)) × (result ≤ 1) }
+    ensures { from_bool result ≡ new_key (bytes_of key) (tab (request_at batch.now) 0 i) (written_of written.now) }
 {
-    let at = highest_slot::highest(written, key);
-    match at {
-        Some(_) => 0,
-        None => {
-            let put = inst_reqs::last_put_among(batch, i, key);
-            match put {
-                Some(_) => 0,
-                None => 1,
-            }
-        }
-    }
+    highest_slot::highest(written, key).is_none()
+        && inst_reqs::last_put_among(batch, i, key).is_none()
 }
 
 // How many keys the i-th request adds.
@@ -39,11 +32,9 @@ fn new_keys(written: &[u64], batch: &[u64], i: usize) -> usize
     ensures { (result ≡ new_keys (request_at batch.now i) (tab (request_at batch.now) 0 i) (written_of written.now)) × (result ≤ 1) }
 {
     let q = inst_reqs::get(batch, i);
-    let command = q.command;
-    let key = q.key;
-    match command {
+    match q.command {
         Command::Get => 0,
-        Command::Put(_) => new_key(written, batch, i, key),
+        Command::Put(_) => usize::from(is_new(written, batch, i, q.key)),
     }
 }
 
@@ -52,15 +43,12 @@ fn exceeds(written: &[u64], batch: &[u64]) -> bool
     requires { (written_words ≤ length written.now) × (batch_words ≤ length batch.now) }
     ensures { (slot : ℕ) → result ≡ ltb keys (length (refresh_highest_slot slot (requests_of batch.now) (written_of written.now))) }
 {
-    let m = inst_reqs::count(batch);
     let mut n = highest_slot::count(written);
-    let mut i = 0;
-    while i < m {
-        n = n + new_keys(written, batch, i);
+    for i in 0..inst_reqs::count(batch) {
+        n += new_keys(written, batch, i);
         if highest_slot::KEYS < n {
             return true;
         }
-        i += 1;
     }
     false
 }
@@ -70,12 +58,8 @@ pub fn overflows(written: &[u64], batch: &[u64]) -> bool
     requires { (written_words ≤ length written.now) × (batch_words ≤ length batch.now) }
     ensures { (slot : ℕ) → result ≡ ltb keys (length (refresh_highest_slot slot (requests_of batch.now) (written_of written.now))) }
 {
-    let m = inst_reqs::count(batch);
-    let n = highest_slot::count(written);
-    if n + m <= highest_slot::KEYS {
-        return false;
-    }
-    exceeds(written, batch)
+    highest_slot::KEYS < highest_slot::count(written) + inst_reqs::count(batch)
+        && exceeds(written, batch)
 }
 
 // The i-th request's part.
@@ -85,12 +69,10 @@ fn note_at(written: &mut [u64], batch: &[u64], i: usize, slot: Slot)
     ensures { Refreshes slot.0 (request_at batch.now i ∷ []) written.old written.new }
 {
     let q = inst_reqs::get(batch, i);
-    let command = q.command;
-    let key = q.key;
-    match command {
+    match q.command {
         Command::Get => {}
         Command::Put(_) => {
-            highest_slot::note(written, key, slot);
+            highest_slot::note(written, q.key, slot);
         }
     }
 }
@@ -101,10 +83,7 @@ pub fn refresh(written: &mut [u64], batch: &[u64], slot: Slot)
     requires fits { length (refresh_highest_slot slot.0 (requests_of batch.now) (written_of written.old)) ≤ keys }
     ensures { Refreshes slot.0 (requests_of batch.now) written.old written.new }
 {
-    let n = inst_reqs::count(batch);
-    let mut i = 0;
-    while i < n {
+    for i in 0..inst_reqs::count(batch) {
         note_at(written, batch, i, slot);
-        i += 1;
     }
 }

@@ -1,5 +1,4 @@
-use mathlib.Core.Path.{◌≡◌}
-use Prim.Native.Nat.{◌≤◌, ◌-◌}
+use Rattle.std.proofs.Common.{◌≡◌, ◌≤◌}
 use Rattle.layout.specs.Layout.{request_places}
 use Rattle.inst_reqs.specs.Batch.{requests_of}
 use Rattle.bodega.specs.Localread.{commit_condition}
@@ -9,7 +8,4 @@ use Rattle.commit_condition.proofs.commit_condition.Given as goal
 
 abbrev pub invariant-loop-i : goal.invariant-loop-i
 invariant-loop-i l =
-    (l.i ≤ l.n) × (l.n ≤ request_places) × (law.acked_from (view l.conf l.rows) l.acks l.batch l.i l.n ≡ commit_condition l.acks (requests_of l.batch) l.quorum (view l.conf l.rows))
-
-abbrev pub decreases-loop-i : goal.decreases-loop-i
-decreases-loop-i l = l.n - l.i
+    (l.i-end ≤ request_places) × (law.acked_from (view l.conf l.rows) l.acks l.batch l.i l.i-end ≡ commit_condition l.acks (requests_of l.batch) l.quorum (view l.conf l.rows))

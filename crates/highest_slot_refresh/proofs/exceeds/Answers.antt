@@ -1,10 +1,9 @@
+use Rattle.std.proofs.Common.{rules, arith}
 use Rattle.highest_slot_refresh.proofs.Laws as law
-use borrow.Author.Rules.{rules}
-use native.Mathlib.Omega.{arith}
 use Rattle.highest_slot_refresh.proofs.exceeds.Goals as goal
 
 pub loop-i-init : goal.loop-i-init
-loop-i-init c = (omega arith, omega arith, omega arith, law.after_start _ _ _ c.count-n.ensures.0)
+loop-i-init c = (omega arith, omega arith, law.after_start _ _ _ c.count-n.ensures.0)
 
 pub returns-then-n-gt-KEYS : goal.returns-then-n-gt-KEYS
 returns-then-n-gt-KEYS c = search (rules, law.after_past)

@@ -1,14 +1,10 @@
-use Prim.Native.Nat.{ℕ, ◌≤◌, ◌-◌}
-use mathlib.Core.Path.{◌≡◌}
-use lib.ListN.{length}
+use Rattle.std.proofs.Common.{◌≡◌, ℕ, ◌≤◌, length}
 use Rattle.ids.specs.Limits.{keys}
 use Rattle.layout.specs.Layout.{request_places}
 use Rattle.highest_slot_refresh.specs.Refresh.{after}
+use Rattle.highest_slot_refresh.proofs.Laws as law
 use Rattle.highest_slot_refresh.proofs.exceeds.Given as goal
 
 abbrev pub invariant-loop-i : goal.invariant-loop-i
 invariant-loop-i l =
-    (l.i ≤ l.m) × (l.m ≤ request_places) × (l.n ≤ keys) × ((slot : ℕ) → l.n ≡ length (after slot l.batch l.written l.i))
-
-abbrev pub decreases-loop-i : goal.decreases-loop-i
-decreases-loop-i l = l.m - l.i
+    (l.i-end ≤ request_places) × (l.n ≤ keys) × ((slot : ℕ) → l.n ≡ length (after slot l.batch l.written l.i))
