@@ -1,5 +1,5 @@
 -- The grounds of *bars* test by test, the slots executed one by one, and the call.
-use Rattle.std.specs.Prelude.{if◌then◌else◌}
+use Rattle.std.specs.Prelude.{Result, Ok, IsErrAnd}
 use mathlib.Core.Path.{◌≡◌, refl, sym, ap, ◌∙◌}
 use mathlib.Core.Bool.{Bool, true, false, not, ◌&&◌, ◌||◌}
 use mathlib.Core.List.{List, [], ◌∷◌}
@@ -8,9 +8,12 @@ use Prim.Native.Nat.{ℕ, zero, suc, ◌+◌, ◌-◌, ◌%◌, ◌≤◌, ◌<�
 use native.Mathlib.Numerals.{add-one}
 use native.Mathlib.Omega.{arith}
 use lib.Dec.{ltb, leb}
-use lib.ListN.{length, set, take, drop, slice_get}
-use borrow.Author.Tests.{lt-ltb, le-ltb, le-leb, lt-leb, ltb-false, leb-true, not-false}
+use Rattle.std.specs.List.{slice_get}
+use lib.ListN.{length, set, take, drop}
+use borrow.Author.Tests.{ltb-false, leb-true, not-false}
 use Rattle.words.specs.Part.{part, splice, length_part}
+use Rattle.ids.specs.declared.Refusal.{Refusal}
+use Rattle.ids.specs.Refusal.{number_of}
 use Rattle.ids.specs.declared.Slot.{Slot}
 use Rattle.inst_cell.specs.Cell.{with_status as short_with}
 use Rattle.bodega.specs.Replica.{Instance, Bars, Executed, is_open, with_status, with_insts}
@@ -21,51 +24,15 @@ use Rattle.bodega.specs.Answers.{Answers}
 use Rattle.insts.specs.Slots.{short_at, batch_at, reads_at, inst_in, insts_of, Puts}
 use Rattle.insts.proofs.Laws.{moved, dropped, first, inst_at_lem, length_insts}
 use Rattle.node.specs.declared.Node.{Node}
-use Rattle.node.specs.View.{view, ready}
+use Rattle.node.specs.declared.Taken.{Taken}
+use Rattle.node.specs.View.{view, ready, given_of}
 use Rattle.words.proofs.Tests.{and_both, or_both}
 use Rattle.layout.specs.Layout.{slot_places, slot_words, slots_at}
 use Rattle.node.proofs.Calls.{Ready, is_ready, made_ready, refused_by, taken_by, none_applies}
 use Rattle.node.proofs.Frames.{slots_back, slots_size, slots_beyond}
-use Rattle.call_bars.specs.Moves.{any_far, lowered, in_order, open_below, holds_below, broken, bars_refusal, Executes}
+use Rattle.call_bars.specs.Moves.{lowered, in_order, open_below, holds_below, broken, bars_refusal, Executes}
 
 -- ---- a test after another
-
-module _ (start accept commit exec : ℕ) where
-  pub far_start : 281474976710655 < start → true ≡ any_far start accept commit exec
-  far_start h = sym (simp (lt-ltb 281474976710655 start h))
-
-  module _ (h : start ≤ 281474976710655) where
-    pub far_accept : 281474976710655 < accept → true ≡ any_far start accept commit exec
-    far_accept g = sym (simp (le-ltb 281474976710655 start h, lt-ltb 281474976710655 accept g))
-
-    module _ (g : accept ≤ 281474976710655) where
-      pub far_commit : 281474976710655 < commit → true ≡ any_far start accept commit exec
-      far_commit k = sym (simp (le-ltb 281474976710655 start h, le-ltb 281474976710655 accept g, lt-ltb 281474976710655 commit k))
-
-      pub far_exec : commit ≤ 281474976710655 → ltb 281474976710655 exec ≡ any_far start accept commit exec
-      far_exec k = sym (simp (le-ltb 281474976710655 start h, le-ltb 281474976710655 accept g, le-ltb 281474976710655 commit k))
-
-module _ (start₀ commit₀ exec₀ start commit exec : ℕ) where
-  pub start_falls : start < start₀ → true ≡ lowered start₀ commit₀ exec₀ start commit exec
-  start_falls h = sym (simp (lt-ltb start start₀ h))
-
-  module _ (h : start₀ ≤ start) where
-    pub commit_falls : commit < commit₀ → true ≡ lowered start₀ commit₀ exec₀ start commit exec
-    commit_falls g = sym (simp (le-ltb start start₀ h, lt-ltb commit commit₀ g))
-
-    pub exec_falls : commit₀ ≤ commit → ltb exec exec₀ ≡ lowered start₀ commit₀ exec₀ start commit exec
-    exec_falls g = sym (simp (le-ltb start start₀ h, le-ltb commit commit₀ g))
-
-module _ (start exec commit end : ℕ) where
-  pub exec_low : exec < start → false ≡ in_order start exec commit end
-  exec_low h = sym (simp (lt-leb start exec h))
-
-  module _ (h : start ≤ exec) where
-    pub commit_low : commit < exec → false ≡ in_order start exec commit end
-    commit_low g = sym (simp (le-leb start exec h, lt-leb exec commit g))
-
-    pub commit_end_lem : exec ≤ commit → leb commit end ≡ in_order start exec commit end
-    commit_end_lem g = sym (simp (le-leb start exec h, le-leb exec commit g))
 
 -- no bar falls, and start ≤ exec ≤ commit ≤ end
 pub record Kept (start₀ n start commit exec : ℕ) : Type 0 where
@@ -100,61 +67,28 @@ module _ (start₀ commit₀ exec₀ n start commit exec : ℕ) (s : List ℕ) w
   end_is : in_order_lem ≡ in_order start exec commit (start₀ + n)
   end_is = ap (λ (k : ℕ). in_order start exec commit (start₀ + k)) (length_insts start₀ n s)
 
-  module _ (t : Bool) (e : t ≡ lowered start₀ commit₀ exec₀ start commit exec) where
-    fell : is_broken ≡ t || not in_order_lem || open_below start₀ insts commit || holds_below start₀ insts start
-    fell = ap (λ (x : Bool). x || not in_order_lem || open_below start₀ insts commit || holds_below start₀ insts start) (sym e)
+  module _ (t : Bool) (e : t ≡ lowered start₀ commit₀ exec₀ start commit exec || not (in_order start exec commit (start₀ + n))) where
+    misplaced : is_broken ≡ t || open_below start₀ insts commit || holds_below start₀ insts start
+    misplaced = rw (end_is, ← e)
 
-    pub breaks_falls : t ≡ true → true ≡ is_broken
-    breaks_falls f = sym (fell ∙ ap (λ (x : Bool). x || not in_order_lem || open_below start₀ insts commit || holds_below start₀ insts start) f)
+    pub breaks_bars : t ≡ true → true ≡ is_broken
+    breaks_bars f = sym (misplaced ∙ rw f)
 
-    module _ (f : t ≡ false) (u : Bool) (g : u ≡ in_order start exec commit (start₀ + n)) where
-      misplaced : is_broken ≡ not u || open_below start₀ insts commit || holds_below start₀ insts start
-      misplaced =
-          fell ∙ ap (λ (x : Bool). x || not in_order_lem || open_below start₀ insts commit || holds_below start₀ insts start) f
-          ∙ ap (λ (x : Bool). not x || open_below start₀ insts commit || holds_below start₀ insts start) (end_is ∙ sym g)
+    module _ (f : t ≡ false) where
+      in_window : Kept start₀ n start commit exec
+      in_window =
+          let a = or_both (lowered start₀ commit₀ exec₀ start commit exec) (not (in_order start exec commit (start₀ + n))) (sym e ∙ f) in
+          kept start₀ commit₀ exec₀ n start commit exec a.0 (not-false (in_order start exec commit (start₀ + n)) a.1)
 
-      pub breaks_order : not u ≡ true → true ≡ is_broken
-      breaks_order h = sym (misplaced ∙ ap (λ (x : Bool). x || open_below start₀ insts commit || holds_below start₀ insts start) h)
+      module _ (v : Bool) (k : v ≡ any (λ (i : Instance). is_open i.status) (insts_of start₀ (commit - start₀) s)) where
+        opened : is_broken ≡ v || holds_below start₀ insts start
+        opened = misplaced ∙ rw (f, first start₀ n (commit - start₀) s (omega (arith, in_window)), ← k)
 
-      module _ (h : not u ≡ false) where
-        pub in_window : Kept start₀ n start commit exec
-        in_window = kept start₀ commit₀ exec₀ n start commit exec (sym e ∙ f) (sym g ∙ not-false u h)
+        pub breaks_open : v ≡ true → true ≡ is_broken
+        breaks_open l = sym (opened ∙ rw l)
 
-        module _ (v : Bool) (k : v ≡ any (λ (i : Instance). is_open i.status) (insts_of start₀ (commit - start₀) s)) where
-          opened : is_broken ≡ v || holds_below start₀ insts start
-          opened =
-              misplaced ∙ ap (λ (x : Bool). x || open_below start₀ insts commit || holds_below start₀ insts start) h
-              ∙ ap (λ (x : Bool). x || holds_below start₀ insts start)
-              (ap (any (λ (i : Instance). is_open i.status)) (first start₀ n (commit - start₀) s (omega (arith, in_window))) ∙ sym k)
-
-          pub breaks_open : v ≡ true → true ≡ is_broken
-          breaks_open l = sym (opened ∙ ap (λ (x : Bool). x || holds_below start₀ insts start) l)
-
-          pub breaks_holds : v ≡ false → (w : Bool) → w ≡ any holds (insts_of start₀ (start - start₀) s) → w ≡ is_broken
-          breaks_holds l w q =
-              sym
-              (opened ∙ ap (λ (x : Bool). x || holds_below start₀ insts start) l
-              ∙ ap (any holds) (first start₀ n (start - start₀) s (omega (arith, in_window))) ∙ sym q)
-
-module _ (start₀ commit₀ exec₀ : ℕ) (l : List Instance) (start accept commit exec : ℕ) (t : Bool) (e : t ≡ any_far start accept commit exec) where
-  abbrev number : Bool → Bool → ℕ
-  number a b = if a then 8 else if b then 11 else 0
-
-  number_is : number t (broken start₀ commit₀ exec₀ l start commit exec) ≡ bars_refusal start₀ commit₀ exec₀ l start accept commit exec
-  number_is = ap (λ (x : Bool). number x (broken start₀ commit₀ exec₀ l start commit exec)) e
-
-  pub gives_8 : t ≡ true → 8 ≡ bars_refusal start₀ commit₀ exec₀ l start accept commit exec
-  gives_8 f = sym (ap (λ (x : Bool). number x (broken start₀ commit₀ exec₀ l start commit exec)) f) ∙ number_is
-
-  module _ (f : t ≡ false) (u : Bool) (g : u ≡ broken start₀ commit₀ exec₀ l start commit exec) where
-    near : number false u ≡ bars_refusal start₀ commit₀ exec₀ l start accept commit exec
-    near = ap (number false) g ∙ sym (ap (λ (x : Bool). number x (broken start₀ commit₀ exec₀ l start commit exec)) f) ∙ number_is
-
-    pub gives_11 : u ≡ true → 11 ≡ bars_refusal start₀ commit₀ exec₀ l start accept commit exec
-    gives_11 h = sym (ap (number false) h) ∙ near
-
-    pub gives_0 : u ≡ false → 0 ≡ bars_refusal start₀ commit₀ exec₀ l start accept commit exec
-    gives_0 h = sym (ap (number false) h) ∙ near
+        pub breaks_holds : v ≡ false → (w : Bool) → w ≡ any holds (insts_of start₀ (start - start₀) s) → w ≡ is_broken
+        breaks_holds l w q = sym (opened ∙ rw (l, first start₀ n (start - start₀) s (omega (arith, in_window)), ← q))
 
 -- ---- the slots executed, one by one
 
@@ -189,110 +123,106 @@ execute_end {s = s} {t = t} start i n h g x = let e : n ≡ i = omega arith in r
 
 abbrev pub next : Node → Slot → Slot → Slot → Slot → Node
 next n start accept commit exec =
-    record {
-      id = n.id;
-      population = n.population;
-      quorum = n.quorum;
-      bodega_conf = n.bodega_conf;
-      bal_max_seen = n.bal_max_seen;
-      bal_prep_sent = n.bal_prep_sent;
-      bal_prepared = n.bal_prepared;
-      start_slot = start;
-      accept_bar = accept;
-      commit_bar = commit;
-      exec_bar = exec;
-      snap_bar = n.snap_bar;
-      peer_accept_max = n.peer_accept_max;
-      slots = n.slots - (start.0 - n.start_slot.0);
-    }
+    record n { start_slot = start; accept_bar = accept; commit_bar = commit; exec_bar = exec; slots = n.slots - (start.0 - n.start_slot.0) }
 
-module _ (n : Node) (m area : List ℕ) (start accept commit exec : Slot) (t : Bool) (e : t ≡ ready n m) (f : not t ≡ false) where
+module _ (n : Node) (m area : List ℕ) (start accept commit exec : Slot) (y : ready n m ≡ true) where
   abbrev words : List ℕ
   words = take slot_words (drop slots_at m)
 
   r : Ready n m
-  r = is_ready n m t e f
+  r = is_ready n m true (sym y) refl
 
-  pub words_long : length words ≡ slot_words
+  pub long : slots_at + slot_words ≤ length m
+  long = omega (arith, r.long)
+
+  words_long : length words ≡ slot_words
   unfolding part
   words_long = length_part m slots_at slot_words (omega (arith, r))
 
   pub asked : (n.start_slot.0 ≤ 281474976710655) × (n.slots ≤ slot_places) × (slot_words ≤ length words)
   asked = (r.start_low_lem, r.window, omega (arith, words_long))
 
-  module _ (k : ℕ) (g : k ≡ bars_refusal n.start_slot.0 n.commit_bar.0 n.exec_bar.0 (insts_of n.start_slot.0 n.slots words) start.0 accept.0 commit.0 exec.0) where
-    pub bars_refused : (k ≡ 0 → ⊥) → Answers ready view (Bars start.0 accept.0 commit.0 exec.0) n m area (record { number = k; count = 0; node = n }) m area
+  abbrev refusal : ℕ
+  refusal = bars_refusal n.start_slot.0 n.commit_bar.0 n.exec_bar.0 (insts_of n.start_slot.0 n.slots words) start.0 accept.0 commit.0 exec.0
+
+  pub bars_refused : (x : Refusal) (z : Result Taken Refusal) → number_of x ≡ refusal → IsErrAnd z (λ u. u ≡ x) → Answers ready view (Bars start.0 accept.0 commit.0 exec.0) n m area (given_of n z) m area
+  unfolding grounds view part
+  bars_refused = refused_by (Bars start.0 accept.0 commit.0 exec.0) n m area true (sym y) refl
+
+  module _ (g : 0 ≡ refusal) where
+    kept_bars : Kept n.start_slot.0 n.slots start.0 commit.0 exec.0
     unfolding grounds view part
-    bars_refused h = refused_by (Bars start.0 accept.0 commit.0 exec.0) n m area t e f k g h
+    kept_bars =
+        let a = (none_applies (Bars start.0 accept.0 commit.0 exec.0) n m g).1.0 in
+        let l : List Instance = insts_of n.start_slot.0 n.slots words in
+        let low : Bool = lowered n.start_slot.0 n.commit_bar.0 n.exec_bar.0 start.0 commit.0 exec.0 in
+        let order : Bool = in_order start.0 exec.0 commit.0 (n.start_slot.0 + length l) in
+        let b = (or_both (low || not order || open_below n.start_slot.0 l commit.0) (holds_below n.start_slot.0 l start.0) a).0 in
+        let c = (or_both (low || not order) (open_below n.start_slot.0 l commit.0) b).0 in
+        let d = or_both low (not order) c in
+        kept n.start_slot.0 n.commit_bar.0 n.exec_bar.0 n.slots start.0 commit.0 exec.0 d.0
+        (ap (λ (j : ℕ). in_order start.0 exec.0 commit.0 (n.start_slot.0 + j)) (sym (length_insts n.start_slot.0 n.slots words)) ∙ not-false order d.1)
 
-    module _ (z : k ≡ 0) where
-      pub kept_bars : Kept n.start_slot.0 n.slots start.0 commit.0 exec.0
-      unfolding grounds view part
-      kept_bars =
-          let a = (none_applies (Bars start.0 accept.0 commit.0 exec.0) n m k g z).1.0 in
-          let l : List Instance = insts_of n.start_slot.0 n.slots words in
-          let low : Bool = lowered n.start_slot.0 n.commit_bar.0 n.exec_bar.0 start.0 commit.0 exec.0 in
-          let order : Bool = in_order start.0 exec.0 commit.0 (n.start_slot.0 + length l) in
-          let b = (or_both (low || not order || open_below n.start_slot.0 l commit.0) (holds_below n.start_slot.0 l start.0) a).0 in
-          let c = (or_both (low || not order) (open_below n.start_slot.0 l commit.0) b).0 in
-          let d = or_both low (not order) c in
-          kept n.start_slot.0 n.commit_bar.0 n.exec_bar.0 n.slots start.0 commit.0 exec.0 d.0
-          (ap (λ (j : ℕ). in_order start.0 exec.0 commit.0 (n.start_slot.0 + j)) (sym (length_insts n.start_slot.0 n.slots words)) ∙ not-false order d.1)
+    pub execute_room : (n.start_slot.0 ≤ 281474976710655) × (exec.0 - n.start_slot.0 ≤ slot_places) × (slot_words ≤ length words)
+    execute_room = let a = kept_bars in let b = r.window in (r.start_low_lem, omega (arith, a, b), omega (arith, words_long))
 
-      start_low_lem : start.0 ≤ 281474976710655
-      unfolding grounds view part
-      start_low_lem =
-          let a = (none_applies (Bars start.0 accept.0 commit.0 exec.0) n m k g z).0 in
-          let b = (or_both (far start.0 || far accept.0 || far commit.0) (far exec.0) a).0 in
-          let c = (or_both (far start.0 || far accept.0) (far commit.0) b).0 in
-          ltb-false 281474976710655 start.0 (or_both (far start.0) (far accept.0) c).0
+    pub slots_left : start.0 - n.start_slot.0 ≤ n.slots
+    slots_left = let a = kept_bars in omega (arith, a)
 
-      module _ (s' : List ℕ) (x : Executes n.start_slot.0 (exec.0 - n.start_slot.0) words s') where
-        abbrev d : Node
-        d = next n start accept commit exec
+    start_low_lem : start.0 ≤ 281474976710655
+    unfolding grounds view part
+    start_low_lem =
+        let a = (none_applies (Bars start.0 accept.0 commit.0 exec.0) n m g).0 in
+        let b = (or_both (far start.0 || far accept.0 || far commit.0) (far exec.0) a).0 in
+        let c = (or_both (far start.0 || far accept.0) (far commit.0) b).0 in
+        ltb-false 281474976710655 start.0 (or_both (far start.0) (far accept.0) c).0
 
-        abbrev gone : ℕ
-        gone = start.0 - n.start_slot.0
+    module _ (s' : List ℕ) (x : Executes n.start_slot.0 (exec.0 - n.start_slot.0) words s') where
+      abbrev d : Node
+      d = next n start accept commit exec
 
-        abbrev m' : List ℕ
-        m' = splice m slots_at slot_words s'
+      abbrev gone : ℕ
+      gone = start.0 - n.start_slot.0
 
-        long : length s' ≡ slot_words
-        long = x.size ∙ words_long
+      abbrev m' : List ℕ
+      m' = splice m slots_at slot_words s'
 
-        insts_are : insts_of start.0 (n.slots - gone) s' ≡ drop gone (executed (exec.0 - n.start_slot.0) (insts_of n.start_slot.0 n.slots words))
-        insts_are =
-            let w = kept_bars in
-            let q : start.0 ≡ n.start_slot.0 + gone = omega (arith, w) in
-            ap (λ (j : ℕ). insts_of j (n.slots - gone) s') q ∙ dropped n.start_slot.0 n.slots gone s' (omega (arith, w))
-            ∙ ap (drop gone) (x.insts n.slots (omega (arith, w)) r.window)
+      size : length s' ≡ slot_words
+      size = x.size ∙ words_long
 
-        view_is : view d m' ≡ bars (view n m) start.0 accept.0 commit.0 exec.0
-        unfolding view bars part
-        view_is = slots_back d m r.long s' long ∙ ap (λ (l : List Instance). with_insts l (view d m)) insts_are
+      insts_are : insts_of start.0 (n.slots - gone) s' ≡ drop gone (executed (exec.0 - n.start_slot.0) (insts_of n.start_slot.0 n.slots words))
+      insts_are =
+          let w = kept_bars in
+          let q : start.0 ≡ n.start_slot.0 + gone = omega (arith, w) in
+          ap (λ (j : ℕ). insts_of j (n.slots - gone) s') q ∙ dropped n.start_slot.0 n.slots gone s' (omega (arith, w))
+          ∙ ap (drop gone) (x.insts n.slots (omega (arith, w)) r.window)
 
-        same_size : length m' ≡ length m
-        same_size = slots_size d m r.long s' long
+      view_is : view d m' ≡ bars (view n m) start.0 accept.0 commit.0 exec.0
+      unfolding view bars part
+      view_is = slots_back d m r.long s' size ∙ ap (λ (l : List Instance). with_insts l (view d m)) insts_are
 
-        again : Ready d m'
-        again =
-            let w = kept_bars in
-            record {
-              long = rw same_size r.long;
-              quorate = r.quorate;
-              enough = r.enough;
-              few = r.few;
-              own = r.own;
-              ranges = r.ranges;
-              start_low_lem = start_low_lem;
-              start_exec_lem = w.start_exec_lem;
-              exec_commit_lem = w.exec_commit_lem;
-              window = omega (arith, r.window);
-              commit_end_lem = omega (arith, w);
-            }
+      same_size : length m' ≡ length m
+      same_size = slots_size d m r.long s' size
 
-        pub bars_moved : Answers ready view (Bars start.0 accept.0 commit.0 exec.0) n m area (record { number = 0; count = 0; node = d }) m' area
-        unfolding effect grounds view part
-        bars_moved =
-            taken_by (Bars start.0 accept.0 commit.0 exec.0) n m area t e f k g z (bars (view n m) start.0 accept.0 commit.0 exec.0) d m' refl
-            view_is same_size (slots_beyond d m r.long s' long) (made_ready d m' again)
+      again : Ready d m'
+      again =
+          let w = kept_bars in
+          record {
+            long = rw same_size r.long;
+            quorate = r.quorate;
+            enough = r.enough;
+            few = r.few;
+            own = r.own;
+            ranges = r.ranges;
+            start_low_lem = start_low_lem;
+            start_exec_lem = w.start_exec_lem;
+            exec_commit_lem = w.exec_commit_lem;
+            window = omega (arith, r.window);
+            commit_end_lem = omega (arith, w);
+          }
+
+      pub bars_moved : Answers ready view (Bars start.0 accept.0 commit.0 exec.0) n m area (given_of n (Ok (record { node = d; count = 0 }))) m' area
+      unfolding effect grounds view part
+      bars_moved =
+          taken_by (Bars start.0 accept.0 commit.0 exec.0) n m g area true (sym y) refl (bars (view n m) start.0 accept.0 commit.0 exec.0) d m' refl
+          view_is same_size (slots_beyond d m r.long s' size) (made_ready d m' again)

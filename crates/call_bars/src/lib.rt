@@ -15,46 +15,25 @@ ghost use Rattle.ids.specs.Refusal.{refused_by};
 
 use ids::{Refusal, Slot};
 use inst_cell::Status;
-use node::{Taken, Node, is_ready};
+use node::{Node, Taken};
 
 // 8.
 fn any_far(start: Slot, accept: Slot, commit: Slot, exec: Slot) -> bool
     ensures { result ≡ any_far start.0 accept.0 commit.0 exec.0 }
 {
-    if Slot::TOP < start {
-        return true;
-    }
-    if Slot::TOP < accept {
-        return true;
-    }
-    if Slot::TOP < commit {
-        return true;
-    }
-    Slot::TOP < exec
+    Slot::TOP < start || Slot::TOP < accept || Slot::TOP < commit || Slot::TOP < exec
 }
 
 fn falls(start0: Slot, commit0: Slot, exec0: Slot, start: Slot, commit: Slot, exec: Slot) -> bool
     ensures { result ≡ lowered start0.0 commit0.0 exec0.0 start.0 commit.0 exec.0 }
 {
-    if start.0 < start0.0 {
-        return true;
-    }
-    if commit.0 < commit0.0 {
-        return true;
-    }
-    exec.0 < exec0.0
+    start < start0 || commit < commit0 || exec < exec0
 }
 
 fn ordered(start: Slot, exec: Slot, commit: Slot, end: Slot) -> bool
     ensures { result ≡ in_order start.0 exec.0 commit.0 end.0 }
 {
-    if exec.0 < start.0 {
-        return false;
-    }
-    if commit.0 < exec.0 {
-        return false;
-    }
-    commit.0 <= end.0
+    start <= exec && exec <= commit && commit <= end
 }
 
 // Whether one of n slots from start on holds reads.
@@ -62,13 +41,10 @@ fn any_holds(s: &[u64], start: Slot, n: usize) -> bool
     requires { (start.0 ≤ top) × (n ≤ slot_places) × (slot_words ≤ length s.now) }
     ensures { result ≡ any holds (insts_of start.0 n s.now) }
 {
-    let mut i = 0;
-    while i < n {
-        let c = ((start.0 + i as u64) % layout::PLACES) as usize;
-        if insts::holds_reads(s, c) {
+    for i in 0..n {
+        if insts::holds_reads(s, ((start.0 + i as u64) % layout::PLACES) as usize) {
             return true;
         }
-        i += 1;
     }
     false
 }
@@ -87,20 +63,13 @@ fn breaks(
     requires { (start0.0 ≤ top) × (n ≤ slot_places) × (slot_words ≤ length s.now) }
     ensures { result ≡ broken start0.0 commit0.0 exec0.0 (insts_of start0.0 n s.now) start.0 commit.0 exec.0 }
 {
-    if falls(start0, commit0, exec0, start, commit, exec) {
-        return true;
-    }
-    let end = start0.0 + n as u64;
-    if !ordered(start, exec, commit, Slot(end)) {
-        return true;
-    }
-    if insts::any_open(s, start0, (commit.0 - start0.0) as usize) {
-        return true;
-    }
-    any_holds(s, start0, (start.0 - start0.0) as usize)
+    falls(start0, commit0, exec0, start, commit, exec)
+        || !ordered(start, exec, commit, Slot(start0.0 + n as u64))
+        || insts::any_open(s, start0, (commit.0 - start0.0) as usize)
+        || any_holds(s, start0, (start.0 - start0.0) as usize)
 }
 
-// The number of the refusal, 0 where there is none.
+// Refusals 8 and 11.
 fn bars_refusal(
     s: &[u64],
     start0: Slot,
@@ -129,11 +98,9 @@ fn execute(s: &mut [u64], start: Slot, n: usize)
     requires { (start.0 ≤ top) × (n ≤ slot_places) × (slot_words ≤ length s.old) }
     ensures { Executes start.0 n s.old s.new }
 {
-    let mut i = 0;
-    while i < n {
+    for i in 0..n {
         let c = ((start.0 + i as u64) % layout::PLACES) as usize;
         insts::set_status(s, c, Status::Executed);
-        i += 1;
     }
 }
 
@@ -148,13 +115,12 @@ pub fn bars(
 ) -> Result<Taken, Refusal>
     ensures { Answers ready view (Bars start.0 accept.0 commit.0 exec.0) node mem.old area.now (given_of node result) mem.new area.now }
 {
-    if !is_ready(node, mem) {
+    if !node::is_ready(node, mem) {
         return Err(Refusal::NotReady);
     }
-    let from = node.start_slot;
     bars_refusal(
         &mem[layout::SLOTS_AT..layout::WRITTEN_AT],
-        from,
+        node.start_slot,
         node.commit_bar,
         node.exec_bar,
         node.slots,
@@ -165,14 +131,18 @@ pub fn bars(
     )?;
     execute(
         &mut mem[layout::SLOTS_AT..layout::WRITTEN_AT],
-        from,
-        (exec.0 - from.0) as usize,
+        node.start_slot,
+        (exec.0 - node.start_slot.0) as usize,
     );
-    let mut next = node;
-    next.start_slot = start;
-    next.accept_bar = accept;
-    next.commit_bar = commit;
-    next.exec_bar = exec;
-    next.slots = node.slots - (start.0 - from.0) as usize;
-    Ok(Taken { node: next, count: 0 })
+    Ok(Taken {
+        node: Node {
+            start_slot: start,
+            accept_bar: accept,
+            commit_bar: commit,
+            exec_bar: exec,
+            slots: node.slots - (start.0 - node.start_slot.0) as usize,
+            ..node
+        },
+        count: 0,
+    })
 }
