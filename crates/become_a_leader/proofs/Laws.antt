@@ -1,13 +1,12 @@
 -- The code's needs: the open slots of the slots' words, the two passes over them, and the whole.
 use Rattle.std.specs.Prelude.{if◌then◌else◌}
 use mathlib.Core.Path.{◌≡◌, refl, sym, ap, ◌∙◌}
-use mathlib.Core.Bool.{Bool, true, false, not}
-use mathlib.Core.List.{List, [], ◌∷◌, ◌++◌}
+use mathlib.Core.Bool.{Bool, true, false}
+use mathlib.Core.List.{List, [], ◌∷◌, ◌++◌, append-nil}
 use Rattle.std.specs.Prelude.{Option, None, Some}
 use Prim.Native.Nat.{ℕ, ◌+◌, ◌-◌, ◌*◌, ◌%◌, ◌≤◌, ◌<◌}
 use native.Mathlib.Omega.{arith}
 use lib.ListN.{length, drop, replicate, take-append-drop}
-use borrow.Author.Tests.{not-true, not-false}
 use Rattle.words.specs.Writes.{writes}
 use Rattle.layout.specs.Layout.{slot_places, held_places}
 use Rattle.items.specs.Item.{Item, Prelog, encode, places}
@@ -86,30 +85,35 @@ module _ (start n : ℕ) (s : List ℕ) (t : Bool) (e : t ≡ any (λ (i : Insta
   pub one_slot_more : t ≡ false → n + 1 ≡ slots_after n (insts_of start n s)
   one_slot_more f = sym (rw (any_here start n s t e ∙ f))
 
-  pub pad_fits : t ≡ false → slots_after n (insts_of start n s) ≤ slot_places → n + 1 ≤ slot_places
-  pad_fits f h = rw (← (one_slot_more f)) at h
+pub grows : (n : ℕ) (l : List Instance) → n ≤ slots_after n l
+grows n l = go (any_open l)
+  where
+    go : (b : Bool) → n ≤ (if b then n else n + 1)
+    go true = omega arith
+    go false = omega arith
 
-  pub opens_same : t ≡ true → Opens start n s n s
-  opens_same f = record { count = as_many f; insts = sym (slot.opened_some (insts_of start n s) (any_here start n s t e ∙ f)); size = refl }
-
-  pub opens_one : t ≡ false → (u : List ℕ) → (insts_of start (n + 1) u ≡ insts_of start n s ++ replicate (n + 1 - n) null_instance) × (length u ≡ length s) → Opens start n s (n + 1) u
-  opens_one f u p =
-      let z : n + 1 - n ≡ 1 = omega arith in
-      record {
-        count = one_slot_more f;
-        insts = p.0 ∙ rw (z, any_here start n s t e ∙ f);
-        size = p.1;
-      }
+pub opens : (start n r : ℕ) (s u : List ℕ) → r ≡ slots_after n (insts_of start n s)
+    → (insts_of start r u ≡ insts_of start n s ++ replicate (r - n) null_instance) × (length u ≡ length s) → Opens start n s r u
+opens start n r s u e p =
+    record {
+      count = e;
+      insts = p.0 ∙ ap (λ (k : ℕ). insts_of start n s ++ replicate (k - n) null_instance) e ∙ go (any_open (insts_of start n s)) (insts_of start n s);
+      size = p.1;
+    }
+  where
+    go : (b : Bool) (l : List Instance) → l ++ replicate ((if b then n else n + 1) - n) null_instance ≡ (if b then l else l ++ (null_instance ∷ []))
+    go true l = let z : n - n ≡ 0 = omega arith in rw z (append-nil l)
+    go false l = let z : n + 1 - n ≡ 1 = omega arith in rw z
 
 -- ---- how many items
 
 module _ (start n : ℕ) (s : List ℕ) (t : Bool) (e : t ≡ any (λ (i : Instance). is_open i.status) (insts_of start n s)) where
-  pub counts_none : not t ≡ true → (quorum : ℕ) (leader : Option ℕ) (ballot : ℕ) → 3 ≡ length (step_up start quorum leader ballot (insts_of start n s)).items
-  counts_none f quorum leader ballot = count_none start quorum leader ballot (insts_of start n s) (any_here start n s t e ∙ not-true t f)
+  pub counts_none : t ≡ false → (quorum : ℕ) (leader : Option ℕ) (ballot : ℕ) → 3 ≡ length (step_up start quorum leader ballot (insts_of start n s)).items
+  counts_none f quorum leader ballot = count_none start quorum leader ballot (insts_of start n s) (any_here start n s t e ∙ f)
 
-  module _ (f : not t ≡ false) (from last : ℕ) (g : from ≡ first_open (insts_of start n s)) (h : last ≡ last_open (insts_of start n s)) where
+  module _ (f : t ≡ true) (from last : ℕ) (g : from ≡ first_open (insts_of start n s)) (h : last ≡ last_open (insts_of start n s)) where
     some_open : any_open (insts_of start n s) ≡ true
-    some_open = any_here start n s t e ∙ not-false t f
+    some_open = any_here start n s t e ∙ f
 
     pub within : (from ≤ last) × (last < n)
     within = (omega (arith, slot.first_last (insts_of start n s)), omega (arith, slot.last_within (insts_of start n s) some_open, length_insts start n s))
@@ -131,10 +135,9 @@ module _ (s : List ℕ) (c : ℕ) (t : Bool) (e : t ≡ is_open (inst_in s c).st
   short_open b f = sym e ∙ f
 
   module _ (area : List ℕ) (place number ballot : ℕ) where
-    pub passed_by : not t ≡ true → Prelogs c place number ballot s area place s area
+    pub passed_by : t ≡ false → Prelogs c place number ballot s area place s area
     unfolding encode
-    passed_by f =
-        let g : t ≡ false = not-true t f in
+    passed_by g =
         let q : prepare_anew_short ballot (short_at s c) ≡ short_at s c = rw (short_open false g) in
         record {
           next = rw (sym e ∙ g) (omega arith);
@@ -142,12 +145,11 @@ module _ (s : List ℕ) (c : ℕ) (t : Bool) (e : t ≡ is_open (inst_in s c).st
           prepared = rw q (puts_same s c);
         }
 
-    pub prelogged : not t ≡ false → place + one_if_open (inst_in s c) ≤ places area → (u area' : List ℕ) (b : Bool)
+    pub prelogged : t ≡ true → place + one_if_open (inst_in s c) ≤ places area → (u area' : List ℕ) (b : Bool)
         → Puts s c (prepare_short ballot (short_at s c)) (batch_at s c) (reads_at s c) u → ◌≡◌ {A = Put} (record { taken = b; area = area' }) (put_item area place (Prelog number))
         → Prelogs c place number ballot s area (place + 1) u area'
     unfolding encode
-    prelogged f h u area' b p w =
-        let g : t ≡ true = not-false t f in
+    prelogged g h u area' b p w =
         let k : one_if_open (inst_in s c) ≡ 1 = rw (sym e ∙ g) in
         let q : prepare_anew_short ballot (short_at s c) ≡ prepare_short ballot (short_at s c) = rw (short_open true g) in
         record {

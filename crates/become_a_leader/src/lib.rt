@@ -23,9 +23,10 @@ pub fn slots_after(s: &[u64], start: Slot, n: usize) -> usize
     ensures { result ≡ slots_after n (insts_of start.0 n s.now) }
 {
     if insts::any_open(s, start, n) {
-        return n;
+        n
+    } else {
+        n + 1
     }
-    n + 1
 }
 
 // The number of the first open slot of n, n where none is.
@@ -33,13 +34,10 @@ fn first_open(s: &[u64], start: Slot, n: usize) -> usize
     requires { (start.0 ≤ top) × (n ≤ slot_places) × (slot_words ≤ length s.now) }
     ensures { result ≡ first_open (insts_of start.0 n s.now) }
 {
-    let mut i = 0;
-    while i < n {
-        let c = ((start.0 + i as u64) % layout::PLACES) as usize;
-        if insts::is_open(s, c) {
+    for i in 0..n {
+        if insts::is_open(s, ((start.0 + i as u64) % layout::PLACES) as usize) {
             return i;
         }
-        i += 1;
     }
     n
 }
@@ -49,11 +47,8 @@ fn last_open(s: &[u64], start: Slot, n: usize) -> usize
     requires { (start.0 ≤ top) × (n ≤ slot_places) × (slot_words ≤ length s.now) }
     ensures { result ≡ last_open (insts_of start.0 n s.now) }
 {
-    let mut i = n;
-    while 0 < i {
-        i -= 1;
-        let c = ((start.0 + i as u64) % layout::PLACES) as usize;
-        if insts::is_open(s, c) {
+    for i in (0..n).rev() {
+        if insts::is_open(s, ((start.0 + i as u64) % layout::PLACES) as usize) {
             return i;
         }
     }
@@ -65,12 +60,12 @@ fn count_open(s: &[u64], start: Slot, n: usize) -> usize
     requires { (start.0 ≤ top) × (n ≤ slot_places) × (slot_words ≤ length s.now) }
     ensures { (result ≡ length (prelogs start.0 (insts_of start.0 n s.now))) × (result ≤ slot_places) }
 {
-    let mut k = 0;
     let mut count = 0;
-    while k < n {
-        let c = ((start.0 + k as u64) % layout::PLACES) as usize;
-        count += advance_commit_bar::one_if_open(s, c);
-        k += 1;
+    for k in 0..n {
+        count += advance_commit_bar::one_if_open(
+            s,
+            ((start.0 + k as u64) % layout::PLACES) as usize,
+        );
     }
     count
 }
@@ -80,12 +75,9 @@ fn count_held(s: &[u64], start: Slot, n: usize, from: usize, to: usize) -> usize
     requires { (start.0 ≤ top) × (from ≤ to) × (to ≤ n) × (n ≤ slot_places) × (slot_words ≤ length s.now) }
     ensures { (result ≡ length (released_from 0 None (to - from) (drop from (insts_of start.0 n s.now))).items) × (result ≤ slot_places * held_places) }
 {
-    let mut k = from;
     let mut count = 0;
-    while k < to {
-        let c = ((start.0 + k as u64) % layout::PLACES) as usize;
-        count += release_held_reads::holding(s, c);
-        k += 1;
+    for k in from..to {
+        count += release_held_reads::holding(s, ((start.0 + k as u64) % layout::PLACES) as usize);
     }
     count
 }
@@ -100,9 +92,7 @@ pub fn count_items(s: &[u64], start: Slot, n: usize) -> usize
     }
     let from = first_open(s, start, n);
     let to = last_open(s, start, n) + 1;
-    let opens = count_open(s, start, n);
-    let held = count_held(s, start, n, from, to);
-    2 + opens + held
+    2 + count_open(s, start, n) + count_held(s, start, n, from, to)
 }
 
 // A null slot after the n that are held, where none is open. Gives how many there are then.
@@ -110,12 +100,9 @@ fn open_one(s: &mut [u64], start: Slot, n: usize) -> usize
     requires { (start.0 ≤ top) × (slots_after n (insts_of start.0 n s.old) ≤ slot_places) × (n ≤ slot_places) × (slot_words ≤ length s.old) }
     ensures { Opens start.0 n s.old result s.new }
 {
-    if insts::any_open(s, start, n) {
-        return n;
-    }
-    let to = n + 1;
-    insts::pad(s, start, n, to);
-    to
+    let held = slots_after(s, start, n);
+    insts::pad(s, start, n, held);
+    held
 }
 
 // The slot at place c Preparing at the ballot, with empty acks.
@@ -123,15 +110,11 @@ fn prepare(s: &mut [u64], c: usize, ballot: Ballot)
     requires { (c < slot_places) × (slot_words ≤ length s.old) }
     ensures { Puts s.old c (prepare_short ballot.0 (short_at s.old c)) (batch_at s.old c) (reads_at s.old c) s.new }
 {
-    let old = insts::load(s, c);
-    let status = Status::Preparing;
-    let leader_bk = Some(0);
-    let replica_bk = old.replica_bk;
     let cell = Cell {
         bal: ballot,
-        status,
-        leader_bk,
-        replica_bk,
+        status: Status::Preparing,
+        leader_bk: Some(0),
+        ..insts::load(s, c)
     };
     insts::store(s, c, cell);
 }
@@ -168,13 +151,17 @@ fn prelog_all(
     requires { (start.0 ≤ top) × (n ≤ slot_places) × (slot_words ≤ length s.old) × (place + length (prelogs start.0 (insts_of start.0 n s.old)) ≤ places area.old) }
     ensures { Passes (prepared_anew start.0 ballot.0 (insts_of start.0 n s.old)) place start.0 n 0 s.old area.old result s.new area.new }
 {
-    let mut k = 0;
     let mut at = place;
-    while k < n {
-        let slot = start.0 + k as u64;
-        let c = (slot % layout::PLACES) as usize;
-        at = prelog(s, c, area, at, Slot(slot), ballot);
-        k += 1;
+    for k in 0..n {
+        let slot = Slot(start.0 + k as u64);
+        at = prelog(
+            s,
+            (slot.0 % layout::PLACES) as usize,
+            area,
+            at,
+            slot,
+            ballot,
+        );
     }
     at
 }
@@ -195,12 +182,10 @@ fn release_all(
     requires { (start.0 ≤ top) × (from ≤ to) × (to ≤ n) × (n ≤ slot_places) × (slot_words ≤ length s.old) × (place + length (released_from quorum (leader_of leader) (to - from) (drop from (insts_of start.0 n s.old))).items ≤ places area.old) }
     ensures { Passes (released_from quorum (leader_of leader) (to - from) (drop from (insts_of start.0 n s.old))) place start.0 n from s.old area.old result s.new area.new }
 {
-    let mut k = from;
     let mut at = place;
-    while k < to {
+    for k in from..to {
         let c = ((start.0 + k as u64) % layout::PLACES) as usize;
         at += release_held_reads::release(s, c, quorum, leader, area, at);
-        k += 1;
     }
     at
 }
@@ -224,8 +209,7 @@ pub fn become_a_leader(
     items::put_item(area, 0, Item::Lead(true));
     let logged = prelog_all(s, area, 1, start, held, ballot);
     let next = release_all(s, area, logged, start, held, from, to, quorum, leader);
-    let first = start.0 + from as u64;
-    let slot = Slot(first);
+    let slot = Slot(start.0 + from as u64);
     items::put_item(area, next, Item::Prepare { slot, ballot });
     next + 1
 }

@@ -15,8 +15,8 @@ pub release_all-next-requires : goal.release_all-next-requires
 release_all-next-requires c =
     let a = c.args in let w = law.within a.start.0 a.n a.quorum (leader_of a.leader) a.ballot.0 a.s.now a.area.now _ _ c.open_one-held.ensures _ _ c.first_open-from.ensures c.last_open-to.ensures in (omega arith, omega (arith, w.0), omega (arith, w.1), omega (arith, c.open_one-held.ensures.count), omega (arith, c.open_one-held.ensures.size, c.prelog_all-logged.ensures.size), law.release_room _ _ _ _ _ _ _ _ _ c.open_one-held.ensures _ _ c.first_open-from.ensures c.last_open-to.ensures c.requires.4 _ _ c.put_item.ensures _ _ _ c.prelog_all-logged.ensures)
 
-pub overflow_add-first : goal.overflow_add-first
-overflow_add-first c =
+pub overflow_add-slot : goal.overflow_add-slot
+overflow_add-slot c =
     let a = c.args in let w = law.within a.start.0 a.n a.quorum (leader_of a.leader) a.ballot.0 a.s.now a.area.now _ _ c.open_one-held.ensures _ _ c.first_open-from.ensures c.last_open-to.ensures in omega (arith, w.0, w.1, c.open_one-held.ensures.count, c.requires.0, c.requires.1)
 
 pub overflow_add-result : goal.overflow_add-result
