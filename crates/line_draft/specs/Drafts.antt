@@ -1,7 +1,9 @@
 -- Bridge: what the functions of the node line and of the draft leave; tied to `answer_line` by line_event/proofs/Laws.
-use Rattle.std.specs.Prelude.{◌≡◌, Bool, true, false, List, [], ℕ, ◌≤◌, length, get_or}
+use Rattle.std.specs.Prelude.{◌≡◌, Bool, true, false, List, [], ℕ, ◌≤◌, length, get_or, Option, None, Some, Result, Err}
 use Rattle.words.specs.Text.{Bytes}
 use Rattle.words.specs.Part.{Untouched}
+use Rattle.ids.specs.declared.Refusal.{Refusal}
+use Rattle.ids.specs.declared.Refusal.TheVariants.{Malformed, NotReady}
 use Rattle.layout.specs.Layout.{node_words}
 use Rattle.line_fields.specs.Split.{fields_from}
 use Rattle.line_fields.specs.Number.{number_at}
@@ -9,53 +11,53 @@ use Rattle.line_fields.specs.Reads.{between}
 use Rattle.roster_conf.specs.declared.RespondersConf.{RespondersConf}
 use Rattle.roster_show.specs.Show.{Listing, listing}
 use Rattle.bodega.specs.Replica.{fresh}
+use Rattle.bodega.specs.Answers.{Given}
 use Rattle.node.specs.declared.Node.{Node}
-use Rattle.node.specs.View.{view, ready, in_range}
+use Rattle.node.specs.declared.Taken.{Taken}
+use Rattle.node.specs.View.{view, ready, in_range, given_of}
 use Rattle.line_host.specs.Line.{is_range}
 use Rattle.line_draft.specs.declared.RangeFields.{RangeFields}
-use Rattle.std.specs.Prelude.{Result, Err}
-use Rattle.ids.specs.declared.Refusal.{Refusal}
-use Rattle.node.specs.declared.Taken.{Taken}
 
 -- ---- the fields of a range line: START,END,MASK
 
 pub record RangeAs (s : Bytes) (at : ℕ) (r : RangeFields) : Type 0 where
-  pub start_low : r.start ≤ r.start_end
-  pub start_high : r.start_end ≤ length s
-  pub start : between s r.start r.start_end ≡ get_or (fields_from s at) 0 []
-  pub end_low : r.end ≤ r.end_end
-  pub end_high : r.end_end ≤ length s
-  pub end : between s r.end r.end_end ≡ get_or (fields_from s at) 1 []
+  pub good : is_range (fields_from s at) ≡ true
+  pub start_low : r.start.start ≤ r.start.end
+  pub start_high : r.start.end ≤ length s
+  pub start : between s r.start.start r.start.end ≡ get_or (fields_from s at) 0 []
+  pub end_low : r.end.start ≤ r.end.end
+  pub end_high : r.end.end ≤ length s
+  pub end : between s r.end.start r.end.end ≡ get_or (fields_from s at) 1 []
   pub mask : r.mask ≡ number_at (fields_from s at) 2
 
-pub record ReadsRange (s : Bytes) (at : ℕ) (r : RangeFields) : Type 0 where
-  pub good : r.good ≡ is_range (fields_from s at)
-  pub well : r.good ≡ true → RangeAs s at r
+abbrev pub ReadsRange : Bytes → ℕ → Option RangeFields → Type 0
+ReadsRange s at None = is_range (fields_from s at) ≡ false
+ReadsRange s at (Some r) = RangeAs s at r
 
 -- ---- show: where no node is made the population is 0
 
 pub record ShowsLine (good : Bool) (population : ℕ) (c : RespondersConf) (rows area : List ℕ) (r : Result ℕ Refusal) (area' : List ℕ) : Type 0 where
-  pub bad : good ≡ false → (r ≡ Err 1) × (area' ≡ area)
-  pub unmade : good ≡ true → population ≡ 0 → (r ≡ Err 2) × (area' ≡ area)
+  pub bad : good ≡ false → (r ≡ Err Malformed) × (area' ≡ area)
+  pub unmade : good ≡ true → population ≡ 0 → (r ≡ Err NotReady) × (area' ≡ area)
   pub well : good ≡ true → (population ≡ 0 → ⊥) → ◌≡◌ {A = Listing} (record { answer = r; area = area' }) (listing c rows area)
 
 -- ---- the node line
 
 pub record Refuses (n : ℕ) (node : Node) (mem : List ℕ) (a : Result Taken Refusal) (mem' : List ℕ) : Type 0 where
-  pub answer : a ≡ record { number = n; count = 0; node = node }
+  pub answer : given_of node a ≡ record { number = n; count = 0; node = node }
   pub same_mem : mem' ≡ mem
 
-pub record Makes (id population quorum : ℕ) (mem : List ℕ) (a : Result Taken Refusal) (mem' : List ℕ) : Type 0 where
-  pub number : a.number ≡ 0
-  pub count : a.count ≡ 0
-  pub replica : view a.node mem' ≡ fresh id population quorum
-  pub readied : ready a.node mem' ≡ true
+pub record Makes (id population quorum : ℕ) (mem : List ℕ) (g : Given Node) (mem' : List ℕ) : Type 0 where
+  pub number : g.number ≡ 0
+  pub count : g.count ≡ 0
+  pub replica : view g.node mem' ≡ fresh id population quorum
+  pub readied : ready g.node mem' ≡ true
   pub size : length mem' ≡ length mem
   pub beyond : Untouched node_words mem mem'
 
 -- by whether population, quorum and own number are in range
 abbrev pub BeginsBy : Bool → ℕ → ℕ → ℕ → Node → List ℕ → Result Taken Refusal → List ℕ → Type 0
-BeginsBy true id population quorum node mem a mem' = Makes id population quorum mem a mem'
+BeginsBy true id population quorum node mem a mem' = Makes id population quorum mem (given_of node a) mem'
 BeginsBy false id population quorum node mem a mem' = Refuses 2 node mem a mem'
 
 pub record BeginsLine (good : Bool) (id population quorum : ℕ) (node : Node) (mem : List ℕ) (a : Result Taken Refusal) (mem' : List ℕ) : Type 0 where

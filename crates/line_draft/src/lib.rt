@@ -2,32 +2,37 @@
 // that is none.
 #![tactic(auto)]
 
-ghost use Rattle.std.specs.Prelude.{◌≡◌, false, ◌≤◌, length};
+ghost use Rattle.std.specs.Prelude.{◌≤◌, length};
 ghost use Rattle.layout.specs.Layout.{node_words};
 ghost use Rattle.line_kind.specs.declared.EditKind.TheVariants.{Lead, Range, Whole, Drop, Reset};
 ghost use Rattle.line_fields.specs.Split.{fields_from};
 ghost use Rattle.line_fields.specs.Number.{numbers, number_at};
-ghost use Rattle.roster_conf.specs.Edits.{Edits};
 ghost use Rattle.node.specs.View.{in_range};
+ghost use Rattle.node.specs.declared.Node.{Node};
 ghost use Rattle.line_host.specs.Line.{is_edit, edit_of};
 ghost use Rattle.line_host.specs.Follows.{EditsLine};
 ghost use Rattle.line_draft.specs.Drafts.{ReadsRange, ShowsLine, BeginsBy, BeginsLine};
 
 use ids::{Refusal, Replica};
+use line_fields::Field;
 use line_kind::EditKind;
-use node::{Taken, Node};
+use line_reader::LineReader;
+use node::{Node, Taken};
 use roster_conf::RespondersConf;
 
 // ---- the draft
 
-fn lead_line(draft: RespondersConf, rows: &[u64], population: u8, line: &[u8], at: usize) -> Result<RespondersConf, Refusal>
+fn lead_line(
+    draft: RespondersConf,
+    rows: &[u64],
+    population: u8,
+    line: &[u8],
+    at: usize,
+) -> Result<RespondersConf, Refusal>
     ensures { EditsLine (is_edit Lead (fields_from line.now at)) (edit_of Lead (fields_from line.now at)) population draft rows.now result rows.now }
 {
-    let mut a = [0u64; 1];
-    if !line_reader::numbers(line, at, 1, &mut a) {
-        return Err(Refusal::Malformed);
-    }
-    draft.set_leader(rows, population, line_host::replica(a[0]))
+    let [leader] = line_reader::numbers::<1>(line, at).ok_or(Refusal::Malformed)?;
+    draft.set_leader(rows, population, line_host::replica(leader))
 }
 
 fn drop_line(
@@ -39,11 +44,8 @@ fn drop_line(
 ) -> Result<RespondersConf, Refusal>
     ensures { EditsLine (is_edit Drop (fields_from line.now at)) (edit_of Drop (fields_from line.now at)) population draft rows.old result rows.new }
 {
-    let mut a = [0u64; 1];
-    if !line_reader::numbers(line, at, 1, &mut a) {
-        return Err(Refusal::Malformed);
-    }
-    draft.into_filtered(rows, population, line_host::replica(a[0]))
+    let [dropped] = line_reader::numbers::<1>(line, at).ok_or(Refusal::Malformed)?;
+    draft.into_filtered(rows, population, line_host::replica(dropped))
 }
 
 fn whole_line(
@@ -55,67 +57,41 @@ fn whole_line(
 ) -> Result<RespondersConf, Refusal>
     ensures { EditsLine (is_edit Whole (fields_from line.now at)) (edit_of Whole (fields_from line.now at)) population draft rows.old result rows.new }
 {
-    let mut a = [0u64; 1];
-    if !line_reader::numbers(line, at, 1, &mut a) {
-        return Err(Refusal::Malformed);
-    }
-    draft.set_full(rows, population, a[0])
+    let [mask] = line_reader::numbers::<1>(line, at).ok_or(Refusal::Malformed)?;
+    draft.set_full(rows, population, mask)
 }
 
-fn reset_line(draft: RespondersConf, rows: &[u64], population: u8, line: &[u8], at: usize) -> Result<RespondersConf, Refusal>
+fn reset_line(
+    draft: RespondersConf,
+    rows: &[u64],
+    population: u8,
+    line: &[u8],
+    at: usize,
+) -> Result<RespondersConf, Refusal>
     ensures { EditsLine (is_edit Reset (fields_from line.now at)) (edit_of Reset (fields_from line.now at)) population draft rows.now result rows.now }
 {
-    if !line_fields::ended(line, at) {
-        return Err(Refusal::Malformed);
-    }
+    line_reader::numbers::<0>(line, at).ok_or(Refusal::Malformed)?;
     draft.reset_full(rows, population)
 }
 
-// The fields of a range line: where its bounds start and end.
+// The fields of a range line.
 #[derive(Clone, Copy)]
 struct RangeFields {
-    good: bool,
-    start: usize,
-    start_end: usize,
-    end: usize,
-    end_end: usize,
+    start: Field,
+    end: Field,
     mask: u64,
 }
 
-fn no_range() -> RangeFields
-    ensures { result.good ≡ false }
-{
-    RangeFields {
-        good: false,
-        start: 0,
-        start_end: 0,
-        end: 0,
-        end_end: 0,
-        mask: 0,
-    }
-}
-
-fn range_fields(line: &[u8], at: usize) -> RangeFields
+fn range_fields(line: &[u8], at: usize) -> Option<RangeFields>
     ensures { ReadsRange line.now at result }
 {
-    let f = line_reader::fields_number_from(line, at);
-    let start = f.first;
-    let end = f.second;
-    let mask = f.number;
-    if !mask.good {
-        return no_range();
-    }
-    if !line_fields::ended(line, mask.next) {
-        return no_range();
-    }
-    RangeFields {
-        good: true,
-        start: start.start,
-        start_end: start.end,
-        end: end.start,
-        end_end: end.end,
-        mask: mask.value,
-    }
+    let mut reader = LineReader::new(line, at);
+    let start = reader.next_field();
+    let end = reader.next_field();
+    let mask = reader.next_number()?;
+    reader
+        .is_ended()
+        .then_some(RangeFields { start, end, mask })
 }
 
 fn range_line(
@@ -127,21 +103,10 @@ fn range_line(
 ) -> Result<RespondersConf, Refusal>
     ensures { EditsLine (is_edit Range (fields_from line.now at)) (edit_of Range (fields_from line.now at)) population draft rows.old result rows.new }
 {
-    let f = range_fields(line, at);
-    if !f.good {
-        return Err(Refusal::Malformed);
-    }
-    let start = f.start;
-    let start_end = f.start_end;
-    let end = f.end;
-    let end_end = f.end_end;
-    draft.set_responders(
-        rows,
-        population,
-        &line[start..start_end],
-        &line[end..end_end],
-        f.mask,
-    )
+    let f = range_fields(line, at).ok_or(Refusal::Malformed)?;
+    let start = &line[f.start.start..f.start.end];
+    let end = &line[f.end.start..f.end.end];
+    draft.set_responders(rows, population, start, end, f.mask)
 }
 
 // Any edit of the draft.
@@ -174,9 +139,7 @@ pub fn show_line(
 ) -> Result<usize, Refusal>
     ensures { ShowsLine (numbers 0 (fields_from line.now at)) population draft rows.now area.old result area.new }
 {
-    if !line_fields::ended(line, at) {
-        return Err(Refusal::Malformed);
-    }
+    line_reader::numbers::<0>(line, at).ok_or(Refusal::Malformed)?;
     if population == 0 {
         return Err(Refusal::NotReady);
     }
@@ -186,34 +149,29 @@ pub fn show_line(
 // ---- the node
 
 // The node in place of one that no call made.
-fn begin(node: Node, mem: &mut [u64], id: u64, population: u64, quorum: u64) -> Result<Taken, Refusal>
-    ensures { node_words ≤ length mem.old → BeginsBy (in_range id population quorum) id population quorum node mem.old result mem.new }
+fn made(mem: &mut [u64], id: Replica, population: u8, quorum: u8) -> Result<Taken, Refusal>
+    ensures { (node : Node) → node_words ≤ length mem.old → BeginsBy (in_range id.0 population quorum) id.0 population quorum node mem.old result mem.new }
 {
-    if 255 < id {
-        return Err(Refusal::NotReady);
-    }
-    if 255 < population {
-        return Err(Refusal::NotReady);
-    }
-    if 255 < quorum {
-        return Err(Refusal::NotReady);
-    }
-    let Ok(made) = Node::fresh(mem, Replica(id as u8), population as u8, quorum as u8)
-    else {
-        return Err(Refusal::NotReady);
-    };
-    Ok(Taken { node: made, count: 0 })
+    let node = Node::fresh(mem, id, population, quorum)?;
+    Ok(Taken { node, count: 0 })
+}
+
+// The same for numbers of any size. None that no byte has is in range.
+fn begin(mem: &mut [u64], id: u64, population: u64, quorum: u64) -> Result<Taken, Refusal>
+    ensures { (node : Node) → node_words ≤ length mem.old → BeginsBy (in_range id population quorum) id population quorum node mem.old result mem.new }
+{
+    let id = u8::try_from(id).map_err(|_| Refusal::NotReady)?;
+    let population = u8::try_from(population).map_err(|_| Refusal::NotReady)?;
+    let quorum = u8::try_from(quorum).map_err(|_| Refusal::NotReady)?;
+    made(mem, Replica(id), population, quorum)
 }
 
 pub fn node_line(node: Node, mem: &mut [u64], line: &[u8], at: usize) -> Result<Taken, Refusal>
     ensures { node_words ≤ length mem.old → BeginsLine (numbers 3 (fields_from line.now at)) (number_at (fields_from line.now at) 0) (number_at (fields_from line.now at) 1) (number_at (fields_from line.now at) 2) node mem.old result mem.new }
 {
-    let mut a = [0u64; 3];
-    if !line_reader::numbers(line, at, 3, &mut a) {
-        return Err(Refusal::Malformed);
-    }
+    let [id, population, quorum] = line_reader::numbers::<3>(line, at).ok_or(Refusal::Malformed)?;
     if node::is_ready(node, mem) {
         return Err(Refusal::NotReady);
     }
-    begin(node, mem, a[0], a[1], a[2])
+    begin(mem, id, population, quorum)
 }

@@ -1,13 +1,10 @@
-use Rattle.roster_conf.specs.Edit.{IntoFiltered}
-use Rattle.line_draft.proofs.Laws as law
 use native.Mathlib.Omega.{arith}
-use mathlib.Core.Path.{ap}
-use mathlib.Core.Bool.{not}
+use lib.ListN.{get_or}
+use Rattle.std.proofs.lemmas.Grind.{common_steps}
+use Rattle.line_draft.proofs.Laws as law
 use Rattle.line_draft.proofs.drop_line.Goals as goal
-
-pub returns-then-not-numbers : goal.returns-then-not-numbers
-returns-then-not-numbers c = law.other_fields _ _ _ _ _ _ c.numbers.ensures _ _ _ _ (ap not c.if-not-numbers.true)
 
 pub returns : goal.returns
 returns c =
-    law.one_number _ _ _ _ _ _ c.numbers.ensures IntoFiltered _ _ _ _ _ (ap not c.if-not-numbers.false) (omega arith) (law.to_dropped _ _ _ _ _ _ _ c.replica.ensures c.into_filtered.ensures)
+    let a = c.args in
+    let h = law.to_dropped a.population a.draft a.rows.now c.replica.result.0 (get_or c.in_ok-dropped.field-0 0 0) c.into_filtered.result c.into_filtered.new.rows c.replica.ensures c.into_filtered.ensures in grind (arith, common_steps, h)

@@ -1,13 +1,10 @@
-use Rattle.roster_conf.specs.Edit.{SetLeader}
-use Rattle.line_draft.proofs.Laws as law
 use native.Mathlib.Omega.{arith}
-use mathlib.Core.Path.{ap}
-use mathlib.Core.Bool.{not}
+use lib.ListN.{get_or}
+use Rattle.std.proofs.lemmas.Grind.{common_steps}
+use Rattle.line_draft.proofs.Laws as law
 use Rattle.line_draft.proofs.lead_line.Goals as goal
-
-pub returns-then-not-numbers : goal.returns-then-not-numbers
-returns-then-not-numbers c = law.other_fields _ _ _ _ _ _ c.numbers.ensures _ _ _ _ (ap not c.if-not-numbers.true)
 
 pub returns : goal.returns
 returns c =
-    law.one_number _ _ _ _ _ _ c.numbers.ensures SetLeader _ _ _ _ _ (ap not c.if-not-numbers.false) (omega arith) (law.to_leader _ _ _ _ _ _ _ c.replica.ensures c.set_leader.ensures)
+    let a = c.args in
+    let h = law.to_leader a.population a.draft a.rows.now c.replica.result.0 (get_or c.in_ok-leader.field-0 0 0) c.set_leader.result c.args.rows.now c.replica.ensures c.set_leader.ensures in grind (arith, common_steps, h)
