@@ -5,7 +5,6 @@ use mathlib.Core.List.{List, [], ◌∷◌, ◌++◌, append_assoc, append-nil}
 use Rattle.std.specs.Prelude.{None, Some}
 use Prim.Native.Nat.{ℕ, suc, ◌+◌, ◌*◌, ◌≤◌, ◌<◌}
 use native.Mathlib.Omega.{arith}
-use borrow.Author.Tests.{ne_eqb}
 use lib.ListN.{length, get_or, take, drop}
 use lib.Seq.{take-suc, take_all, take-add, take_at, drop_at, length-take-le}
 use lib.Pow.{split}
@@ -43,14 +42,8 @@ six_item (Prepare s b) = refl
 six_item (Span f t m) = rw (split f 64, split t 64)
 six_item (Rest m) = refl
 
-pub rest_put : {s s' : Bytes} {at r : ℕ} (k a b c d e : ℕ) → (k ≡ 1 → ⊥) → (k ≡ 2 → ⊥) → (k ≡ 3 → ⊥) → (k ≡ 4 → ⊥) → (k ≡ 5 → ⊥) → (k ≡ 6 → ⊥) → (k ≡ 7 → ⊥) → (k ≡ 8 → ⊥) → (k ≡ 9 → ⊥) → (k ≡ 10 → ⊥) → (k ≡ 11 → ⊥) → (k ≡ 12 → ⊥)
-    → Wrote s at (line (bytes "rest" ∷ decimal a ∷ [])) 106 r s' → Wrote s at (six_text k a b c d e) 106 r s'
-unfolding six_text
-rest_put k a b c d e h1 h2 h3 h4 h5 h6 h7 h8 h9 h10 h11 h12 w =
-    rw (ne_eqb k 1 h1, ne_eqb k 2 h2, ne_eqb k 3 h3, ne_eqb k 4 h4, ne_eqb k 5 h5, ne_eqb k 6 h6, ne_eqb k 7 h7, ne_eqb k 8 h8, ne_eqb k 9 h9, ne_eqb k 10 h10, ne_eqb k 11 h11, ne_eqb k 12 h12) w
-
-pub printed : {s s' : Bytes} {at r k a b c d e : ℕ} → Wrote s at (six_text k a b c d e) 106 r s' → Printed s at (six k a b c d e) r s'
-printed w = record { within = omega arith; item = λ x h. same_text w (ap six_in h ∙ six_item x) }
+pub printed : {s s' : Bytes} {at r k a b c d e : ℕ} (ws : List ℕ) → ws ≡ six k a b c d e → Wrote s at (six_text k a b c d e) 106 r s' → Printed s at ws r s'
+printed ws q w = record { within = omega arith; item = λ x h. same_text w (ap six_in (sym q ∙ h) ∙ six_item x) }
 
 -- ---- a list
 
@@ -112,9 +105,6 @@ listed_more {s} {o} {o'} {at} {e} {e'} {i} area room f g = record { within = ome
         let t : items_text (front area i room l h) ++ item_text (last area i room l h) ≡ items_text l =
         sym (items_snoc (front area i room l h) (last area i room l h)) ∙ ap items_text (sym (whole area i room l h)) in
         at_most (same_text w t) (omega arith)
-
-pub listed_all : {s o : Bytes} {at e : ℕ} (area : List ℕ) (i count : ℕ) → i ≤ count → count ≤ i → Listed s at area i e o → Listed s at area count e o
-listed_all area i count h k f = let e : i ≡ count = omega arith in rw e at f
 
 -- ---- an answer
 

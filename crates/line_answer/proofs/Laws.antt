@@ -1,28 +1,41 @@
 -- The lines of items: fields one after the other.
-use mathlib.Core.Path.{◌≡◌}
-use mathlib.Core.List.{[], ◌∷◌}
-use Prim.Native.Nat.{ℕ, ◌+◌, ◌≤◌}
-use native.Mathlib.Omega.{arith}
-use borrow.Author.Tests.{eq-eqb, ne_eqb}
+use Rattle.std.proofs.Common.{◌≡◌, ℕ, ◌+◌, ◌*◌, ◌≤◌, ◌<◌, List, [], ◌∷◌, ◌++◌, length, get_or, take, map, sym, ap, ◌∙◌, arith, append_assoc}
+use Rattle.std.proofs.lemmas.List.{append-nil, take_more, take_all}
 use Rattle.words.specs.Text.{Bytes}
 use Rattle.decimal.specs.Digits.{decimal}
 use Rattle.text.specs.Wrote.{Wrote}
-use Rattle.text.proofs.Laws.{then, at_most, field}
+use Rattle.text.proofs.Laws.{then, at_most, same_text}
 use Rattle.line_answer.specs.Text.{line}
-use Rattle.line_answer.specs.Six.{leader_field}
 
-module _ {s s₁ s₂ : Bytes} {at i j : ℕ} (c d : ℕ) (f : Wrote s at (44 ∷ []) 1 i s₁) where
-  pub none_put : Wrote s₁ i (45 ∷ []) 1 j s₂ → c ≡ 0 → Wrote s at (44 ∷ leader_field c d) 21 j s₂
-  none_put g e = rw (eq-eqb c 0 e) (at_most (field f g) (omega arith))
+-- numbers, each behind a comma
+abbrev pub fields : List ℕ → Bytes
+fields [] = []
+fields (n ∷ ns) = 44 ∷ (decimal n ++ fields ns)
 
-  pub some_put : Wrote s₁ i (decimal d) 20 j s₂ → (c ≡ 0 → ⊥) → Wrote s at (44 ∷ leader_field c d) 21 j s₂
-  some_put g e = rw (ne_eqb c 0 e) (field f g)
+fields_snoc : (ns : List ℕ) (n : ℕ) → fields (ns ++ (n ∷ [])) ≡ fields ns ++ (44 ∷ decimal n)
+fields_snoc [] n = ap (λ (l : Bytes). 44 ∷ l) (append-nil (decimal n))
+fields_snoc (m ∷ ns) n = ap (λ (l : Bytes). 44 ∷ l) (ap (λ (l : Bytes). decimal m ++ l) (fields_snoc ns n) ∙ sym (append_assoc (decimal m) (fields ns) (44 ∷ decimal n)))
 
-module _ {s s₁ s₂ s₃ f g : Bytes} {at i₁ i₂ i₃ m k : ℕ} where
-  pub line_2 : Wrote s at f m i₁ s₁ → Wrote s₁ i₁ (44 ∷ g) k i₂ s₂ → Wrote s₂ i₂ (10 ∷ []) 1 i₃ s₃ → (most : ℕ) → m + (k + 1) ≤ most
-      → Wrote s at (line (f ∷ g ∷ [])) most i₃ s₃
-  unfolding line
-  line_2 a b c most h = at_most (then a (then b c)) h
+line_fields : (f : Bytes) (ns : List ℕ) → (f ++ fields ns) ++ (10 ∷ []) ≡ line (f ∷ map decimal ns)
+unfolding line
+line_fields f [] = ap (λ (l : Bytes). l ++ (10 ∷ [])) (append-nil f)
+line_fields f (n ∷ ns) = append_assoc f (44 ∷ (decimal n ++ fields ns)) (10 ∷ []) ∙ ap (λ (l : Bytes). f ++ (44 ∷ l)) (line_fields (decimal n) ns)
+
+-- a name, and the first numbers behind it
+module _ {s o o' : Bytes} {at end end' : ℕ} (name : Bytes) (ns : List ℕ) where
+  pub named_more : (i : ℕ) → Wrote s at (name ++ fields (take i ns)) (8 + i * 21) end o → i < length ns → Wrote o end (44 ∷ decimal (get_or ns i 0)) 21 end' o'
+      → Wrote s at (name ++ fields (take (i + 1) ns)) (8 + (i + 1) * 21) end' o'
+  named_more i w h u =
+      let e : name ++ fields (take (i + 1) ns) ≡ (name ++ fields (take i ns)) ++ (44 ∷ decimal (get_or ns i 0)) =
+      ap (λ (l : List ℕ). name ++ fields l) (take_more ns i 0 h) ∙ ap (λ (l : Bytes). name ++ l) (fields_snoc (take i ns) (get_or ns i 0))
+      ∙ sym (append_assoc name (fields (take i ns)) (44 ∷ decimal (get_or ns i 0))) in
+      at_most (same_text (then w u) (sym e)) (omega arith)
+
+  pub named_line : (i : ℕ) → Wrote s at (name ++ fields (take i ns)) (8 + i * 21) end o → length ns ≤ i → i ≤ 3 → Wrote o end (10 ∷ []) 1 end' o'
+      → Wrote s at (line (name ∷ map decimal ns)) 106 end' o'
+  named_line i w h k u =
+      let e : take i ns ≡ ns = take_all i ns h in
+      at_most (same_text (then w u) (ap (λ (l : List ℕ). (name ++ fields l) ++ (10 ∷ [])) e ∙ line_fields name ns)) (omega arith)
 
 module _ {s s₁ s₂ s₃ s₄ f g h : Bytes} {at i₁ i₂ i₃ i₄ m k l : ℕ} where
   pub line_3 : Wrote s at f m i₁ s₁ → Wrote s₁ i₁ (44 ∷ g) k i₂ s₂ → Wrote s₂ i₂ (44 ∷ h) l i₃ s₃ → Wrote s₃ i₃ (10 ∷ []) 1 i₄ s₄ → (most : ℕ) → m + (k + (l + 1)) ≤ most

@@ -1,7 +1,7 @@
 // What is written for a line: text in lent bytes. A writer returns where its text ends.
 #![tactic(auto)]
 
-ghost use Rattle.std.specs.Prelude.{◌≡◌, [], ◌∷◌, ◌+◌, ◌*◌, ◌<◌, ◌≤◌, length};
+ghost use Rattle.std.specs.Prelude.{◌≡◌, [], ◌∷◌, ◌+◌, ◌*◌, ◌≤◌, length, map, slice_index};
 ghost use Rattle.words.specs.Text.{bytes};
 ghost use Rattle.words.specs.Tab.{words_from};
 ghost use Rattle.decimal.specs.Digits.{decimal};
@@ -19,41 +19,24 @@ fn put_leader(out: &mut [u8], at: usize, c: u64, d: u64) -> usize
 {
     let at1 = text::put_byte(out, at, b',');
     if c == 0 {
-        return text::put_byte(out, at1, b'-');
+        text::put_byte(out, at1, b'-')
+    } else {
+        text::put_u64(out, at1, d)
     }
-    text::put_u64(out, at1, d)
 }
 
 // ---- lines of items: at most 106 bytes, those of a span with two numbers of 39 digits and one of 20
 
-fn put_one(out: &mut [u8], at: usize, name: &[u8], a: u64) -> usize
-    requires { (at + 106 ≤ length out.old) × (length name.now ≤ 8) }
-    ensures { Wrote out.old at (line (name.now ∷ decimal a ∷ [])) 106 result out.new }
+// A name and at most three numbers.
+fn put_numbers(out: &mut [u8], at: usize, name: &[u8], numbers: &[u64]) -> usize
+    requires { (at + 106 ≤ length out.old) × (length name.now ≤ 8) × (length numbers.now ≤ 3) }
+    ensures { Wrote out.old at (line (name.now ∷ map decimal numbers.now)) 106 result out.new }
 {
-    let at1 = text::put_bytes(out, at, name);
-    let at2 = text::put_field(out, at1, a);
-    text::put_byte(out, at2, b'\n')
-}
-
-fn put_two(out: &mut [u8], at: usize, name: &[u8], a: u64, b: u64) -> usize
-    requires { (at + 106 ≤ length out.old) × (length name.now ≤ 8) }
-    ensures { Wrote out.old at (line (name.now ∷ decimal a ∷ decimal b ∷ [])) 106 result out.new }
-{
-    let at1 = text::put_bytes(out, at, name);
-    let at2 = text::put_field(out, at1, a);
-    let at3 = text::put_field(out, at2, b);
-    text::put_byte(out, at3, b'\n')
-}
-
-fn put_three(out: &mut [u8], at: usize, name: &[u8], a: u64, b: u64, c: u64) -> usize
-    requires { (at + 106 ≤ length out.old) × (length name.now ≤ 8) }
-    ensures { Wrote out.old at (line (name.now ∷ decimal a ∷ decimal b ∷ decimal c ∷ [])) 106 result out.new }
-{
-    let at1 = text::put_bytes(out, at, name);
-    let at2 = text::put_field(out, at1, a);
-    let at3 = text::put_field(out, at2, b);
-    let at4 = text::put_field(out, at3, c);
-    text::put_byte(out, at4, b'\n')
+    let mut end = text::put_bytes(out, at, name);
+    for n in numbers {
+        end = text::put_field(out, end, *n);
+    }
+    text::put_byte(out, end, b'\n')
 }
 
 fn put_retry(out: &mut [u8], at: usize, a: u64, b: u64, c: u64, d: u64) -> usize
@@ -80,28 +63,28 @@ fn put_span(out: &mut [u8], at: usize, start: Inty, end: Inty, mask: u64) -> usi
 
 // ---- items
 
-fn put_six(out: &mut [u8], at: usize, kind: u64, a: u64, b: u64, c: u64, d: u64, e: u64) -> usize
+// The kinds are the numbers that a call writes into the area.
+#[tactic(auto, unfolding(crate::specs::Six::six_text))]
+fn put_six(out: &mut [u8], at: usize, words: [u64; 6]) -> usize
     requires { at + 106 ≤ length out.old }
-    ensures { Wrote out.old at (six_text kind a b c d e) 106 result out.new }
+    ensures { Wrote out.old at
+        (six_text (slice_index words 0) (slice_index words 1) (slice_index words 2) (slice_index words 3) (slice_index words 4) (slice_index words 5))
+        106 result out.new }
 {
-    match kind {
-        1 => put_three(out, at, b"value", a, b, c),
-        2 => put_two(out, at, b"absent", a, b),
-        3 => put_two(out, at, b"store", a, b),
-        4 => put_two(out, at, b"pass", a, b),
-        5 => put_three(out, at, b"hold", a, b, c),
-        6 => put_retry(out, at, a, b, c, d),
-        7 => put_two(out, at, b"resend", a, b),
-        8 => put_one(out, at, b"commit", a),
-        9 => put_one(out, at, b"lead", a),
-        10 => put_one(out, at, b"prelog", a),
-        11 => put_two(out, at, b"prepare", a, b),
-        12 => {
-            let start = Inty { hi: a, lo: b };
-            let end = Inty { hi: c, lo: d };
-            put_span(out, at, start, end, e)
-        }
-        _ => put_one(out, at, b"rest", a),
+    match words {
+        [1, a, b, c, ..] => put_numbers(out, at, b"value", &[a, b, c]),
+        [2, a, b, ..] => put_numbers(out, at, b"absent", &[a, b]),
+        [3, a, b, ..] => put_numbers(out, at, b"store", &[a, b]),
+        [4, a, b, ..] => put_numbers(out, at, b"pass", &[a, b]),
+        [5, a, b, c, ..] => put_numbers(out, at, b"hold", &[a, b, c]),
+        [6, a, b, c, d, _] => put_retry(out, at, a, b, c, d),
+        [7, a, b, ..] => put_numbers(out, at, b"resend", &[a, b]),
+        [8, a, ..] => put_numbers(out, at, b"commit", &[a]),
+        [9, a, ..] => put_numbers(out, at, b"lead", &[a]),
+        [10, a, ..] => put_numbers(out, at, b"prelog", &[a]),
+        [11, a, b, ..] => put_numbers(out, at, b"prepare", &[a, b]),
+        [12, a, b, c, d, e] => put_span(out, at, Inty { hi: a, lo: b }, Inty { hi: c, lo: d }, e),
+        [_, a, ..] => put_numbers(out, at, b"rest", &[a]),
     }
 }
 
@@ -111,14 +94,15 @@ fn put_item(out: &mut [u8], at: usize, area: &[u64], place: usize) -> usize
     ensures { Printed out.old at (words_from 6 area.now (place * 6)) result out.new }
 {
     let p = place * 6;
-    let p1 = p + 1;
-    let p2 = p1 + 1;
-    let p3 = p2 + 1;
-    let p4 = p3 + 1;
-    let p5 = p4 + 1;
-    put_six(
-        out, at, area[p], area[p1], area[p2], area[p3], area[p4], area[p5],
-    )
+    let words = [
+        area[p],
+        area[p + 1],
+        area[p + 2],
+        area[p + 3],
+        area[p + 4],
+        area[p + 5],
+    ];
+    put_six(out, at, words)
 }
 
 // The items of the first places.
@@ -127,10 +111,8 @@ fn put_items(out: &mut [u8], at: usize, area: &[u64], count: usize) -> usize
     ensures { Listed out.old at area.now count result out.new }
 {
     let mut end = at;
-    let mut i = 0;
-    while i < count {
-        end = put_item(out, end, area, i);
-        i += 1;
+    for place in 0..count {
+        end = put_item(out, end, area, place);
     }
     end
 }

@@ -1,7 +1,0 @@
-use Rattle.line_answer.proofs.Laws as law
-use native.Mathlib.Omega.{arith}
-use Rattle.line_answer.proofs.put_three.Goals as goal
-
-pub returns : goal.returns
-returns c =
-    law.line_4 c.put_bytes-at1.ensures c.put_field-at2.ensures c.put_field-at3.ensures c.put_field-at4.ensures c.put_byte.ensures _ (omega arith)
