@@ -1,18 +1,17 @@
 -- `heard_new_conf` on a node and its buffer.
 use Rattle.std.specs.Prelude.{if◌then◌else◌}
 use mathlib.Core.Path.{◌≡◌, refl, sym, ap, ◌∙◌}
-use mathlib.Core.Bool.{Bool, true, false, not}
+use mathlib.Core.Bool.{Bool, true, false}
 use mathlib.Core.List.{List, ◌∷◌}
 use Rattle.std.specs.Prelude.{Option}
 use Prim.Native.Nat.{ℕ, zero, suc, ◌+◌, ◌*◌, ◌≤◌}
-use native.Mathlib.Nat.{zero-add}
 use native.Mathlib.Omega.{arith}
 use lib.Dec.{leb}
-use lib.ListN.{length, get_or, set, take, drop, replicate, get_or-replicate}
-use borrow.Author.Tests.{leb-true, not-true, not-false}
+use lib.ListN.{length, get_or, set, take, drop, replicate, get_or-replicate, length-replicate}
+use borrow.Author.Tests.{leb-true}
 use Rattle.words.specs.Tab.{tab, words_from, tab_ext}
 use Rattle.words.specs.Part.{part, splice, Untouched, part_before, length_part}
-use Rattle.words.specs.Writes.{writes, length_writes, writes_same}
+use Rattle.words.specs.Writes.{writes, length_writes}
 use Rattle.ids.specs.Leader.{leader_of}
 use Rattle.ids.specs.declared.Ballot.{Ballot}
 use Rattle.ids.specs.declared.Slot.{Slot}
@@ -21,18 +20,18 @@ use Rattle.roster_conf.specs.Conf.{leads}
 use Rattle.roster_conf.specs.Edits.{view as roster_of}
 use Rattle.roster_conf.specs.declared.RespondersConf.{RespondersConf}
 use Rattle.bodega.specs.Replica as machine
-use Rattle.bodega.specs.Conflease.{any_open, update_peer_accept_max, adopted, become_a_leader, heard_new_conf}
+use Rattle.bodega.specs.Conflease.{update_peer_accept_max, adopted, become_a_leader, heard_new_conf}
 use Rattle.bodega.specs.Heartbeat.{Walk}
 use Rattle.bodega.specs.Answers.{Given}
 use Rattle.peer_accept_bar.specs.Pairs.{pairs_of, accept_max}
 use Rattle.insts.specs.Slots.{insts_of}
 use Rattle.insts.proofs.Laws.{length_insts}
 use Rattle.become_a_leader.specs.StepUp.{slots_after, step_up, StepsUp}
+use Rattle.become_a_leader.proofs.Laws.{grows}
 use Rattle.become_a_leader.proofs.Machine.{step_up_is}
 use Rattle.node.specs.declared.Node.{Node}
 use Rattle.node.specs.View.{view, ready, leads_it}
 use Rattle.words.proofs.Tests.{and_both}
-use Rattle.ids.specs.Limits.{replicas}
 use Rattle.layout.specs.Layout.{replica_places, roster_row, slot_places, slot_words, roster_words, pair_words, execs_at, rows_at, slots_at, node_words}
 use Rattle.node.proofs.Calls.{Ready, is_ready, made_ready}
 use Rattle.node.proofs.Frames.{rows_back, rows_size_lem, rows_beyond, pairs_back, pairs_size, pairs_beyond, execs_back, execs_size, execs_beyond, slots_back, slots_size, slots_beyond}
@@ -55,23 +54,7 @@ rows_long m h = length_part m rows_at roster_words (omega arith)
 -- ---- an adoption
 
 abbrev pub adopting : Node → RespondersConf → Ballot → Slot → Node
-adopting n c b max =
-    record {
-      id = n.id;
-      population = n.population;
-      quorum = n.quorum;
-      bodega_conf = c;
-      bal_max_seen = b;
-      bal_prep_sent = n.bal_prep_sent;
-      bal_prepared = n.bal_prepared;
-      start_slot = n.start_slot;
-      accept_bar = n.accept_bar;
-      commit_bar = n.commit_bar;
-      exec_bar = n.exec_bar;
-      snap_bar = n.snap_bar;
-      peer_accept_max = max;
-      slots = n.slots;
-    }
+adopting n c b max = record n { bodega_conf = c; bal_max_seen = b; peer_accept_max = max }
 
 module _ (n : Node) (m : List ℕ) (e : ready n m ≡ true) (b : Ballot) (c : RespondersConf) (rows : List ℕ) (w : whole c.count rows ≡ true)
     (x : List ℕ) (y : (roster_of c x ≡ roster_of c rows) × (x ≡ writes (take roster_words (drop rows_at m)) 0 (take (c.count * roster_row) rows))) where
@@ -147,17 +130,12 @@ all_0 : (i n : ℕ) → tab {A = ℕ} (λ j. 0) i n ≡ replicate n 0
 all_0 i zero = refl
 all_0 i (suc n) = ap (λ (l : List ℕ). 0 ∷ l) (all_0 (i + 1) n)
 
-pub forgets : (s t : List ℕ) → replica_places ≤ length s → t ≡ writes s 0 (take replica_places (replicate replica_places 0)) → Forgets s t
-forgets s t h e =
+pub forgets : (s : List ℕ) → replica_places ≤ length s → Forgets s (replicate (length s) 0)
+forgets s h =
     record {
-      execs =
-          λ n l.
-          tab_ext (λ i. get_or t i 0) (λ i. 0) 0 n
-          (λ j a b.
-          ap (λ (q : List ℕ). get_or q j 0) e ∙ sym (ap (λ (k : ℕ). get_or (writes s 0 (take replica_places (replicate replica_places 0))) k 0) (zero-add j))
-          ∙ writes_same s 0 (take replica_places (replicate replica_places 0)) j h (omega arith) ∙ get_or-replicate {A = ℕ} replicas j 0 0 (omega arith))
-          ∙ all_0 0 n;
-      size = ap length e ∙ length_writes s 0 (take replica_places (replicate replica_places 0));
+      execs = λ n l.
+          tab_ext (λ i. get_or (replicate (length s) 0) i 0) (λ i. 0) 0 n (λ j a b. get_or-replicate {A = ℕ} (length s) j 0 0 (omega arith)) ∙ all_0 0 n;
+      size = length-replicate (length s) 0;
     }
 
 -- ---- a step-up
@@ -166,31 +144,8 @@ pub slots_long : (m : List ℕ) → node_words ≤ length m → length (take slo
 unfolding part
 slots_long m h = length_part m slots_at slot_words (omega arith)
 
-after_range : (n : ℕ) (l : List machine.Instance) → n ≤ slots_after n l
-after_range n l = go (any_open l)
-  where
-    go : (b : Bool) → n ≤ (if b then n else n + 1)
-    go true = omega arith
-    go false = omega arith
-
 abbrev pub leading : Node → Ballot → ℕ → Node
-leading n z k =
-    record {
-      id = n.id;
-      population = n.population;
-      quorum = n.quorum;
-      bodega_conf = n.bodega_conf;
-      bal_max_seen = n.bal_max_seen;
-      bal_prep_sent = n.bal_max_seen;
-      bal_prepared = z;
-      start_slot = n.start_slot;
-      accept_bar = n.accept_bar;
-      commit_bar = n.commit_bar;
-      exec_bar = n.exec_bar;
-      snap_bar = n.snap_bar;
-      peer_accept_max = n.peer_accept_max;
-      slots = k;
-    }
+leading n z k = record n { bal_prep_sent = n.bal_max_seen; bal_prepared = z; slots = k }
 
 module _ (n : Node) (m area : List ℕ) (e : ready n m ≡ true) where
   ok : Ready n m
@@ -279,7 +234,7 @@ module _ (n : Node) (m area : List ℕ) (e : ready n m ≡ true) where
               start_exec_lem = ok.start_exec_lem;
               exec_commit_lem = ok.exec_commit_lem;
               window = omega (arith, v, few_after);
-              commit_end_lem = omega (arith, v, after_range n.slots insts, ok.commit_end_lem);
+              commit_end_lem = omega (arith, v, grows n.slots insts, ok.commit_end_lem);
             })
 
         pub becomes : (z : Ballot) → z.0 ≡ 0 → Does (become_a_leader (view n m)) 0 m area (record { number = 0; count = count; node = leading n z k }) mem' area'
@@ -297,15 +252,15 @@ module _ (n : Node) (m area : List ℕ) (b : Ballot) (c : RespondersConf) (rows 
   leads_by u f = leads_is c rows n.id.0 ∙ sym e ∙ f
 
   module _ (d : Node) (m' : List ℕ) (a : (view d m' ≡ adopted (view n m) b.0 (roster_of c rows)) × (length m' ≡ length m) × (ready d m' ≡ true) × Untouched node_words m m') where
-    pub follows : not t ≡ true → Does (heard_new_conf (view n m) b.0 (roster_of c rows)) 0 m area (record { number = 0; count = 0; node = d }) m' area
+    pub follows : t ≡ false → Does (heard_new_conf (view n m) b.0 (roster_of c rows)) 0 m area (record { number = 0; count = 0; node = d }) m' area
     unfolding encode
     follows f =
-        rw (heard_following (view n m) b.0 (roster_of c rows) (leads_by false (not-true t f)))
+        rw (heard_following (view n m) b.0 (roster_of c rows) (leads_by false (f)))
         (record { number = refl; count = refl; next = a.0; items = refl; size = a.1; beyond = a.3; ready_again = a.2 })
 
-    module _ (f : not t ≡ false) where
+    module _ (f : t ≡ true) where
       is_leading : heard_new_conf (view n m) b.0 (roster_of c rows) ≡ become_a_leader (view d m')
-      is_leading = heard_leading (view n m) b.0 (roster_of c rows) (leads_by true (not-false t f)) ∙ ap become_a_leader (sym a.0)
+      is_leading = heard_leading (view n m) b.0 (roster_of c rows) (leads_by true (f)) ∙ ap become_a_leader (sym a.0)
 
       same_insts : (view d m').insts ≡ (view n m).insts
       unfolding update_peer_accept_max
@@ -326,7 +281,7 @@ module _ (n : Node) (m area : List ℕ) (b : Ballot) (c : RespondersConf) (rows 
       pub leads_room : (leads (roster_of c rows) n.id.0 ≡ true → slots_after n.slots (view n m).insts ≤ slot_places) × (length (heard_new_conf (view n m) b.0 (roster_of c rows)).items ≤ places area)
           → (ready d m' ≡ true) × (slots_after d.slots (view d m').insts ≤ slot_places) × (length (become_a_leader (view d m')).items ≤ places area)
       unfolding view
-      leads_room h = (a.2, few_after_it (h.0 (leads_by true (not-false t f))), rw (← is_leading) h.1)
+      leads_room h = (a.2, few_after_it (h.0 (leads_by true (f))), rw (← is_leading) h.1)
 
       pub leads_then : (g : Given Node) (m'' area' : List ℕ) → Does (become_a_leader (view d m')) 0 m' area g m'' area' → Does (heard_new_conf (view n m) b.0 (roster_of c rows)) 0 m area g m'' area'
       leads_then g m'' area' x =
@@ -343,10 +298,10 @@ module _ (n : Node) (m : List ℕ) (c : RespondersConf) (t : Bool) (e : t ≡ le
       ∙ ap (λ (y : Bool). if y then length (step_up n.start_slot.0 n.quorum (leader_of c.leader) b (insts_of n.start_slot.0 n.slots (take slot_words (drop slots_at m)))).items else 0)
       (sym e ∙ f)
 
-  pub counts_none : not t ≡ true → (b : ℕ) (rows : List ℕ) → 0 ≡ length (heard_new_conf (view n m) b (roster_of c rows)).items
-  counts_none f b rows = sym (counted false (not-true t f) b rows)
+  pub counts_none : t ≡ false → (b : ℕ) (rows : List ℕ) → 0 ≡ length (heard_new_conf (view n m) b (roster_of c rows)).items
+  counts_none f b rows = sym (counted false (f) b rows)
 
-  pub counts_all : not t ≡ false → (r : ℕ)
+  pub counts_all : t ≡ true → (r : ℕ)
       → ((quorum : ℕ) (leader : Option ℕ) (ballot : ℕ) → r ≡ length (step_up n.start_slot.0 quorum leader ballot (insts_of n.start_slot.0 n.slots (take slot_words (drop slots_at m)))).items)
       → (b : ℕ) (rows : List ℕ) → r ≡ length (heard_new_conf (view n m) b (roster_of c rows)).items
-  counts_all f r g b rows = g n.quorum (leader_of c.leader) b ∙ sym (counted true (not-false t f) b rows)
+  counts_all f r g b rows = g n.quorum (leader_of c.leader) b ∙ sym (counted true (f) b rows)

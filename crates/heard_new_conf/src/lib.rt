@@ -13,13 +13,12 @@ ghost use Rattle.bodega.specs.Replica.{pair};
 ghost use Rattle.bodega.specs.Conflease.{adopted, become_a_leader, heard_new_conf};
 ghost use Rattle.peer_accept_bar.specs.Pairs.{pairs_of, accept_max};
 ghost use Rattle.become_a_leader.specs.StepUp.{slots_after};
-ghost use Rattle.node.specs.View.{view, ready, given_of};
+ghost use Rattle.node.specs.View.{view, ready, taken_of};
 ghost use Rattle.heard_new_conf.specs.Does.{Does, whole};
 ghost use Rattle.heard_new_conf.specs.Forgets.{Forgets};
-ghost use Rattle.node.specs.View.{taken_of};
 
 use ids::{Ballot, Replica, Slot};
-use node::{Taken, Node};
+use node::{Node, Taken};
 use roster_conf::RespondersConf;
 
 // The own guard, at the ballot and the accept bar; gives the reading bar worked out anew.
@@ -44,20 +43,20 @@ fn adopt(node: Node, mem: &mut [u64], ballot: Ballot, conf: RespondersConf, rows
     ensures { (view result mem.new ≡ adopted (view node mem.old) ballot.0 (roster_of conf rows.now)) × (length mem.new ≡ length mem.old) × (ready result mem.new ≡ true) × Untouched node_words mem.old mem.new }
 {
     roster_compare::copy(conf, rows, &mut mem[layout::ROWS_AT..layout::SLOTS_AT]);
-    let accept = node.accept_bar;
-    let max = guard_itself(
+    let peer_accept_max = guard_itself(
         &mut mem[0..layout::EXECS_AT],
         node.population,
         node.quorum,
         node.id,
         ballot,
-        accept,
+        node.accept_bar,
     );
-    let mut next = node;
-    next.bodega_conf = conf;
-    next.bal_max_seen = ballot;
-    next.peer_accept_max = max;
-    next
+    Node {
+        bodega_conf: conf,
+        bal_max_seen: ballot,
+        peer_accept_max,
+        ..node
+    }
 }
 
 // What is known of the peers' exec bars is forgotten.
@@ -65,8 +64,7 @@ fn forget(execs: &mut [u64])
     requires { replica_places ≤ length execs.old }
     ensures { Forgets execs.old execs.new }
 {
-    let none = [0u64; 64];
-    words::copy_words(execs, &none[0..64], 64);
+    execs.fill(0);
 }
 
 // The slots and the items of a step-up, at the ballot that is seen, which is not prepared yet.
@@ -74,34 +72,29 @@ fn become_a_leader(node: Node, mem: &mut [u64], area: &mut [u64]) -> Taken
     requires { (ready node mem.old ≡ true) × (slots_after node.slots (view node mem.old).insts ≤ slot_places) × (length (become_a_leader (view node mem.old)).items ≤ places area.old) }
     ensures { Does (become_a_leader (view node mem.old)) 0 mem.old area.old (taken_of result) mem.new area.new }
 {
-    let conf = node.bodega_conf;
-    let leader = conf.leader;
-    let ballot = node.bal_max_seen;
-    let start = node.start_slot;
-    let held = node.slots;
     let slots = become_a_leader::slots_after(
         &mem[layout::SLOTS_AT..layout::WRITTEN_AT],
-        start,
-        held,
+        node.start_slot,
+        node.slots,
     );
     let count = become_a_leader::become_a_leader(
         &mut mem[layout::SLOTS_AT..layout::WRITTEN_AT],
         area,
-        start,
-        held,
+        node.start_slot,
+        node.slots,
         node.quorum,
-        leader,
-        ballot,
+        node.bodega_conf.leader,
+        node.bal_max_seen,
     );
     forget(&mut mem[layout::EXECS_AT..layout::ROWS_AT]);
-    let unprepared = Ballot(0);
-    let mut next = node;
-    next.bal_prep_sent = ballot;
-    next.bal_prepared = unprepared;
-    next.slots = slots;
     Taken {
+        node: Node {
+            bal_prep_sent: node.bal_max_seen,
+            bal_prepared: Ballot(0),
+            slots,
+            ..node
+        },
         count,
-        node: next,
     }
 }
 
@@ -110,13 +103,14 @@ pub fn count_new_conf(node: Node, mem: &[u64], conf: RespondersConf) -> usize
     requires { ready node mem.now ≡ true }
     ensures { (ballot : ℕ) (rows : List ℕ) → result ≡ length (heard_new_conf (view node mem.now) ballot (roster_of conf rows)).items }
 {
-    let leader = conf.leader;
-    if !node::leads(leader, node.id) {
+    if !node::leads(conf.leader, node.id) {
         return 0;
     }
-    let start = node.start_slot;
-    let held = node.slots;
-    become_a_leader::count_items(&mem[layout::SLOTS_AT..layout::WRITTEN_AT], start, held)
+    become_a_leader::count_items(
+        &mem[layout::SLOTS_AT..layout::WRITTEN_AT],
+        node.start_slot,
+        node.slots,
+    )
 }
 
 // An adoption, with a step-up where the roster names the replica leader.
@@ -132,13 +126,12 @@ pub fn heard_new_conf(
     ensures { Does (heard_new_conf (view node mem.old) ballot.0 (roster_of conf rows.now)) 0 mem.old area.old (taken_of result) mem.new area.new }
 {
     let next = adopt(node, mem, ballot, conf, rows);
-    let leader = conf.leader;
-    let id = node.id;
-    if !node::leads(leader, id) {
-        return Taken {
-            count: 0,
+    if node::leads(conf.leader, node.id) {
+        become_a_leader(next, mem, area)
+    } else {
+        Taken {
             node: next,
-        };
+            count: 0,
+        }
     }
-    become_a_leader(next, mem, area)
 }

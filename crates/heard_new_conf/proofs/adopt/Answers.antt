@@ -16,8 +16,8 @@ slice_bounds-guard_itself-end c =
     let a = c.args in
     omega (arith, law.roster_there a.node a.mem.now c.requires.0 a.ballot a.conf a.rows.now c.requires.1 _ c.copy.ensures)
 
-pub guard_itself-max-requires : goal.guard_itself-max-requires
-guard_itself-max-requires c =
+pub guard_itself-peer_accept_max-requires : goal.guard_itself-peer_accept_max-requires
+guard_itself-peer_accept_max-requires c =
     let a = c.args in
     let r = law.readied a.node a.mem.now c.requires.0 in
     (r.quorate, r.enough, r.few, r.own, omega (arith, law.pairs_there a.node a.mem.now c.requires.0 a.ballot a.conf a.rows.now c.requires.1 _ c.copy.ensures))
@@ -25,4 +25,4 @@ guard_itself-max-requires c =
 pub returns : goal.returns
 returns c =
     let a = c.args in
-    law.adopts a.node a.mem.now c.requires.0 a.ballot a.conf a.rows.now c.requires.1 _ c.copy.ensures _ _ c.guard_itself-max.ensures
+    law.adopts a.node a.mem.now c.requires.0 a.ballot a.conf a.rows.now c.requires.1 _ c.copy.ensures _ _ c.guard_itself-peer_accept_max.ensures

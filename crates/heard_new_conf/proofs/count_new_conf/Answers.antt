@@ -1,13 +1,11 @@
 use native.Mathlib.Omega.{arith}
 use Rattle.heard_new_conf.proofs.Laws as law
-use mathlib.Core.Path.{ap}
-use mathlib.Core.Bool.{not}
 use Rattle.heard_new_conf.proofs.count_new_conf.Goals as goal
 
 pub returns-then-not-leads : goal.returns-then-not-leads
 returns-then-not-leads c =
     let a = c.args in
-    law.counts_none a.node a.mem.now a.conf _ c.leads.ensures (ap not c.if-not-leads.true)
+    law.counts_none a.node a.mem.now a.conf _ c.leads.ensures c.if-not-leads.true
 
 pub slice_bounds-count_items-end : goal.slice_bounds-count_items-end
 slice_bounds-count_items-end c =
@@ -22,4 +20,4 @@ count_items-requires c =
 pub returns : goal.returns
 returns c =
     let a = c.args in
-    law.counts_all a.node a.mem.now a.conf _ c.leads.ensures (ap not c.if-not-leads.false) _ c.count_items.ensures
+    law.counts_all a.node a.mem.now a.conf _ c.leads.ensures c.if-not-leads.false _ c.count_items.ensures

@@ -1,5 +1,6 @@
+use Rattle.std.proofs.Common.{rules}
 use Rattle.heard_new_conf.proofs.Laws as law
 use Rattle.heard_new_conf.proofs.forget.Goals as goal
 
 pub returns : goal.returns
-returns c = law.forgets c.args.execs.now _ c.requires c.copy_words.ensures
+returns c = search (rules, law.forgets)
