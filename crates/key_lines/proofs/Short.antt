@@ -8,14 +8,21 @@ use Prim.Native.Nat.{ℕ, suc, ◌+◌, ◌-◌, ◌*◌, ◌^◌, ◌≤◌, �
 use native.Mathlib.Nat.{lt_of_lt_of_le, mul-le-mul_right, mul_assoc, mul_comm, one-mul, mul-one, pow-suc}
 use native.Mathlib.Omega.{arith}
 use lib.ListN.{length, length-append}
-use lib.Dec.{ltb, eqb}
+use lib.Dec.{leb, ltb, eqb}
 use Rattle.inty.specs.Value.{bounded}
 use Rattle.decimal.specs.Digits.{decimal}
 use Rattle.decimal.proofs.Laws.{short}
 use Rattle.keys.specs.Read.{is_k, is_digit, strip, sign, number, digits, overflow, read_key}
-use Rattle.keys.proofs.Laws.{digit_to}
+use Rattle.words.proofs.Tests.{and_both}
+use borrow.Author.Tests.{leb-true}
 use Rattle.stream_pieces.specs.Pieces.{Begun}
 use Rattle.key_lines.specs.Lines.{text_of, answer_of, line_read, answer}
+
+pub digit_from : (c : ℕ) → is_digit c ≡ true → 48 ≤ c
+digit_from c e = leb-true 48 c (and_both (leb 48 c) (leb c 57) e).0
+
+pub digit_to : (c : ℕ) → is_digit c ≡ true → c ≤ 57
+digit_to c e = leb-true c 57 (and_both (leb 48 c) (leb c 57) e).1
 
 -- digits after those that made a
 number_below : (a : ℕ) (s : List ℕ) (v : ℕ) → number a s ≡ Some v → v < (a + 1) * 10 ^ length s
@@ -27,7 +34,7 @@ number_below a (c ∷ s) v e = go (is_digit c) refl (number_below (10 * a + (c -
 
     go : (t : Bool) → is_digit c ≡ t → (number (10 * a + (c - 48)) s ≡ Some v → v < (10 * a + (c - 48) + 1) * 10 ^ length s) → v < (a + 1) * 10 ^ suc (length s)
     go true p ih =
-        let d : c ≤ 57 = digit_to c true (sym p) refl in
+        let d : c ≤ 57 = digit_to c p in
         let m : (10 * a + (c - 48) + 1) * 10 ^ length s ≤ (a + 1) * 10 * 10 ^ length s = mul-le-mul_right (10 ^ length s) (ten a (c - 48) (omega arith)) in
         let w : (a + 1) * 10 * 10 ^ length s ≡ (a + 1) * 10 ^ suc (length s) = mul_assoc (a + 1) 10 (10 ^ length s) ∙ ap (λ (k : ℕ). (a + 1) * k) (mul_comm 10 (10 ^ length s) ∙ sym (pow-suc 10 (length s))) in
         rw (← w) (lt_of_lt_of_le (ih (simp p at e)) m)

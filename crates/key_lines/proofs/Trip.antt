@@ -8,7 +8,7 @@ use native.Mathlib.Nat.{le_refl}
 use native.Mathlib.Omega.{arith}
 use borrow.Author.Tests.{lt-ltb, le-leb, ne_eqb}
 use Rattle.keys.specs.Read.{is_digit, strip, sign, number, digits, read_key}
-use Rattle.keys.proofs.Laws.{digit_from, digit_to}
+use Rattle.key_lines.proofs.Short.{digit_from, digit_to}
 use Rattle.decimal.specs.Digits.{decimal}
 use Rattle.decimal.proofs.Laws.{one_digit, more_digits}
 
@@ -50,8 +50,8 @@ plain (c ∷ s) n e z = go (is_digit c) refl
   where
     go : (t : Bool) → is_digit c ≡ t → digits (sign (strip (c ∷ s))) ≡ Some n
     go true p =
-        let f : 48 ≤ c = digit_from c true (sym p) refl in
-        let g : c ≤ 57 = digit_to c true (sym p) refl in
+        let f : 48 ≤ c = digit_from c p in
+        let g : c ≤ 57 = digit_to c p in
         let k : c ≡ 107 → ⊥ = λ x. omega arith in
         let l : c ≡ 75 → ⊥ = λ x. omega arith in
         let m : c ≡ 43 → ⊥ = λ x. omega arith in

@@ -4,9 +4,11 @@
 
 ghost use Rattle.std.specs.Prelude.{◌≡◌, [], ◌+◌, ◌*◌, ◌≤◌, length, drop, option_map};
 ghost use Rattle.words.specs.Writes.{writes};
+ghost use Rattle.inty.specs.Value.{value_of};
 ghost use Rattle.stream_pieces.specs.Streamed.{streamed, last_line, output_after};
 ghost use Rattle.key_lines.specs.Lines.{text_of, answer_of, line_read, answer, line_output};
 
+use inty::Inty;
 
 // The place in a piece where the line that has begun starts, how much of the output is used, and whether bytes of that
 // line were dropped.
@@ -17,6 +19,7 @@ pub struct Fed {
     pub long: bool,
 }
 
+#[tactic(auto, unfolding(crate::specs::Lines::text_of))]
 fn put_text(out: &mut [u8], at: usize, r: Option<Inty>) -> usize
     requires { at + length (text_of (option_map value_of r)) ≤ length out.old }
     ensures { (result ≡ at + length (text_of (option_map value_of r))) × (out.new ≡ writes out.old at (text_of (option_map value_of r))) }
@@ -25,12 +28,10 @@ fn put_text(out: &mut [u8], at: usize, r: Option<Inty>) -> usize
         out[at] = b'-';
         return at + 1;
     };
-    let Some(end) = decimal::write(out, at, x) else {
-        return at;
-    };
-    end
+    decimal::write(out, at, x).unwrap()
 }
 
+#[tactic(auto, unfolding(crate::specs::Lines::answer_of))]
 fn put_answer(out: &mut [u8], at: usize, r: Option<Inty>) -> usize
     requires { at + length (answer_of (option_map value_of r)) ≤ length out.old }
     ensures { (result ≡ at + length (answer_of (option_map value_of r))) × (out.new ≡ writes out.old at (answer_of (option_map value_of r))) }
@@ -40,13 +41,11 @@ fn put_answer(out: &mut [u8], at: usize, r: Option<Inty>) -> usize
     end + 1
 }
 
+#[tactic(auto, unfolding(crate::specs::Lines::line_read))]
 fn read_line(line: &[u8], long: bool) -> Option<Inty>
     ensures { option_map value_of result ≡ line_read long line.now }
 {
-    if long {
-        return None;
-    }
-    if line.len() > 1024 {
+    if long || line.len() > 1024 {
         return None;
     }
     keys::key_to_inty(line)
@@ -54,49 +53,42 @@ fn read_line(line: &[u8], long: bool) -> Option<Inty>
 
 // Writes the answer to a line at `at`, and returns where it ends. If `long`, the line had bytes more, which were
 // dropped.
+#[tactic(auto, unfolding(crate::specs::Lines::answer))]
 pub fn answer_line(line: &[u8], long: bool, out: &mut [u8], at: usize) -> usize
     requires { at + length (answer (record { long = long; line = line.now })) ≤ length out.old }
     ensures { (result ≡ at + length (answer (record { long = long; line = line.now }))) × (out.new ≡ writes out.old at (answer (record { long = long; line = line.now }))) }
 {
-    let r = read_line(line, long);
-    put_answer(out, at, r)
+    put_answer(out, at, read_line(line, long))
 }
 
 // Writes the answers to the lines that end in a piece to the start of out. No answer has more than twice the bytes of
 // its line.
-pub fn feed(piece: &[u8], long: bool, out: &mut [u8]) -> Fed
+pub fn feed(piece: &[u8], mut long: bool, out: &mut [u8]) -> Fed
     requires { 2 * length piece.now ≤ length out.old }
     ensures within { (result.at ≤ length piece.now) × (result.used ≤ length out.old) }
     ensures answered { record { bytes = out.new; used = result.used; state = tt; begun = record { long = result.long; line = drop result.at piece.now } } ≡ output_after out.old 0 (streamed line_output tt (record { long = long; line = [] }) piece.now) }
 {
     let mut at = 0;
     let mut used = 0;
-    let mut dropped = long;
     loop {
         let end = stream_pieces::line_end(piece, at);
         if end == piece.len() {
-            return Fed {
-                at,
-                used,
-                long: dropped,
-            };
+            return Fed { at, used, long };
         }
-        used = answer_line(&piece[at..end], dropped, out, used);
-        dropped = false;
+        used = answer_line(&piece[at..end], long, out, used);
+        long = false;
         at = end + 1;
     }
 }
 
 // Writes the answer to a last line without a newline to the start of out, if it has a byte, and returns where it ends.
+#[tactic(auto, using(crate::proofs::Short::answer_short), unfolding(stream_pieces::specs::Streamed::last_line))]
 pub fn last_line(line: &[u8], long: bool, out: &mut [u8]) -> usize
     requires { 2 * (length line.now + 1) ≤ length out.old }
     ensures within { result ≤ length out.old }
     ensures answered { (result ≡ length (last_line line_output tt (record { long = long; line = line.now }))) × (out.new ≡ writes out.old 0 (last_line line_output tt (record { long = long; line = line.now }))) }
 {
-    if long {
-        return answer_line(line, long, out, 0);
-    }
-    if line.len() == 0 {
+    if !long && line.is_empty() {
         return 0;
     }
     answer_line(line, long, out, 0)

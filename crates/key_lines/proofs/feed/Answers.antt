@@ -1,5 +1,4 @@
 use Rattle.key_lines.proofs.Laws as law
-use mathlib.Core.List.{[]}
 use Rattle.stream_pieces.proofs.Laws as pieces
 use borrow.Author.Rules.{rules}
 use Rattle.key_lines.proofs.feed.Goals as goal
