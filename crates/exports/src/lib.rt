@@ -2,18 +2,17 @@
 #![tactic(auto)]
 
 ghost use Rattle.std.specs.Prelude.{◌≡◌, ◌&&◌};
+ghost use Rattle.std.specs.Bool.{then_some};
 ghost use Rattle.bodega.specs.Replica.{Guard, Prepared, Bars, Record, Heartbeat, Reply, Notice, CommitNotice, Read, Release};
 ghost use Rattle.req_batch.specs.Given.{given as batch_of};
-ghost use Rattle.roster_conf.specs.Edits.{view as roster_of};
 ghost use Rattle.call_heartbeat.specs.Heartbeat.{fitting, carried};
 ghost use Rattle.bodega.specs.Answers.{Answers};
 ghost use Rattle.node.specs.View.{view, ready};
-ghost use Rattle.node.specs.Begins.{Begins};
 ghost use Rattle.keys.specs.Read.{read_key};
 ghost use Rattle.roster_conf.specs.Edit.{SetResponders, SetFull, IntoFiltered};
 ghost use Rattle.roster_conf.specs.Edits.{lookup};
 ghost use Rattle.export_roster.specs.Numbers.{key_of, plain, Counts, mask_of};
-ghost use Rattle.export_plain.specs.Plain.{node_of, conf_of, given, fresh_of, no_node, GivesBack};
+ghost use Rattle.export_plain.specs.Plain.{node_of, conf_of, given, no_node, Begins, GivesBack};
 
 use export_plain::{Plain, PlainAnswered, Roster};
 use export_roster::{Count, Key, Mask};
@@ -21,10 +20,9 @@ use ids::{Ballot, Replica, Slot};
 use node::Node;
 
 pub fn bodega_fresh(mem: &mut [u64], id: u8, population: u8, quorum: u8) -> PlainAnswered
-    ensures { Begins id population quorum mem.old (fresh_of result) mem.new × GivesBack no_node result × (result.count ≡ 0) }
+    ensures { Begins id population quorum mem.old result mem.new × GivesBack no_node result × (result.count ≡ 0) }
 {
-    let fresh = Node::fresh(mem, Replica(id), population, quorum);
-    export_plain::begun(fresh)
+    export_plain::begun(Node::fresh(mem, Replica(id), population, quorum))
 }
 
 pub fn bodega_guard(
@@ -37,16 +35,21 @@ pub fn bodega_guard(
 ) -> PlainAnswered
     ensures { Answers ready view (Guard peer number bar) (node_of node) mem.old area.now (given result) mem.new area.now × GivesBack node result }
 {
-    let n = export_plain::node_of(node);
-    let a = call_guard::guard(n, mem, area, Replica(peer), Ballot(number), Slot(bar));
+    let a = call_guard::guard(
+        export_plain::node_of(node),
+        mem,
+        area,
+        Replica(peer),
+        Ballot(number),
+        Slot(bar),
+    );
     export_plain::answered(node, a)
 }
 
 pub fn bodega_prepared(node: Plain, mem: &[u64], area: &[u64], ballot: u64) -> PlainAnswered
     ensures { Answers ready view (Prepared ballot) (node_of node) mem.now area.now (given result) mem.now area.now × GivesBack node result }
 {
-    let n = export_plain::node_of(node);
-    let a = call_prepared::prepared(n, mem, area, Ballot(ballot));
+    let a = call_prepared::prepared(export_plain::node_of(node), mem, area, Ballot(ballot));
     export_plain::answered(node, a)
 }
 
@@ -61,9 +64,8 @@ pub fn bodega_bars(
 ) -> PlainAnswered
     ensures { Answers ready view (Bars start accept commit exec) (node_of node) mem.old area.now (given result) mem.new area.now × GivesBack node result }
 {
-    let n = export_plain::node_of(node);
     let a = call_bars::bars(
-        n,
+        export_plain::node_of(node),
         mem,
         area,
         Slot(start),
@@ -85,8 +87,15 @@ pub fn bodega_record(
 ) -> PlainAnswered
     ensures { Answers ready view (Record slot ballot (batch_of rows.now text.now)) (node_of node) mem.old area.now (given result) mem.new area.now × GivesBack node result }
 {
-    let n = export_plain::node_of(node);
-    let a = call_record::record(n, mem, area, Slot(slot), Ballot(ballot), rows, text);
+    let a = call_record::record(
+        export_plain::node_of(node),
+        mem,
+        area,
+        Slot(slot),
+        Ballot(ballot),
+        rows,
+        text,
+    );
     export_plain::answered(node, a)
 }
 
@@ -103,25 +112,19 @@ pub fn bodega_heartbeat(
     exec: u64,
     snap: u64,
 ) -> PlainAnswered
-    ensures { Answers (λ n m. ready n m && fitting attached roster.ranges rows.now) view (Heartbeat peer ballot (carried attached (roster_of (conf_of roster) rows.now)) commit exec snap) (node_of node) mem.old area.old (given result) mem.new area.new × GivesBack node result }
+    ensures { Answers (λ n m. ready n m && fitting (then_some attached (conf_of roster)) rows.now) view (Heartbeat peer ballot (carried (then_some attached (conf_of roster)) rows.now) commit exec snap) (node_of node) mem.old area.old (given result) mem.new area.new × GivesBack node result }
 {
-    let n = export_plain::node_of(node);
-    let conf = export_plain::conf_of(roster);
-    let commit = Slot(commit);
-    let exec = Slot(exec);
-    let snap = Slot(snap);
     let a = call_heartbeat::heartbeat(
-        n,
+        export_plain::node_of(node),
         mem,
         area,
         Replica(peer),
         Ballot(ballot),
-        attached,
-        conf,
+        attached.then_some(export_plain::conf_of(roster)),
         rows,
-        commit,
-        exec,
-        snap,
+        Slot(commit),
+        Slot(exec),
+        Slot(snap),
     );
     export_plain::answered(node, a)
 }
@@ -136,8 +139,14 @@ pub fn bodega_reply(
 ) -> PlainAnswered
     ensures { Answers ready view (Reply peer slot ballot) (node_of node) mem.old area.old (given result) mem.new area.new × GivesBack node result }
 {
-    let n = export_plain::node_of(node);
-    let a = call_reply::reply(n, mem, area, Replica(peer), Slot(slot), Ballot(ballot));
+    let a = call_reply::reply(
+        export_plain::node_of(node),
+        mem,
+        area,
+        Replica(peer),
+        Slot(slot),
+        Ballot(ballot),
+    );
     export_plain::answered(node, a)
 }
 
@@ -151,8 +160,14 @@ pub fn bodega_notice(
 ) -> PlainAnswered
     ensures { Answers ready view (Notice peer slot ballot) (node_of node) mem.old area.old (given result) mem.new area.new × GivesBack node result }
 {
-    let n = export_plain::node_of(node);
-    let a = call_notice::notice(n, mem, area, Replica(peer), Slot(slot), Ballot(ballot));
+    let a = call_notice::notice(
+        export_plain::node_of(node),
+        mem,
+        area,
+        Replica(peer),
+        Slot(slot),
+        Ballot(ballot),
+    );
     export_plain::answered(node, a)
 }
 
@@ -166,8 +181,14 @@ pub fn bodega_commit(
 ) -> PlainAnswered
     ensures { Answers ready view (CommitNotice peer ballot bar) (node_of node) mem.old area.old (given result) mem.new area.new × GivesBack node result }
 {
-    let n = export_plain::node_of(node);
-    let a = call_commit::commit(n, mem, area, Replica(peer), Ballot(ballot), Slot(bar));
+    let a = call_commit::commit(
+        export_plain::node_of(node),
+        mem,
+        area,
+        Replica(peer),
+        Ballot(ballot),
+        Slot(bar),
+    );
     export_plain::answered(node, a)
 }
 
@@ -182,16 +203,22 @@ pub fn bodega_read(
 ) -> PlainAnswered
     ensures { Answers ready view (Read leases (record { client = client; request = request; key = key.now })) (node_of node) mem.old area.old (given result) mem.new area.new × GivesBack node result }
 {
-    let n = export_plain::node_of(node);
-    let a = call_read::read(n, mem, area, client, request, leases, key);
+    let a = call_read::read(
+        export_plain::node_of(node),
+        mem,
+        area,
+        client,
+        request,
+        leases,
+        key,
+    );
     export_plain::answered(node, a)
 }
 
 pub fn bodega_release(node: Plain, mem: &mut [u64], area: &mut [u64], slot: u64) -> PlainAnswered
     ensures { Answers ready view (Release slot) (node_of node) mem.old area.old (given result) mem.new area.new × GivesBack node result }
 {
-    let n = export_plain::node_of(node);
-    let a = call_release::release(n, mem, area, Slot(slot));
+    let a = call_release::release(export_plain::node_of(node), mem, area, Slot(slot));
     export_plain::answered(node, a)
 }
 

@@ -2,25 +2,24 @@
 #![tactic(auto)]
 
 ghost use Rattle.std.specs.Prelude.{◌≡◌, ◌&&◌};
+ghost use Rattle.std.specs.Bool.{then_some};
 ghost use Rattle.bodega.specs.Replica.{Guard, Prepared, Bars, Record, Heartbeat, Reply, Notice, CommitNotice, Read, Release};
 ghost use Rattle.req_batch.specs.Given.{given as batch_of};
-ghost use Rattle.roster_conf.specs.Edits.{view as roster_of};
 ghost use Rattle.call_heartbeat.specs.Heartbeat.{fitting, carried};
 ghost use Rattle.bodega.specs.Answers.{Answers};
 ghost use Rattle.node.specs.View.{view, ready};
-ghost use Rattle.node.specs.Begins.{Begins};
 ghost use Rattle.keys.specs.Read.{read_key};
 ghost use Rattle.roster_conf.specs.Edit.{SetResponders, SetFull, IntoFiltered};
 ghost use Rattle.roster_conf.specs.Edits.{lookup};
 ghost use Rattle.export_roster.specs.Numbers.{key_of, plain, Counts, mask_of};
-ghost use Rattle.export_plain.specs.Plain.{node_of, conf_of, given, fresh_of, no_node, GivesBack};
+ghost use Rattle.export_plain.specs.Plain.{node_of, conf_of, given, no_node, Begins, GivesBack};
 
 use export_plain::{Plain, PlainAnswered, Roster};
 use export_roster::{Count, Key, Mask};
 
 #[unsafe(no_mangle)]
 pub extern "C" fn bodega_fresh(mem: &mut [u64], id: u8, population: u8, quorum: u8) -> PlainAnswered
-    ensures { Begins id population quorum mem.old (fresh_of result) mem.new × GivesBack no_node result × (result.count ≡ 0) }
+    ensures { Begins id population quorum mem.old result mem.new × GivesBack no_node result × (result.count ≡ 0) }
 {
     exports::bodega_fresh(mem, id, population, quorum)
 }
@@ -95,7 +94,7 @@ pub extern "C" fn bodega_heartbeat(
     exec: u64,
     snap: u64,
 ) -> PlainAnswered
-    ensures { Answers (λ n m. ready n m && fitting attached roster.ranges rows.now) view (Heartbeat peer ballot (carried attached (roster_of (conf_of roster) rows.now)) commit exec snap) (node_of node) mem.old area.old (given result) mem.new area.new × GivesBack node result }
+    ensures { Answers (λ n m. ready n m && fitting (then_some attached (conf_of roster)) rows.now) view (Heartbeat peer ballot (carried (then_some attached (conf_of roster)) rows.now) commit exec snap) (node_of node) mem.old area.old (given result) mem.new area.new × GivesBack node result }
 {
     exports::bodega_heartbeat(
         node, mem, area, peer, ballot, attached, roster, rows, commit, exec, snap,

@@ -26,18 +26,18 @@ use Rattle.node.specs.declared.Taken.{Taken}
 
 -- one call, whichever it is
 made_by : (c : Call) (rows text : List ℕ) {node last : Node} {mem mem' end : List ℕ} {fs : List Fed} (area area' : List ℕ) (r : Result Taken Refusal)
-    → Answers (ready_for c rows) view (call_of c rows text) node mem area (given_of r) mem' area' → history.Made ready view r.node mem' fs last end
-    → history.Made ready view node mem (fed (call_of c rows text) r ∷ fs) last end
-made_by (call.Heartbeat peer ballot attached conf commit exec snap) rows text area area' r a m = history.call_with (fitting attached conf.count rows) (call_of (call.Heartbeat peer ballot attached conf commit exec snap) rows text) area area' (given_of r) a m
-made_by (call.Guard peer number bar) rows text area area' r a m = history.call (call_of (call.Guard peer number bar) rows text) area area' (given_of r) a m
-made_by (call.Prepared ballot) rows text area area' r a m = history.call (call_of (call.Prepared ballot) rows text) area area' (given_of r) a m
-made_by (call.Record slot ballot) rows text area area' r a m = history.call (call_of (call.Record slot ballot) rows text) area area' (given_of r) a m
-made_by (call.Reply peer slot ballot) rows text area area' r a m = history.call (call_of (call.Reply peer slot ballot) rows text) area area' (given_of r) a m
-made_by (call.Notice peer slot ballot) rows text area area' r a m = history.call (call_of (call.Notice peer slot ballot) rows text) area area' (given_of r) a m
-made_by (call.Commit peer ballot bar) rows text area area' r a m = history.call (call_of (call.Commit peer ballot bar) rows text) area area' (given_of r) a m
-made_by (call.Bars start accept commit exec) rows text area area' r a m = history.call (call_of (call.Bars start accept commit exec) rows text) area area' (given_of r) a m
-made_by (call.Read client request leases) rows text area area' r a m = history.call (call_of (call.Read client request leases) rows text) area area' (given_of r) a m
-made_by (call.Release slot) rows text area area' r a m = history.call (call_of (call.Release slot) rows text) area area' (given_of r) a m
+    → Answers (ready_for c rows) view (call_of c rows text) node mem area (given_of node r) mem' area' → history.Made ready view (given_of node r).node mem' fs last end
+    → history.Made ready view node mem (fed (call_of c rows text) node r ∷ fs) last end
+made_by (call.Heartbeat peer ballot conf commit exec snap) rows text area area' r a m = history.call_with (fitting conf rows) (call_of (call.Heartbeat peer ballot conf commit exec snap) rows text) area area' (given_of _ r) a m
+made_by (call.Guard peer number bar) rows text area area' r a m = history.call (call_of (call.Guard peer number bar) rows text) area area' (given_of _ r) a m
+made_by (call.Prepared ballot) rows text area area' r a m = history.call (call_of (call.Prepared ballot) rows text) area area' (given_of _ r) a m
+made_by (call.Record slot ballot) rows text area area' r a m = history.call (call_of (call.Record slot ballot) rows text) area area' (given_of _ r) a m
+made_by (call.Reply peer slot ballot) rows text area area' r a m = history.call (call_of (call.Reply peer slot ballot) rows text) area area' (given_of _ r) a m
+made_by (call.Notice peer slot ballot) rows text area area' r a m = history.call (call_of (call.Notice peer slot ballot) rows text) area area' (given_of _ r) a m
+made_by (call.Commit peer ballot bar) rows text area area' r a m = history.call (call_of (call.Commit peer ballot bar) rows text) area area' (given_of _ r) a m
+made_by (call.Bars start accept commit exec) rows text area area' r a m = history.call (call_of (call.Bars start accept commit exec) rows text) area area' (given_of _ r) a m
+made_by (call.Read client request leases) rows text area area' r a m = history.call (call_of (call.Read client request leases) rows text) area area' (given_of _ r) a m
+made_by (call.Release slot) rows text area area' r a m = history.call (call_of (call.Release slot) rows text) area area' (given_of _ r) a m
 
 made : {node last : Node} {mem end : List ℕ} {fs : List Fed} → CallList node mem fs last end → history.Made ready view node mem fs last end
 made calls.none = history.none

@@ -16,15 +16,16 @@ use Rattle.ids.specs.declared.Refusal.{Refusal}
 use Rattle.node.specs.declared.Taken.{Taken}
 
 -- what the table is fed: the call's arguments, and whether it answered "taken"
-abbrev pub fed : machine.Call → Result Taken Refusal → Fed
-fed c r = fed_of ready view c (given_of r)
+abbrev pub fed : machine.Call → Node → Result Taken Refusal → Fed
+fed c node r = fed_of ready view c (given_of node r)
 
 -- any of the ten calls, refused ones included, in any order: each gets the node and its lent buffer as the last one
 -- left them, and an answer area of its own
 pub data CallList : Node → List ℕ → List Fed → Node → List ℕ → Type 0 where
   none : {node : Node} {mem : List ℕ} → CallList node mem [] node mem
   applied : {node last : Node} {mem end : List ℕ} {fs : List Fed} (c : Call) (rows text : List ℕ) (area area' mem' : List ℕ) (r : Result Taken Refusal)
-      → Answers (ready_for c rows) view (call_of c rows text) node mem area (given_of r) mem' area' → CallList r.node mem' fs last end → CallList node mem (fed (call_of c rows text) r ∷ fs) last end
+      → Answers (ready_for c rows) view (call_of c rows text) node mem area (given_of node r) mem' area' → CallList (given_of node r).node mem' fs last end
+      → CallList node mem (fed (call_of c rows text) node r ∷ fs) last end
 
 -- a list of calls from a node that `Node::fresh` made, and what `Node::reading_bar` gives of the node that it leaves
 pub record CallHistory (id population quorum : ℕ) (fs : List Fed) (bar : Slot) : Type 0 where
