@@ -1,5 +1,8 @@
 -- *notice*: its grounds; below start; of a higher ballot; of the replica's own.
-use Rattle.std.specs.Prelude.{if◌then◌else◌}
+use Rattle.std.specs.Prelude.{if◌then◌else◌, IsErrAnd}
+use borrow.Author.Rules.{rules}
+use Rattle.std.specs.Ordering.{is_lt, nat_cmp}
+use Rattle.std.specs.Result.{result_unwrap_or}
 use mathlib.Core.Path.{◌≡◌, refl, sym, ap, ◌∙◌}
 use mathlib.Core.Bool.{Bool, true, false, not, ◌&&◌, true≢false}
 use mathlib.Core.List.{List, [], ◌∷◌}
@@ -9,7 +12,7 @@ use native.Mathlib.Decide.{dec_lt}
 use native.Mathlib.Omega.{arith}
 use lib.Dec.{ltb, leb, eqb}
 use lib.ListN.{length, take, drop}
-use borrow.Author.Tests.{lt-ltb, le-ltb, le-leb, lt-leb, leb-true, leb-false, not-true, not-false}
+use borrow.Author.Tests.{lt-ltb, le-ltb, le-leb, lt-leb, leb-false}
 use Rattle.words.specs.Part.{part, splice, length_part}
 use Rattle.words.specs.Writes.{writes}
 use Rattle.ids.specs.Leader.{leader_of}
@@ -34,42 +37,22 @@ use Rattle.insts.specs.Slots.{insts_of}
 use Rattle.accept_notice_at.specs.Notices.{Noticed, noticed_at, after, NotesAt}
 use Rattle.accept_notice_at.proofs.Machine.{noticed_is}
 use Rattle.node.specs.declared.Node.{Node}
-use Rattle.node.specs.View.{view, ready, lowest, leads_it}
+use Rattle.node.specs.declared.Taken.{Taken}
+use Rattle.node.specs.View.{view, ready, given_of, lowest, leads_it}
 use Rattle.node.proofs.Calls.{Ready, is_ready, made_ready, refused_by, few_places, taken_with, taken_by, none_applies}
 use Rattle.node.proofs.Frames.{rows_back, rows_size_lem, rows_beyond, slots_back, slots_size, slots_beyond}
 use Rattle.call_notice.specs.Notice.{notice_refusal, step_down, StepsDown}
 use Rattle.std.specs.Prelude.{Result, Ok, Err}
 use Rattle.ids.specs.declared.Refusal.{Refusal}
+use Rattle.ids.specs.declared.Refusal.TheVariants.{AreaTooSmall}
+use Rattle.ids.specs.Refusal.{number_of}
 
--- ---- the tests
+pub less : (a b : ℕ) → true ≡ is_lt (nat_cmp a b) → a < b
+less a b e = search rules
 
-module _ (o : Option ℕ) (id seen ballot : ℕ) (t : Bool) (e : t ≡ leads_it o id) where
-  pub leading : t ≡ true → false ≡ not (leads_it o id) && eqb ballot seen
-  leading h = simp (sym e ∙ h)
-
-  pub following : t ≡ false → eqb ballot seen ≡ not (leads_it o id) && eqb ballot seen
-  following h = simp (sym e ∙ h)
-
-module _ (population : ℕ) (current : Bool) (start peer slot : ℕ) where
-  abbrev Number : ℕ → Type 0
-  Number r = r ≡ notice_refusal population current start peer slot
-
-  pub foreign_3 : population ≤ peer → Number 3
-  foreign_3 h = simp (le-leb population peer h)
-
-  module _ (h : peer < population) where
-    pub far_8 : 281474976710655 < slot → Number 8
-    far_8 g = simp (lt-leb population peer h, lt-ltb 281474976710655 slot g)
-
-    module _ (g : slot ≤ 281474976710655) where
-      pub other_0 : not current ≡ true → Number 0
-      other_0 f = simp (lt-leb population peer h, le-ltb 281474976710655 slot g, not-true current f)
-
-      pub past_15 : not current ≡ false → start + window ≤ slot → Number 15
-      past_15 f k = simp (lt-leb population peer h, le-ltb 281474976710655 slot g, not-false current f, le-leb (start + window) slot k)
-
-      pub in_0 : not current ≡ false → slot < start + window → Number 0
-      in_0 f k = simp (lt-leb population peer h, le-ltb 281474976710655 slot g, not-false current f, lt-leb (start + window) slot k)
+pub leads_is : (n : Node) (t : Bool) → t ≡ machine.is_leader (view n []) → t ≡ leads_it (leader_of n.bodega_conf.leader) n.id.0
+unfolding view roster_of
+leads_is n t e = e
 
 -- ---- the roster without a replica
 
@@ -78,83 +61,44 @@ module _ (c : RespondersConf) (s : List ℕ) (p id : ℕ) (w : (id < p) × (p �
   unfolding edit-due edit_result edit edit-grounds
   due_is = simp (le-leb roster_words (length s) w.3, le-leb c.count 64 w.2, le-leb 1 p (omega (arith, w.0)), le-leb p 64 w.1, lt-leb p id w.0)
 
-  module _ (r : Result RespondersConf Refusal) (after : List ℕ) (x : Edits (IntoFiltered id) p c s r after) where
-    pub filter_taken : (d : RespondersConf) → length after ≡ length s → r ≡ Ok d → (roster_of d after ≡ into_filtered id (roster_of c s)) × (d.count ≤ 64) × (length after ≡ length s)
-    filter_taken d l e =
-        let y : Leaves (into_filtered id (roster_of c s)) s d after = rw (due_is, e) at x in
-        (y.roster, y.few, l)
-
-    pub filter_never : {A : Type 0} (k : ℕ) → r ≡ Err k → A
-    filter_never k e = absurd (rw (due_is, e) at x)
+  -- the edit never fails
+  pub filtered_is : (r : Result RespondersConf Refusal) (after : List ℕ) → Edits (IntoFiltered id) p c s r after → (d : RespondersConf) → length after ≡ length s → d ≡ result_unwrap_or r c
+      → (roster_of d after ≡ into_filtered id (roster_of c s)) × (d.count ≤ 64) × (length after ≡ length s)
+  filtered_is (Ok x) after w d l e =
+      let y : Leaves (into_filtered id (roster_of c s)) s x after = rw due_is at w in
+      rw e (y.roster, y.few, l)
+  filtered_is (Err x) after w d l e = absurd (rw due_is at w)
 
 -- ---- a leader that steps down
 
-pub no_lead : (led : Bool) (area : List ℕ) → not led ≡ true → StepsDown led area true area
+pub no_lead : (led : Bool) (area : List ℕ) → led ≡ false → StepsDown led area (Ok 0) area
 unfolding encode
-no_lead led area h =
-    rw (not-true led h) (record { room = sym (le-leb 0 (places area) (omega arith)); taken = λ e. refl; refused = λ e. absurd (true≢false e) })
+no_lead led area h = rw h (refl, omega arith, refl)
 
 lead_items : (area : List ℕ) → writes area 0 (encode (Lead false ∷ [])) ≡ writes area (0 * 6) (9 ∷ 0 ∷ 0 ∷ 0 ∷ 0 ∷ 0 ∷ [])
 unfolding encode
 lead_items area = refl
 
-pub lead_put : (led : Bool) (area after : List ℕ) (r : Bool) → not led ≡ false → ◌≡◌ {A = Put} (record { taken = r; area = after }) (put_item area 0 (Lead false)) → StepsDown led area r after
-lead_put led area after r h p = rw (not-false led h) (elim (dec_lt 0 (places area)) [
-  | yes k ↦
-      let t : r ≡ true = ap (λ (q : Put). q.taken) p ∙ put_true area 0 (Lead false) k in
-      record {
-        room = t ∙ sym (le-leb 1 (places area) (omega arith));
-        taken = λ e. ap (λ (q : Put). q.area) p ∙ put_area area 0 (Lead false) k ∙ sym (lead_items area);
-        refused = λ e. absurd (true≢false (sym t ∙ e));
-      }
-  | no k ↦
-      let t : r ≡ false = ap (λ (q : Put). q.taken) p ∙ put_false area 0 (Lead false) (omega arith) in
-      record {
-        room = t ∙ sym (lt-leb 1 (places area) (omega arith));
-        taken = λ e. absurd (true≢false (sym e ∙ t));
-        refused = λ e. ap (λ (q : Put). q.area) p ∙ put_same area 0 (Lead false) (omega arith);
-      }
-])
+module _ (led : Bool) (area after : List ℕ) (r : Bool) (h : led ≡ true) (p : ◌≡◌ {A = Put} (record { taken = r; area = after }) (put_item area 0 (Lead false))) where
+  pub lead_put : r ≡ true → StepsDown led area (Ok 1) after
+  lead_put e = rw h (elim (dec_lt 0 (places area)) [
+    | yes k ↦ (refl, omega arith, ap (λ (q : Put). q.area) p ∙ put_area area 0 (Lead false) k ∙ sym (lead_items area))
+    | no k ↦ absurd (true≢false (sym e ∙ ap (λ (q : Put). q.taken) p ∙ put_false area 0 (Lead false) (omega arith)))
+  ])
+
+  pub no_place : r ≡ false → StepsDown led area (Err AreaTooSmall) after
+  no_place e = rw h (elim (dec_lt 0 (places area)) [
+    | yes k ↦ absurd (true≢false (sym (ap (λ (q : Put). q.taken) p ∙ put_true area 0 (Lead false) k) ∙ e))
+    | no k ↦ (refl, omega arith, ap (λ (q : Put). q.area) p ∙ put_same area 0 (Lead false) (omega arith))
+  ])
 
 -- ---- the node after
 
 abbrev pub stepped : Node → RespondersConf → Ballot → Node
-stepped n c b =
-    record {
-      id = n.id;
-      population = n.population;
-      quorum = n.quorum;
-      bodega_conf = c;
-      bal_max_seen = b;
-      bal_prep_sent = n.bal_prep_sent;
-      bal_prepared = n.bal_prepared;
-      start_slot = n.start_slot;
-      accept_bar = n.accept_bar;
-      commit_bar = n.commit_bar;
-      exec_bar = n.exec_bar;
-      snap_bar = n.snap_bar;
-      peer_accept_max = n.peer_accept_max;
-      slots = n.slots;
-    }
+stepped n c b = record n { bodega_conf = c; bal_max_seen = b }
 
 abbrev pub grown : Node → ℕ → Node
-grown n k =
-    record {
-      id = n.id;
-      population = n.population;
-      quorum = n.quorum;
-      bodega_conf = n.bodega_conf;
-      bal_max_seen = n.bal_max_seen;
-      bal_prep_sent = n.bal_prep_sent;
-      bal_prepared = n.bal_prepared;
-      start_slot = n.start_slot;
-      accept_bar = n.accept_bar;
-      commit_bar = n.commit_bar;
-      exec_bar = n.exec_bar;
-      snap_bar = n.snap_bar;
-      peer_accept_max = n.peer_accept_max;
-      slots = k;
-    }
+grown n k = record n { slots = k }
 
 after_range : (held k : ℕ) → held ≤ slot_places → k < slot_places → (held ≤ after held k) × (after held k ≤ slot_places)
 after_range held k h g =
@@ -173,9 +117,8 @@ rows_long m h = length_part m rows_at roster_words (omega arith)
 
 -- ---- the call
 
-module _ (n : Node) (m area : List ℕ) (peer slot : ℕ) (b : Ballot) (t : Bool) (e : t ≡ ready n m) (f : not t ≡ false)
-    (cur : Bool) (y : cur ≡ not (leads_it (leader_of n.bodega_conf.leader) n.id.0) && eqb b.0 n.bal_max_seen.0)
-    (k : ℕ) (g : k ≡ notice_refusal n.population cur n.start_slot.0 peer slot) where
+module _ (n : Node) (m area : List ℕ) (peer slot : ℕ) (b : Ballot) (z : ready n m ≡ true)
+    (cur : Bool) (y : cur ≡ not (leads_it (leader_of n.bodega_conf.leader) n.id.0) && eqb b.0 n.bal_max_seen.0) where
   abbrev start : ℕ
   start = n.start_slot.0
 
@@ -188,30 +131,42 @@ module _ (n : Node) (m area : List ℕ) (peer slot : ℕ) (b : Ballot) (t : Bool
   abbrev call : machine.Call
   call = machine.Notice peer slot b.0
 
-  number_is : k ≡ lowest (grounds (view n m) call)
+  abbrev refusal : ℕ
+  refusal = notice_refusal n.population cur n.start_slot.0 peer slot
+
+  refusal_is : refusal ≡ lowest (grounds (view n m) call)
   unfolding grounds view roster_of
-  number_is = g ∙ ap (λ (c : Bool). lowest (3 when leb n.population peer or 8 when ltb 281474976710655 slot or 15 when c && leb (start + window) slot or [])) y
+  refusal_is = ap (λ (c : Bool). lowest (3 when leb n.population peer or 8 when ltb 281474976710655 slot or 15 when c && leb (start + window) slot or [])) y
 
-  pub notice_refused : (k ≡ 0 → ⊥) → Answers ready view call n m area (record { number = k; count = 0; node = n }) m area
-  notice_refused h = refused_by call n m area t e f k number_is h
+  pub notice_refused : (x : Refusal) (w : Result Taken Refusal) → number_of x ≡ refusal → IsErrAnd w (λ u. u ≡ x) → Answers ready view call n m area (given_of n w) m area
+  notice_refused x w g = refused_by call n m area true (sym z) refl x w (g ∙ refusal_is)
 
-  module _ (z : k ≡ 0) where
-    r : Ready n m
-    r = is_ready n m t e f
+  r : Ready n m
+  r = is_ready n m true (sym z) refl
 
-    again : ready n m ≡ true
-    again = sym e ∙ not-false t f
+  pub start_low_lem : start ≤ 281474976710655
+  start_low_lem = r.start_low_lem
+
+  pub long : node_words ≤ length m
+  long = r.long
+
+  pub filter_room : (n.id.0 < n.population) × (n.population ≤ 64) × (n.bodega_conf.count ≤ 64) × (roster_words ≤ length (take roster_words (drop rows_at m)))
+  filter_room = (r.own, r.few, r.ranges, omega (arith, rows_long m r.long))
+
+  module _ (g : 0 ≡ refusal) where
+    number_is : 0 ≡ lowest (grounds (view n m) call)
+    number_is = g ∙ refusal_is
 
     below_is : slot < start → effect (view n m) call ≡ machine.done (view n m) []
     unfolding effect handle_msg_accept_notice view
     below_is h = rw (lt-ltb slot start h)
 
-    pub below_start : slot < start → Answers ready view call n m area (record { number = 0; count = 0; node = n }) m area
-    below_start h = taken_by call n m area t e f k number_is z (view n m) n m (below_is h) refl refl (λ j l. refl) again
+    pub below_start : slot < start → Answers ready view call n m area (given_of n (Ok (record { node = n; count = 0 }))) m area
+    below_start h = taken_by call n m number_is area true (sym z) refl (view n m) n m (below_is h) refl refl (λ j l. refl) z
 
     module _ (h : start ≤ slot) where
       -- a higher ballot
-      module _ (a : seen < b.0) (led : Bool) (x : led ≡ leads_it leader n.id.0) (u : Bool) (area' : List ℕ) (w : StepsDown led area u area') where
+      module _ (a : seen < b.0) (led : Bool) (x : led ≡ leads_it leader n.id.0) where
         abbrev demoted : machine.Replica
         demoted = machine.with_max_seen b.0 (machine.with_conf (into_filtered n.id.0 (view n m).conf) (view n m))
 
@@ -219,29 +174,27 @@ module _ (n : Node) (m area : List ℕ) (peer slot : ℕ) (b : Ballot) (t : Bool
         unfolding effect handle_msg_accept_notice check_ballot view roster_of
         higher_is = rw (le-ltb slot start h, lt-ltb seen b.0 a) (ap (λ (l : Bool). machine.done demoted (step_down l)) (sym x))
 
-        pub higher_20 : not u ≡ true → Answers ready view call n m area (record { number = 20; count = 0; node = n }) m area'
-        higher_20 q =
-            let no : u ≡ false = not-true u q in
-            let few : places area < length (step_down led) = leb-false (length (step_down led)) (places area) (sym w.room ∙ no) in
-            rw (w.refused no) (few_places call n m area t e f k number_is z (rw higher_is few))
+        pub higher_20 : (q : Refusal) (w : Result Taken Refusal) (area' : List ℕ) → StepsDown led area (Err q) area' → IsErrAnd w (λ u. u ≡ q) → Answers ready view call n m area (given_of n w) m area'
+        higher_20 q (Ok w) area' s e = absurd e
+        higher_20 q (Err w) area' s e = rw (e, s.0, s.2) (few_places call n m number_is area true (sym z) refl (rw higher_is s.1))
 
-        module _ (q : not u ≡ false) (c : RespondersConf) (rows : List ℕ)
+        module _ (c : RespondersConf) (rows : List ℕ)
             (v : (roster_of c rows ≡ into_filtered n.id.0 (roster_of n.bodega_conf (take roster_words (drop rows_at m)))) × (c.count ≤ 64) × (length rows ≡ length (take roster_words (drop rows_at m)))) where
           abbrev d : Node
           d = stepped n c b
 
-          long : length rows ≡ roster_words
-          long = v.2 ∙ rows_long m r.long
+          size : length rows ≡ roster_words
+          size = v.2 ∙ rows_long m r.long
 
           roster_back : view d (splice m rows_at roster_words rows) ≡ demoted
           unfolding view part
-          roster_back = rows_back d m r.long rows long ∙ ap (λ (o : Conf). machine.with_conf o (view d m)) v.0
+          roster_back = rows_back d m r.long rows size ∙ ap (λ (o : Conf). machine.with_conf o (view d m)) v.0
 
           ready_d : ready d (splice m rows_at roster_words rows) ≡ true
           ready_d =
               made_ready d (splice m rows_at roster_words rows)
               (record {
-                long = rw (rows_size_lem n m r.long rows long) r.long;
+                long = rw (rows_size_lem n m r.long rows size) r.long;
                 quorate = r.quorate;
                 enough = r.enough;
                 few = r.few;
@@ -254,12 +207,11 @@ module _ (n : Node) (m area : List ℕ) (peer slot : ℕ) (b : Ballot) (t : Bool
                 commit_end_lem = r.commit_end_lem;
               })
 
-          pub higher_taken : (count : ℕ) → count ≡ length (step_down led) → Answers ready view call n m area (record { number = 0; count = count; node = d }) (splice m rows_at roster_words rows) area'
-          higher_taken count l =
-              let yes : u ≡ true = not-false u q in
-              rw l
-              (taken_with call n m area t e f k number_is z demoted (step_down led) d (splice m rows_at roster_words rows) area' higher_is
-              (leb-true (length (step_down led)) (places area) (sym w.room ∙ yes)) roster_back (w.taken yes) (rows_size_lem n m r.long rows long) (rows_beyond n m r.long rows long) ready_d)
+          pub higher_taken : (count : ℕ) (area' : List ℕ) → StepsDown led area (Ok count) area' → Answers ready view call n m area (given_of n (Ok (record { node = d; count = count }))) (splice m rows_at roster_words rows) area'
+          higher_taken count area' s =
+              rw s.0
+              (taken_with call n m number_is area true (sym z) refl demoted (step_down led) d (splice m rows_at roster_words rows) area' higher_is
+              (rw (← s.0) s.1) roster_back s.2 (rows_size_lem n m r.long rows size) (rows_beyond n m r.long rows size) ready_d)
 
       -- none higher
       module _ (a : b.0 ≤ seen) where
@@ -269,12 +221,12 @@ module _ (n : Node) (m area : List ℕ) (peer slot : ℕ) (b : Ballot) (t : Bool
             rw (le-ltb slot start h, le-ltb seen b.0 a)
             (ap (λ (c : Bool). if c then noticed (machine.pad slot (view n m)) peer slot b.0 else machine.done (view n m) []) (sym y))
 
-        pub other_taken : not cur ≡ true → Answers ready view call n m area (record { number = 0; count = 0; node = n }) m area
+        pub other_taken : cur ≡ false → Answers ready view call n m area (given_of n (Ok (record { node = n; count = 0 }))) m area
         other_taken q =
-            taken_by call n m area t e f k number_is z (view n m) n m
-            (handled_by ∙ ap (λ (c : Bool). if c then noticed (machine.pad slot (view n m)) peer slot b.0 else machine.done (view n m) []) (not-true cur q)) refl refl (λ j l. refl) again
+            taken_by call n m number_is area true (sym z) refl (view n m) n m
+            (handled_by ∙ ap (λ (c : Bool). if c then noticed (machine.pad slot (view n m)) peer slot b.0 else machine.done (view n m) []) q) refl refl (λ j l. refl) z
 
-        module _ (q : not cur ≡ false) where
+        module _ (q : cur ≡ true) where
           abbrev i : ℕ
           i = slot - start
 
@@ -284,21 +236,21 @@ module _ (n : Node) (m area : List ℕ) (peer slot : ℕ) (b : Ballot) (t : Bool
           noticed_here : effect (view n m) call ≡ machine.done (machine.with_insts due.insts (view n m)) due.items
           unfolding view roster_of part
           noticed_here =
-              handled_by ∙ ap (λ (c : Bool). if c then noticed (machine.pad slot (view n m)) peer slot b.0 else machine.done (view n m) []) (not-false cur q)
+              handled_by ∙ ap (λ (c : Bool). if c then noticed (machine.pad slot (view n m)) peer slot b.0 else machine.done (view n m) []) q
               ∙ noticed_is (view n m) peer slot b.0 h
 
           in_window : slot < start + window
           unfolding grounds view roster_of
           in_window =
-              let no : cur && leb (start + window) slot ≡ false = ap (λ (c : Bool). c && leb (start + window) slot) y ∙ (none_applies call n m k number_is z).1.1.0 in
-              leb-false (start + window) slot (ap (λ (c : Bool). c && leb (start + window) slot) (sym (not-false cur q)) ∙ no)
+              let no : cur && leb (start + window) slot ≡ false = ap (λ (c : Bool). c && leb (start + window) slot) y ∙ (none_applies call n m number_is).1.1.0 in
+              leb-false (start + window) slot (ap (λ (c : Bool). c && leb (start + window) slot) (sym q) ∙ no)
 
           pub due_room : (start ≤ 281474976710655) × (n.slots ≤ slot_places) × (i < slot_places) × (slot_words ≤ length (take slot_words (drop slots_at m)))
           due_room = (r.start_low_lem, r.window, omega (arith, in_window), omega (arith, slots_long m r.long))
 
           module _ (many : ℕ) (l : (o : Option ℕ) → many ≡ length (noticed_at n.quorum o peer b.0 i (insts_of start n.slots (take slot_words (drop slots_at m)))).items) where
-            pub notice_20 : length area / 6 < many → Answers ready view call n m area (record { number = 20; count = 0; node = n }) m area
-            notice_20 o = few_places call n m area t e f k number_is z (rw (noticed_here, ← l leader) o)
+            pub notice_20 : length area / 6 < many → Answers ready view call n m area (given_of n (Err AreaTooSmall)) m area
+            notice_20 o = few_places call n m number_is area true (sym z) refl (rw (noticed_here, ← l leader) o)
 
             module _ (o : many ≤ length area / 6) where
               room : length due.items ≤ places area
@@ -339,8 +291,8 @@ module _ (n : Node) (m area : List ℕ) (peer slot : ℕ) (b : Ballot) (t : Bool
                       commit_end_lem = omega (arith, w.0, v, r.commit_end_lem);
                     })
 
-                pub notice_taken : Answers ready view call n m area (record { number = 0; count = count; node = d' }) (splice m slots_at slot_words s') area'
+                pub notice_taken : Answers ready view call n m area (given_of n (Ok (record { node = d'; count = count }))) (splice m slots_at slot_words s') area'
                 notice_taken =
                     rw x.count
-                    (taken_with call n m area t e f k number_is z (machine.with_insts due.insts (view n m)) due.items d' (splice m slots_at slot_words s') area' noticed_here
+                    (taken_with call n m number_is area true (sym z) refl (machine.with_insts due.insts (view n m)) due.items d' (splice m slots_at slot_words s') area' noticed_here
                     room slots_here x.items (slots_size n m r.long s' long') (slots_beyond n m r.long s' long') ready_d')

@@ -1,8 +1,10 @@
 -- Bridge: *notice*, what the code tests, and a leader that steps down; tied to `grounds` and `check_ballot` by
 -- proofs/Laws.
-use Rattle.std.specs.Prelude.{◌≡◌, Bool, true, false, ◌&&◌, List, [], ◌∷◌, ℕ, ◌+◌, ltb, leb, length, if◌then◌else◌}
+use Rattle.std.specs.Prelude.{◌≡◌, Bool, false, ◌&&◌, List, [], ◌∷◌, ℕ, ◌+◌, ◌≤◌, ◌<◌, ltb, leb, length, if◌then◌else◌, Result, Ok, Err}
 use Rattle.words.specs.Writes.{writes}
 use Rattle.ids.specs.Limits.{window, top}
+use Rattle.ids.specs.declared.Refusal.{Refusal}
+use Rattle.ids.specs.declared.Refusal.TheVariants.{AreaTooSmall}
 use Rattle.items.specs.Item.{Item, Lead, encode, places}
 use Rattle.roster_conf.specs.Ground.{◌when◌or◌}
 use Rattle.node.specs.View.{lowest}
@@ -16,7 +18,6 @@ notice_refusal population current start peer slot =
 abbrev pub step_down : Bool → List Item
 step_down led = if led then Lead false ∷ [] else []
 
-pub record StepsDown (led : Bool) (area : List ℕ) (r : Bool) (area' : List ℕ) : Type 0 where
-  pub room : r ≡ leb (length (step_down led)) (places area)
-  pub taken : r ≡ true → area' ≡ writes area 0 (encode (step_down led))
-  pub refused : r ≡ false → area' ≡ area
+abbrev pub StepsDown : Bool → List ℕ → Result ℕ Refusal → List ℕ → Type 0
+StepsDown led area (Ok k) area' = (k ≡ length (step_down led)) × (k ≤ places area) × (area' ≡ writes area 0 (encode (step_down led)))
+StepsDown led area (Err x) area' = (x ≡ AreaTooSmall) × (places area < length (step_down led)) × (area' ≡ area)

@@ -10,26 +10,29 @@ ghost use Rattle.roster_conf.specs.Edits.{view as roster_of};
 ghost use Rattle.bodega.specs.Replica.{Notice};
 ghost use Rattle.bodega.specs.Answers.{Answers};
 ghost use Rattle.node.specs.View.{view, ready, given_of, leads_it};
-ghost use Rattle.call_notice.specs.Notice.{notice_refusal, step_down, StepsDown};
+ghost use Rattle.call_notice.specs.Notice.{notice_refusal, StepsDown};
 ghost use Rattle.ids.specs.Refusal.{refused_by};
 
 use ids::{Ballot, Refusal, Replica, Slot};
 use items::Item;
-use node::{Taken, Node};
+use node::{Node, Taken};
 use roster_conf::RespondersConf;
 
 // Whether a notice is of the ballot of a replica that does not lead.
 fn is_current(node: Node, ballot: Ballot) -> bool
     ensures { result ≡ not (leads_it (leader_of node.bodega_conf.leader) node.id.0) && eqb ballot.0 node.bal_max_seen.0 }
 {
-    if node::is_leader(node) {
-        return false;
-    }
-    ballot.0 == node.bal_max_seen.0
+    !node::is_leader(node) && ballot == node.bal_max_seen
 }
 
-// The number of a notice's refusal but 20, 0 where there is none.
-fn notice_refusal(population: u8, current: bool, start: Slot, peer: Replica, slot: Slot) -> Result<(), Refusal>
+// Refusals 3, 8 and 15.
+fn notice_refusal(
+    population: u8,
+    current: bool,
+    start: Slot,
+    peer: Replica,
+    slot: Slot,
+) -> Result<(), Refusal>
     requires { start.0 ≤ top }
     ensures { refused_by result ≡ notice_refusal population current start.0 peer.0 slot.0 }
 {
@@ -39,10 +42,7 @@ fn notice_refusal(population: u8, current: bool, start: Slot, peer: Replica, slo
     if Slot::TOP < slot {
         return Err(Refusal::SlotTooLarge);
     }
-    if !current {
-        return Ok(());
-    }
-    if start.0 + Node::WINDOW as u64 <= slot.0 {
+    if current && start.0 + Node::WINDOW as u64 <= slot.0 {
         return Err(Refusal::WindowFull);
     }
     Ok(())
@@ -53,30 +53,20 @@ fn filtered(conf: RespondersConf, rows: &mut [u64], population: u8, id: Replica)
     requires { (id.0 < population) × (population ≤ 64) × (conf.count ≤ 64) × (roster_words ≤ length rows.old) }
     ensures { (roster_of result rows.new ≡ into_filtered id.0 (roster_of conf rows.old)) × (result.count ≤ 64) × (length rows.new ≡ length rows.old) }
 {
-    let edited = conf.into_filtered(rows, population, id);
-    match edited {
-        Ok(d) => d,
-        Err(_n) => conf,
-    }
+    conf.into_filtered(rows, population, id).unwrap_or(conf)
 }
 
-// A leader says that it steps down; false, and the area as it was, where there is no place.
-fn put_lead(area: &mut [u64], led: bool) -> bool
+// A leader says that it steps down; how many items that has, or the area as it was where there is no place.
+fn put_lead(area: &mut [u64], led: bool) -> Result<usize, Refusal>
     ensures { StepsDown led area.old result area.new }
 {
     if !led {
-        return true;
+        return Ok(0);
     }
-    items::put_item(area, 0, Item::Lead(false))
-}
-
-fn lead_count(led: bool) -> usize
-    ensures { result ≡ length (step_down led) }
-{
-    if led {
-        return 1;
+    if !items::put_item(area, 0, Item::Lead(false)) {
+        return Err(Refusal::AreaTooSmall);
     }
-    0
+    Ok(1)
 }
 
 pub fn notice(
@@ -92,44 +82,37 @@ pub fn notice(
     if !node::is_ready(node, mem) {
         return Err(Refusal::NotReady);
     }
-    let conf = node.bodega_conf;
-    let leader = conf.leader;
-    let id = node.id;
-    let seen = node.bal_max_seen;
     let start = node.start_slot;
     let current = is_current(node, ballot);
     notice_refusal(node.population, current, start, peer, slot)?;
-    if slot.0 < start.0 {
+    if slot < start {
         return Ok(Taken { node, count: 0 });
     }
-    if seen.0 < ballot.0 {
-        let led = node::is_leader(node);
-        if !put_lead(area, led) {
-            return Err(Refusal::AreaTooSmall);
-        }
-        let without = filtered(
-            conf,
+    if node.bal_max_seen < ballot {
+        let count = put_lead(area, node::is_leader(node))?;
+        let bodega_conf = filtered(
+            node.bodega_conf,
             &mut mem[layout::ROWS_AT..layout::SLOTS_AT],
             node.population,
-            id,
+            node.id,
         );
-        let mut next = node;
-        next.bodega_conf = without;
-        next.bal_max_seen = ballot;
-        return Ok(Taken { node: next, count: lead_count(led) });
+        let node = Node {
+            bodega_conf,
+            bal_max_seen: ballot,
+            ..node
+        };
+        return Ok(Taken { node, count });
     }
     if !current {
         return Ok(Taken { node, count: 0 });
     }
     let k = (slot.0 - start.0) as usize;
-    let held = node.slots;
-    let quorum = node.quorum;
     let due = accept_notice_at::due(
         &mem[layout::SLOTS_AT..layout::WRITTEN_AT],
         start,
-        held,
+        node.slots,
         k,
-        quorum,
+        node.quorum,
         peer,
         ballot,
     );
@@ -139,15 +122,17 @@ pub fn notice(
     let count = accept_notice_at::notice_at(
         &mut mem[layout::SLOTS_AT..layout::WRITTEN_AT],
         start,
-        held,
+        node.slots,
         k,
-        quorum,
-        leader,
+        node.quorum,
+        node.bodega_conf.leader,
         peer,
         ballot,
         area,
     );
-    let mut next = node;
-    next.slots = accept_notice_at::held_after(held, k);
-    Ok(Taken { node: next, count: count })
+    let slots = accept_notice_at::held_after(node.slots, k);
+    Ok(Taken {
+        node: Node { slots, ..node },
+        count,
+    })
 }
