@@ -1,5 +1,5 @@
 -- What the steps of the program leave, with the premises as the code has them.
-use Rattle.std.specs.Prelude.{◌≡◌, Bool, true, false, List, [], ◌∷◌, ◌++◌, ℕ, zero, suc, ◌≤◌, ◌<◌, length, take, drop, ℤ, pos, negsuc}
+use Rattle.std.specs.Prelude.{◌≡◌, Bool, true, false, List, [], ◌∷◌, ◌++◌, ℕ, zero, suc, ◌≤◌, ◌<◌, length, take, drop, ℤ, pos, negsuc, Option, Result}
 use Rattle.std.proofs.Common.{arith, take_at}
 use Rattle.std.proofs.Math.Seq.{length-take-le}
 use Rattle.words.specs.Text.{Bytes}
@@ -10,7 +10,7 @@ use Rattle.stream_turns.specs.declared.Stream.{Stream}
 use Rattle.stream_turns.specs.declared.TurnResult.{TurnResult}
 use Rattle.stream_turns.specs.Turn.{Begins, TurnLeaves}
 use Rattle.stream_turns.specs.TurnList as spec
-use Rattle.replay.specs.declared.Filled.{Filled}
+use Rattle.replay.specs.declared.Failure.{Failure}
 use Rattle.replay.specs.Reads.{filled_as, Filling}
 use Rattle.replay.specs.Steps.{Stands, TurnsSoFar, Steps}
 
@@ -19,7 +19,7 @@ pub before_part : (s : List ℕ) (a n : ℕ) (m : List ℕ) → a < length s →
 before_part s a n m h = take_at (take a s) (m ++ drop n (drop a s)) a (length-take-le a s (omega arith))
 
 -- whatever a read came to, the bytes that were kept stand as they were
-pub filling : (z : ℤ) (interrupted : Bool) (have end : ℕ) (r : Filled) (buf buf' : Bytes) → r ≡ filled_as z interrupted have end → have ≤ end → end ≤ length buf' → take have buf' ≡ take have buf → Filling buf have r buf'
+pub filling : (z : ℤ) (interrupted : Bool) (have end : ℕ) (r : Result (Option ℕ) Failure) (buf buf' : Bytes) → r ≡ filled_as z interrupted have end → have ≤ end → end ≤ length buf' → take have buf' ≡ take have buf → Filling buf have r buf'
 unfolding filled_as
 filling z interrupted have end r buf buf' e h g s = rw e (go z interrupted)
   where

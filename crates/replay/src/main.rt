@@ -5,7 +5,7 @@
 // on standard error and by its status. After a read that failed, the line that has begun is not answered.
 #![tactic(auto)]
 
-ghost use Rattle.std.specs.Prelude.{◌≡◌, ◌↔◌, true, false, ◌≤◌, ◌<◌, length, IfOk, MatchResult, IsTrue};
+ghost use Rattle.std.specs.Prelude.{◌≡◌, ◌↔◌, true, false, ◌≤◌, ◌<◌, length, IfOk, IfSome, MatchResult, IsTrue};
 ghost use Rattle.std.specs.IoError.{error_kind};
 ghost use Rattle.layout.specs.Layout.{roster_words, node_words};
 ghost use Rattle.replay.specs.Reads.{answered, filled_as, Filling};
@@ -14,7 +14,14 @@ ghost use Rattle.replay.specs.Steps.{Stands, Steps};
 use std::io::{ErrorKind, Read, Stdin, Stdout};
 use std::process::ExitCode;
 use std::{fmt, io};
+use line_buffers::{GROUP_WORDS, ITEM_WORDS, LINE_BYTES, TEXT_BYTES, blank};
 use stream_turns::Stream;
+
+// Room for a piece of 64 KB behind the start of a line.
+const PIECE_BYTES: usize = LINE_BYTES + 65536;
+
+// Room for many answers and then any one more, so that writes are few.
+const ANSWERS_BYTES: usize = 3 * TEXT_BYTES;
 
 // What the program ends early for.
 #[derive(Clone, Copy)]
@@ -32,29 +39,11 @@ impl fmt::Display for Failure {
     }
 }
 
-// What a read brought: the bytes of the buffer now end there, the input has ended, or the read failed.
-#[derive(Clone, Copy)]
-enum Filled {
-    Piece(usize),
-    Ended,
-    Failed,
-}
-
-// Where the stream stands, and whether the program goes on.
-#[derive(Clone, Copy)]
-struct Next {
-    stream: Stream,
-    on: bool,
-}
-
 // Writes what is used of the output.
 fn flush(output: Stdout, out: &[u8], used: usize) -> Result<(), Failure>
     requires { used ≤ length out.now }
 {
-    if output.write_all(&out[0..used]).is_err() {
-        return Err(Failure::Write);
-    }
-    Ok(())
+    output.write_all(&out[..used]).map_err(|_| Failure::Write)
 }
 
 // Whether a signal interrupted a read that failed.
@@ -67,26 +56,27 @@ fn was_interrupted(got: io::Result<usize>) -> bool
     }
 }
 
-// What a read that answered `got` brought: the bytes ended at `have` before it, and if it got any, end at `end`. One
-// that a signal interrupted is a piece without bytes.
+// What a read that answered `got` brought: the bytes ended at `have` before it, and if it got any, end at `end`; None
+// is the input's end. A read that a signal interrupted is a piece without bytes.
 #[tactic(auto, unfolding(crate::specs::Reads::filled_as))]
-fn outcome(got: io::Result<usize>, interrupted: bool, have: usize, end: usize) -> Filled
+fn outcome(
+    got: io::Result<usize>,
+    interrupted: bool,
+    have: usize,
+    end: usize,
+) -> Result<Option<usize>, Failure>
     ensures { result ≡ filled_as (answered got) interrupted have end }
 {
-    let Ok(count) = got else {
-        if interrupted {
-            return Filled::Piece(have);
-        }
-        return Filled::Failed;
-    };
-    if count == 0 {
-        return Filled::Ended;
+    match got {
+        Ok(0) => Ok(None),
+        Ok(_) => Ok(Some(end)),
+        Err(_) if interrupted => Ok(Some(have)),
+        Err(_) => Err(Failure::Read),
     }
-    Filled::Piece(end)
 }
 
-// Reads a piece behind the bytes that were kept.
-fn fill(mut input: Stdin, buf: &mut [u8], have: usize) -> Filled
+// Reads a piece behind the bytes that were kept, and says where the bytes end then; None where the input has ended.
+fn fill(mut input: Stdin, buf: &mut [u8], have: usize) -> Result<Option<usize>, Failure>
     requires { have < length buf.old }
     ensures { Filling buf.old have result buf.new }
 {
@@ -108,50 +98,38 @@ fn step(
     area: &mut [u64],
     groups: &mut [u64],
     out: &mut [u8],
-) -> Result<Next, Failure>
+) -> Result<Option<Stream>, Failure>
     requires { Stands from buf.old mem.old rows.old area.old groups.old × (1025 ≤ length buf.old) × (65536 ≤ length out.old) }
-    ensures { IfOk result (λ next. next.on ≡ true → Steps from buf.old mem.old rows.old next.stream buf.new mem.new rows.new area.new groups.new) }
+    ensures { IfOk result (λ next. IfSome next (λ stream. Steps from buf.old mem.old rows.old stream buf.new mem.new rows.new area.new groups.new)) }
 {
     if from.more {
         let turned = stream_turns::turn(buf, from, mem, rows, area, groups, out);
         flush(output, out, turned.used)?;
-        let stream = turned.stream;
-        return Ok(Next { stream, on: true });
+        return Ok(Some(turned.stream));
     }
-    let have = from.end;
-    let place = from.place;
-    match fill(input, buf, have) {
-        Filled::Piece(end) => Ok(Next {
-            stream: Stream {
-                place,
-                end,
-                more: true,
-            },
-            on: true,
-        }),
-        Filled::Ended => {
-            let said = stream_events::last_line(
-                place.state,
-                mem,
-                rows,
-                area,
-                groups,
-                place.long,
-                &buf[0..have],
-                out,
-            );
-            flush(output, out, said.end)?;
-            Ok(Next {
-                stream: from,
-                on: false,
-            })
-        }
-        Filled::Failed => Err(Failure::Read),
+    if let Some(end) = fill(input, buf, from.end)? {
+        return Ok(Some(Stream {
+            end,
+            more: true,
+            ..from
+        }));
     }
+    let said = stream_events::last_line(
+        from.place.state,
+        mem,
+        rows,
+        area,
+        groups,
+        from.place.long,
+        &buf[..from.end],
+        out,
+    );
+    flush(output, out, said.end)?;
+    Ok(None)
 }
 
-// A proved loop has to end, and nothing says that the input does: so it counts its steps down, from a number that no
-// run uses up.
+// A proved loop has to end, and nothing says that the input does: so it counts its steps, up to a number that no run
+// reaches.
 fn run(
     input: Stdin,
     output: Stdout,
@@ -164,37 +142,23 @@ fn run(
 ) -> Result<(), Failure>
     requires { (1025 ≤ length buf.old) × (node_words ≤ length mem.old) × (roster_words ≤ length rows.old) × (length area.old ≡ 3276) × (1542 ≤ length groups.old) × (65536 ≤ length out.old) }
 {
-    let stream = Stream::fresh();
-    let mut s = Next { stream, on: true };
-    let mut steps = u64::MAX;
-    while steps > 0 && s.on {
-        s = step(input, output, buf, s.stream, mem, rows, area, groups, out)?;
-        steps -= 1;
+    let mut stream = Stream::fresh();
+    for _ in 0..u64::MAX {
+        let Some(next) = step(input, output, buf, stream, mem, rows, area, groups, out)? else {
+            break;
+        };
+        stream = next;
     }
     Ok(())
 }
 
-// Room for a piece of 64 KB behind the start of a line.
-fn piece_space() -> [u8; 66560]
-    ensures { 66560 ≡ length result }
-{
-    [0; 66560]
-}
-
-// Room for many answers and then any one more, so that writes are few.
-fn text_space() -> [u8; 196608]
-    ensures { 196608 ≡ length result }
-{
-    [0; 196608]
-}
-
 fn main(rt: HostRuntime) -> ExitCode {
-    let mut buf = piece_space();
-    let mut mem = line_buffers::node_words();
-    let mut rows = line_buffers::draft_rows();
-    let mut area = line_buffers::item_area();
-    let mut groups = line_buffers::group_words();
-    let mut out = text_space();
+    let mut buf: [u8; PIECE_BYTES] = blank();
+    let mut mem: [u64; layout::NODE_WORDS] = blank();
+    let mut rows: [u64; layout::ROSTER_WORDS] = blank();
+    let mut area: [u64; ITEM_WORDS] = blank();
+    let mut groups: [u64; GROUP_WORDS] = blank();
+    let mut out: [u8; ANSWERS_BYTES] = blank();
     let ran = run(
         rt.stdin(),
         rt.stdout(),

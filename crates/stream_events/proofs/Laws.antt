@@ -4,7 +4,7 @@ use mathlib.Core.Path.{◌≡◌, refl, sym, ap, ◌∙◌}
 use mathlib.Core.Bool.{Bool, true, false, ◌||◌, true≢false}
 use mathlib.Core.List.{List, [], ◌∷◌, ◌++◌}
 use Rattle.std.specs.Prelude.{Option, None, Some}
-use Prim.Native.Nat.{ℕ, ◌+◌, ◌-◌, ◌*◌, ◌^◌, ◌≤◌, ◌<◌}
+use Prim.Native.Nat.{ℕ, ◌+◌, ◌-◌, ◌*◌, ◌^◌, ◌≤◌, ◌<◌, min}
 use native.Mathlib.Nat.{zero-add, suc-add}
 use native.Mathlib.Omega.{arith}
 use lib.ListN.{length, set, take, drop, length-set, length-drop}
@@ -12,7 +12,7 @@ use lib.Seq.{length-take-le, set-append_left}
 use lib.Dec.{ltb}
 use mir.Syntax.{w64}
 use mir.Val.{Fits}
-use borrow.Author.Tests.{lt-ltb, le-ltb, le-leb, eq-eqb}
+use borrow.Author.Tests.{ltb-true, ltb-false, le-leb, eq-eqb}
 use Rattle.layout.specs.Layout.{node_words}
 use Rattle.words.specs.Text.{Bytes}
 use Rattle.words.specs.Part.{splice, splice_same}
@@ -29,7 +29,7 @@ use Rattle.line_answer.specs.Wrote.{Answered}
 use Rattle.line_host.specs.declared.Host as code
 use Rattle.line_host.specs.Line.{Line, NodeLine, EditLine, ShowLine, HeardLine, CallLine, line_of}
 use Rattle.line_host.specs.Host.{Host, fresh_host, Outcome, Refusal, Items, LineResult, called, edited, line_at, first_line, at_host, answer_line, text_of}
-use Rattle.line_host.specs.Follows.{host_of, sound, LineFollowsBy}
+use Rattle.line_host.specs.Follows.{host_of, sound, line_given, LineFollowsBy}
 use Rattle.line_event.specs.declared.LineAnswer.{LineAnswer}
 use Rattle.line_event.specs.Event.{whole, fit, due, AnswersEvent}
 use Rattle.stream_pieces.specs.Pieces.{before}
@@ -42,11 +42,12 @@ use Rattle.stream_events.specs.Lines.{State, start, bumped, result_of, line_outp
 use Rattle.stream_events.specs.Fed.{Lent, state_of, WritesLine, WritesLastLine, WritesLines}
 
 -- ---- the number of the next line
-pub bump_more : (n : ℕ) → n < 18446744073709551615 → n + 1 ≡ bumped n
-bump_more n h = sym (simp (lt-ltb n 18446744073709551615 h))
-
-pub bump_top : (n : ℕ) → 18446744073709551615 ≤ n → n ≡ bumped n
-bump_top n h = sym (simp (le-ltb n 18446744073709551615 h))
+pub counted : (n m : ℕ) → n < 2 ^ 64 → m ≡ min (n + 1) (2 ^ 64 - 1) → m ≡ bumped n
+counted n m h e = go (ltb n (2 ^ 64 - 1)) refl
+  where
+    go : (t : Bool) → ltb n (2 ^ 64 - 1) ≡ t → m ≡ bumped n
+    go true p = let k : n < 2 ^ 64 - 1 = ltb-true n (2 ^ 64 - 1) p in simp p (omega arith)
+    go false p = let k : 2 ^ 64 - 1 ≤ n = ltb-false n (2 ^ 64 - 1) p in simp p (omega arith)
 
 -- ---- before the first line
 pub fresh_state : (h : code.Host) (mem rows : List ℕ) → host_of h mem rows ≡ fresh_host → state_of (record { host = h; number = 1 }) mem rows ≡ start
@@ -122,23 +123,23 @@ module _ (h : code.Host) (mem rows area groups : List ℕ) (n : ℕ) (line out :
   is_due = rw fits
 
   module _ (r : LineAnswer) (mem' rows' area' groups' : List ℕ) (out' : Bytes) (tells : AnswersEvent h mem rows area groups n line out r mem' rows' area' groups' out') where
-    acts : LineFollowsBy (answer_line (host_of h mem rows) line).host (answer_line (host_of h mem rows) line).outcome h mem rows area r.acted mem' rows' area'
+    acts : LineFollowsBy (answer_line (host_of h mem rows) line).host (answer_line (host_of h mem rows) line).outcome h mem rows area (line_given h r.acted) mem' rows' area'
     acts = rw is_due at tells.acts
 
-    next_host : host_of r.acted.host mem' rows' ≡ (answer_line (host_of h mem rows) line).host
+    next_host : host_of (line_given h r.acted).host mem' rows' ≡ (answer_line (host_of h mem rows) line).host
     next_host = go (answer_line (host_of h mem rows) line).outcome refl acts
       where
-        go : (a : Outcome) → (answer_line (host_of h mem rows) line).outcome ≡ a → LineFollowsBy (answer_line (host_of h mem rows) line).host a h mem rows area r.acted mem' rows' area' → host_of r.acted.host mem' rows' ≡ (answer_line (host_of h mem rows) line).host
+        go : (a : Outcome) → (answer_line (host_of h mem rows) line).outcome ≡ a → LineFollowsBy (answer_line (host_of h mem rows) line).host a h mem rows area (line_given h r.acted) mem' rows' area' → host_of (line_given h r.acted).host mem' rows' ≡ (answer_line (host_of h mem rows) line).host
         go (Refusal k) e x = rw (x.same_host, x.same_mem, x.same_rows) (sym (heard_stays (host_of h mem rows) line k e))
         go (Items l) e x = x.host
 
-    lent_again : Lent r.acted.host mem' rows' area' groups'
+    lent_again : Lent (line_given h r.acted).host mem' rows' area' groups'
     lent_again = go (answer_line (host_of h mem rows) line).outcome acts
       where
         more : 1542 ≤ length groups'
         more = omega (arith, lent.groups_size, tells.groups_size)
 
-        go : (a : Outcome) → LineFollowsBy (answer_line (host_of h mem rows) line).host a h mem rows area r.acted mem' rows' area' → Lent r.acted.host mem' rows' area' groups'
+        go : (a : Outcome) → LineFollowsBy (answer_line (host_of h mem rows) line).host a h mem rows area (line_given h r.acted) mem' rows' area' → Lent (line_given h r.acted).host mem' rows' area' groups'
         go (Refusal k) x = record {
           is_sound = rw (x.same_host, x.same_mem, x.same_rows) lent.is_sound;
           area_size = rw x.same_area lent.area_size;
@@ -156,16 +157,16 @@ module _ (c : LineState) (mem rows area groups : List ℕ) (line out : Bytes) (l
       record { next = rw (l, b); text = rw l (record { end = w.end; bytes = w.bytes; short = omega (arith, w.short) }); lent = lent }
 
   -- none were
-  pub says_heard : (r : LineAnswer) (mem' rows' area' groups' : List ℕ) (out' : Bytes) → 65536 ≤ length out → long ≡ false → AnswersEvent c.host mem rows area groups c.number line out r mem' rows' area' groups' out'
-      → WritesLine c mem rows (record { long = long; line = line }) out (record { state = record { host = r.acted.host; number = m }; end = r.end }) mem' rows' area' groups' out'
+  pub says_heard : (r : LineAnswer) (k : code.Host) (mem' rows' area' groups' : List ℕ) (out' : Bytes) → 65536 ≤ length out → long ≡ false → k ≡ (line_given c.host r.acted).host → AnswersEvent c.host mem rows area groups c.number line out r mem' rows' area' groups' out'
+      → WritesLine c mem rows (record { long = long; line = line }) out (record { state = record { host = k; number = m }; end = r.end }) mem' rows' area' groups' out'
   unfolding line_output result_of state_of
-  says_heard r mem' rows' area' groups' out' room l t =
+  says_heard r k mem' rows' area' groups' out' room l z t =
       let w : Wrote out 0 (text_of c.number (answer_line (host_of c.host mem rows) line).outcome) 65536 r.end out' =
       rw (is_due c.host mem rows area groups c.number line out lent room) at (t.text room) in
       record {
-        next = rw (l, b, next_host c.host mem rows area groups c.number line out lent room r mem' rows' area' groups' out' t);
+        next = rw (l, b, z, next_host c.host mem rows area groups c.number line out lent room r mem' rows' area' groups' out' t);
         text = rw l w;
-        lent = lent_again c.host mem rows area groups c.number line out lent room r mem' rows' area' groups' out' t;
+        lent = rw z (lent_again c.host mem rows area groups c.number line out lent room r mem' rows' area' groups' out' t);
       }
 
 -- ---- the output after an answer was written from used on
@@ -193,43 +194,43 @@ module _ (s : List ℕ) (a n : ℕ) (h : a + n ≤ length s) where
       splice_writes (take n (drop a s)) 0 vs (omega arith) ∙ (ap (λ (y : List ℕ). writes y (a + 0) vs) (splice_same s a n) ∙ ap (λ (k : ℕ). writes s k vs) e)
 
 -- ---- the turns of feed
-pub record Inv (piece : Bytes) (s₀ : State) (long₀ : Bool) (at₀ : ℕ) (out₀ : Bytes) (mem rows area groups : List ℕ) (out : Bytes) (state : LineState) (at : ℕ) (long : Bool) (used : ℕ) : Type 0 where
-  pub answered : record { bytes = out; used = used; state = state_of state mem rows; begun = record { long = long; line = [] } } ≡ output_after out₀ 0 (streamed line_output s₀ (record { long = long₀; line = [] }) (take (at - at₀) (drop at₀ piece)))
-  pub order : at₀ ≤ at
-  pub within : at ≤ length piece
+pub record Inv (piece : Bytes) (s₀ : State) (long₀ : Bool) (at₀ : ℕ) (out₀ : Bytes) (mem rows area groups : List ℕ) (out : Bytes) (place : Place) (used : ℕ) : Type 0 where
+  pub answered : record { bytes = out; used = used; state = state_of place.state mem rows; begun = record { long = place.long; line = [] } } ≡ output_after out₀ 0 (streamed line_output s₀ (record { long = long₀; line = [] }) (take (place.at - at₀) (drop at₀ piece)))
+  pub order : at₀ ≤ place.at
+  pub within : place.at ≤ length piece
   pub size : length out ≡ length out₀
   pub held : used ≤ length out₀
-  pub paid : used ≤ 65536 * (at - at₀)
-  pub lent : Lent state.host mem rows area groups
+  pub paid : used ≤ 65536 * (place.at - at₀)
+  pub lent : Lent place.state.host mem rows area groups
 
 pub inv_start : (piece : Bytes) (p : Place) (mem rows area groups : List ℕ) (out : Bytes) → p.at ≤ length piece → Lent p.state.host mem rows area groups
-    → Inv piece (state_of p.state mem rows) p.long p.at out mem rows area groups out p.state p.at p.long 0
+    → Inv piece (state_of p.state mem rows) p.long p.at out mem rows area groups out p 0
 unfolding streamed
 inv_start piece p mem rows area groups out h l =
     let z : p.at - p.at ≡ 0 = omega arith in
     record { answered = rw z; order = omega arith; within = h; size = refl; held = omega arith; paid = omega arith; lent = l }
 
-module _ (piece : Bytes) (s₀ : State) (long₀ : Bool) (at₀ : ℕ) (out₀ : Bytes) (mem rows area groups : List ℕ) (out : Bytes) (state : LineState) (at : ℕ) (long : Bool) (used : ℕ)
-    (i : Inv piece s₀ long₀ at₀ out₀ mem rows area groups out state at long used) (e : ℕ) (f : e ≡ at + before (drop at piece)) (room : 65536 ≤ length out - used) (n : e ≡ length piece → ⊥) where
+module _ (piece : Bytes) (s₀ : State) (long₀ : Bool) (at₀ : ℕ) (out₀ : Bytes) (mem rows area groups : List ℕ) (out : Bytes) (place : Place) (used : ℕ)
+    (i : Inv piece s₀ long₀ at₀ out₀ mem rows area groups out place used) (e : ℕ) (f : e ≡ place.at + before (drop place.at piece)) (room : 65536 ≤ length out - used) (n : e ≡ length piece → ⊥) where
   below : e < length piece
-  below = line_below piece at e i.within f n
+  below = line_below piece place.at e i.within f n
 
   pub feed_part_end : e ≤ length piece
   feed_part_end = omega (arith, below)
 
   module _ (r : LineWritten) (mem' rows' area' groups' : List ℕ) (out' : Bytes)
-      (t : WritesLine state mem rows (record { long = long; line = take (e - at) (drop at piece) }) (take (length out - used) (drop used out)) r mem' rows' area' groups' out') where
+      (t : WritesLine place.state mem rows (record { long = place.long; line = take (e - place.at) (drop place.at piece) }) (take (length out - used) (drop used out)) r mem' rows' area' groups' out') where
     pub feed_fits : length out₀ < 2 ^ 64 → Fits w64 (used + r.end)
     feed_fits h = record { fits = omega (arith, t.text.end, t.text.short, i.size) }
 
-    pub inv_turn : Inv piece s₀ long₀ at₀ out₀ mem' rows' area' groups' (splice out used (length out - used) out') r.state (e + 1) false (used + r.end)
+    pub inv_turn : Inv piece s₀ long₀ at₀ out₀ mem' rows' area' groups' (splice out used (length out - used) out') (record { at = e + 1; state = r.state; long = false }) (used + r.end)
     inv_turn =
-        let text : List ℕ = (line_output (state_of state mem rows) (record { long = long; line = take (e - at) (drop at piece) })).text in
+        let text : List ℕ = (line_output (state_of place.state mem rows) (record { long = place.long; line = take (e - place.at) (drop place.at piece) })).text in
         let z : r.end ≡ length text = t.text.end ∙ zero-add (length text) in
         let w : splice out used (length out - used) out' ≡ writes out used text =
         ap (splice out used (length out - used)) t.text.bytes ∙ part_writes out used (length out - used) (omega arith) text (omega (arith, t.text.short)) in
         record {
-          answered = rw (w, z, t.next) (done_line line_output piece at₀ at e s₀ (state_of state mem rows) (record { long = long₀; line = [] }) long out₀ out used i.order i.within f below i.answered);
+          answered = rw (w, z, t.next) (done_line line_output piece at₀ place.at e s₀ (state_of place.state mem rows) (record { long = long₀; line = [] }) place.long out₀ out used i.order i.within f below i.answered);
           order = omega (arith, i.order);
           within = omega (arith, below);
           size = rw w (length_writes out used text ∙ i.size);
@@ -239,23 +240,23 @@ module _ (piece : Bytes) (s₀ : State) (long₀ : Bool) (at₀ : ℕ) (out₀ :
         }
 
 -- ---- where feed stops
-module _ (piece : Bytes) (p : Place) (mem₀ rows₀ : List ℕ) (out₀ : Bytes) (mem rows area groups : List ℕ) (out : Bytes) (state : LineState) (at : ℕ) (long : Bool) (used : ℕ)
-    (i : Inv piece (state_of p.state mem₀ rows₀) p.long p.at out₀ mem rows area groups out state at long used) where
-  pub feeds_ended : (e : ℕ) → e ≡ at + before (drop at piece) → e ≡ length piece
-      → WritesLines piece p mem₀ rows₀ out₀ (record { place = record { at = at; state = state; long = long }; used = used; more = false }) mem rows area groups out
+module _ (piece : Bytes) (p : Place) (mem₀ rows₀ : List ℕ) (out₀ : Bytes) (mem rows area groups : List ℕ) (out : Bytes) (place : Place) (used : ℕ)
+    (i : Inv piece (state_of p.state mem₀ rows₀) p.long p.at out₀ mem rows area groups out place used) where
+  pub feeds_ended : (e : ℕ) → e ≡ place.at + before (drop place.at piece) → e ≡ length piece
+      → WritesLines piece p mem₀ rows₀ out₀ (record { place = place; used = used; more = false }) mem rows area groups out
   feeds_ended e f g = record {
     answered = i.answered;
     order = i.order;
     within = i.within;
     held = i.held;
-    ended = λ _. line_none piece at e i.within f g;
+    ended = λ _. line_none piece place.at e i.within f g;
     on = λ x. absurd (true≢false (sym x));
     full = λ x. absurd (true≢false (sym x));
     lent = i.lent;
   }
 
   pub feeds_full : 65536 ≤ length out₀ → length out - used < 65536
-      → WritesLines piece p mem₀ rows₀ out₀ (record { place = record { at = at; state = state; long = long }; used = used; more = true }) mem rows area groups out
+      → WritesLines piece p mem₀ rows₀ out₀ (record { place = place; used = used; more = true }) mem rows area groups out
   feeds_full h g = record {
     answered = i.answered;
     order = i.order;

@@ -2,10 +2,13 @@
 #![tactic(auto)]
 
 ghost use Rattle.std.specs.Prelude.{◌≡◌, ◌||◌, List, ℕ, ◌≤◌, ltb, length};
-ghost use Rattle.stream_events.specs.Lines.{start, bumped};
+ghost use Rattle.line_host.specs.Follows.{line_given};
+ghost use Rattle.stream_events.specs.Lines.{start};
 ghost use Rattle.stream_events.specs.Fed.{Lent, state_of, WritesLine, WritesLastLine, WritesLines};
 
-use line_host::Host;
+use ids::Refusal;
+use line_buffers::TEXT_BYTES;
+use line_host::{Host, LineTaken};
 
 // What goes from line to line: the host, and the number of the next line.
 #[derive(Clone, Copy)]
@@ -42,19 +45,18 @@ impl LineState {
     pub fn fresh() -> LineState
         ensures { ((mem rows : List ℕ) → state_of result mem rows ≡ start) × (result.host.draft.count ≤ 64) }
     {
-        let host = Host::fresh();
-        LineState { host, number: 1 }
+        LineState {
+            host: Host::fresh(),
+            number: 1,
+        }
     }
 }
 
-// The number after n. It stays at the largest.
-fn bump(n: u64) -> u64
-    ensures { result ≡ bumped n }
+// A line that is refused leaves the host as it was.
+fn host_after(host: Host, acted: Result<LineTaken, Refusal>) -> Host
+    ensures { result ≡ (line_given host acted).host }
 {
-    if n < 18446744073709551615 {
-        return n + 1;
-    }
-    n
+    acted.map_or(host, |taken| taken.host)
 }
 
 // Answers a line. If `long`, the line had bytes more, which were dropped.
@@ -71,20 +73,18 @@ pub fn one(
     requires { Lent from.host mem.old rows.old area.old groups.old × (65536 ≤ length out.old) }
     ensures { WritesLine from mem.old rows.old (record { long = long; line = line.now }) out.old result mem.new rows.new area.new groups.new out.new }
 {
-    let host = from.host;
-    let number = bump(from.number);
+    let number = from.number.saturating_add(1);
     if long {
-        let end = line_answer::put_answer(out, from.number, 1, 0, area);
+        let end = line_answer::put_answer(out, from.number, Refusal::Malformed.number(), 0, area);
         return LineWritten {
-            state: LineState { host, number },
+            state: LineState { number, ..from },
             end,
         };
     }
-    let heard = line_event::event(host, mem, rows, area, groups, from.number, line, out);
-    let acted = heard.acted;
-    let next = acted.host;
+    let heard = line_event::event(from.host, mem, rows, area, groups, from.number, line, out);
+    let host = host_after(from.host, heard.acted);
     LineWritten {
-        state: LineState { host: next, number },
+        state: LineState { host, number },
         end: heard.end,
     }
 }
@@ -102,37 +102,36 @@ pub fn feed(
     requires { (from.at ≤ length piece.now) × Lent from.state.host mem.old rows.old area.old groups.old × (65536 ≤ length out.old) }
     ensures { WritesLines piece.now from mem.old rows.old out.old result mem.new rows.new area.new groups.new out.new }
 {
-    let mut state = from.state;
-    let mut at = from.at;
-    let mut long = from.long;
+    let mut place = from;
     let mut used = 0;
-    while out.len() - used >= 65536 {
-        let end = stream_pieces::line_end(piece, at);
+    while out.len() - used >= TEXT_BYTES {
+        let end = stream_pieces::line_end(piece, place.at);
         if end == piece.len() {
             return Fed {
-                place: Place { at, state, long },
+                place,
                 used,
                 more: false,
             };
         }
         let said = one(
-            state,
+            place.state,
             mem,
             rows,
             area,
             groups,
-            long,
-            &piece[at..end],
+            place.long,
+            &piece[place.at..end],
             &mut out[used..],
         );
-        let next = said.state;
-        state = next;
         used += said.end;
-        long = false;
-        at = end + 1;
+        place = Place {
+            at: end + 1,
+            state: said.state,
+            long: false,
+        };
     }
     Fed {
-        place: Place { at, state, long },
+        place,
         used,
         more: true,
     }
@@ -142,10 +141,7 @@ pub fn feed(
 fn is_line(long: bool, line: &[u8]) -> bool
     ensures { result ≡ (long || ltb 0 (length line.now)) }
 {
-    if long {
-        return true;
-    }
-    line.len() > 0
+    long || !line.is_empty()
 }
 
 // Answers a last line without a newline, if it has a byte.
@@ -163,10 +159,11 @@ pub fn last_line(
     ensures { WritesLastLine from mem.old rows.old (record { long = long; line = line.now }) out.old result mem.new rows.new area.new groups.new out.new }
 {
     if is_line(long, line) {
-        return one(from, mem, rows, area, groups, long, line, out);
-    }
-    LineWritten {
-        state: from,
-        end: 0,
+        one(from, mem, rows, area, groups, long, line, out)
+    } else {
+        LineWritten {
+            state: from,
+            end: 0,
+        }
     }
 }

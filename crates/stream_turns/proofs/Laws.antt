@@ -26,21 +26,18 @@ drop_take k n l h g =
     let e : n ≡ k + (n - k) = omega arith in
     ap (λ (j : ℕ). drop k (take j l)) e ∙ (ap (drop k) (take-add k (n - k) l) ∙ drop_at (take k l) (take (n - k) (drop k l)) k (length-take-le k l (omega arith)))
 
-pub within_end : (at end : ℕ) (buf : Bytes) → end ≤ length buf → at ≤ length (take (end - 0) buf) → at ≤ end
-within_end at end buf g h = omega (arith, length-take-le (end - 0) buf (omega arith))
+pub within_end : (at end : ℕ) (buf : Bytes) → end ≤ length buf → at ≤ length (take end buf) → at ≤ end
+within_end at end buf g h = omega (arith, length-take-le end buf (omega arith))
 
 module _ (buf : Bytes) (s : Stream) (mem rows : List ℕ) (out : Bytes) (f : Fed) (mem' rows' area' groups' : List ℕ) (out' : Bytes) (g : s.end ≤ length buf)
-    (feeds : WritesLines (take (s.end - 0) buf) s.place mem rows out f mem' rows' area' groups' out') where
-  all : take (s.end - 0) buf ≡ take s.end buf
-  all = let z : s.end - 0 ≡ s.end = omega arith in ap (λ (j : ℕ). take j buf) z
-
+    (feeds : WritesLines (take s.end buf) s.place mem rows out f mem' rows' area' groups' out') where
   within : f.place.at ≤ s.end
   within = within_end f.place.at s.end buf g feeds.within
 
   pub turns_full : f.more ≡ true → TurnLeaves buf s mem rows out (record { stream = record { place = f.place; end = s.end; more = true }; used = f.used }) buf mem' rows' area' groups' out'
   turns_full m = record {
     rests = λ e. absurd (true≢false e);
-    stops = λ _. record { same_bytes = refl; same_end = refl; on = feeds.on m; within = within; full = feeds.full m; answered = rw all at feeds.answered };
+    stops = λ _. record { same_bytes = refl; same_end = refl; on = feeds.on m; within = within; full = feeds.full m; answered = feeds.answered };
     order = within;
     within = g;
     held = feeds.held;
@@ -66,7 +63,7 @@ module _ (buf : Bytes) (s : Stream) (mem rows : List ℕ) (out : Bytes) (f : Fed
           let w : List ℕ = waiting s buf in
           let b : Begun = record { long = s.place.long; line = [] } in
           let d : Streamed State = streamed line_output (state_of s.place.state mem rows) b (take k w) in
-          let it : record { bytes = out'; used = f.used; state = state_of f.place.state mem' rows'; begun = record { long = f.place.long; line = [] } } ≡ output_after out 0 d = rw all at feeds.answered in
+          let it : record { bytes = out'; used = f.used; state = state_of f.place.state mem' rows'; begun = record { long = f.place.long; line = [] } } ≡ output_after out 0 d = feeds.answered in
           let to : s.place.at + k ≡ f.place.at = omega (arith, feeds.order) in
           let rest : drop k w ≡ drop f.place.at (take s.end buf) = drop-drop k s.place.at (take s.end buf) ∙ ap (λ (j : ℕ). drop j (take s.end buf)) to in
           let st : state_of f.place.state mem' rows' ≡ d.state = ap (λ (x : OutputAfter State). x.state) it in
@@ -74,5 +71,5 @@ module _ (buf : Bytes) (s : Stream) (mem rows : List ℕ) (out : Bytes) (f : Fed
           let whole : streamed_on s mem rows w ≡ record { out = d.out; state = d.state; begun = record { long = f.place.long; line = drop f.place.at (take s.end buf) } } =
           ap (streamed line_output (state_of s.place.state mem rows) b) (sym (take-append-drop k w))
           ∙ (cut line_output (state_of s.place.state mem rows) b (take k w) (drop k w)
-          ∙ rw (rest, ← bg, runs_none line_output d.state (record { long = f.place.long; line = [] }) (drop f.place.at (take s.end buf)) (rw all at (feeds.ended m)), append-nil)) in
+          ∙ rw (rest, ← bg, runs_none line_output d.state (record { long = f.place.long; line = [] }) (drop f.place.at (take s.end buf)) (feeds.ended m), append-nil)) in
           rw (whole, drop_take f.place.at s.end buf within g, keeps.1) (ap (λ (x : OutputAfter State). record { bytes = x.bytes; used = x.used; state = x.state; begun = kept (record { long = f.place.long; line = take (s.end - f.place.at) (drop f.place.at buf) }) }) it)

@@ -29,11 +29,10 @@ impl Stream {
     pub fn fresh() -> Stream
         ensures { Begins result }
     {
-        let state = LineState::fresh();
         Stream {
             place: Place {
                 at: 0,
-                state,
+                state: LineState::fresh(),
                 long: false,
             },
             end: 0,
@@ -56,33 +55,28 @@ pub fn turn(
     requires { (from.place.at ≤ from.end) × (from.end ≤ length buf.old) × (1024 ≤ length buf.old) × Lent from.place.state.host mem.old rows.old area.old groups.old × (65536 ≤ length out.old) }
     ensures { TurnLeaves buf.old from mem.old rows.old out.old result buf.new mem.new rows.new area.new groups.new out.new }
 {
-    let end = from.end;
-    let start = from.place;
-    let fed = stream_events::feed(&buf[0..end], start, mem, rows, area, groups, out);
-    let used = fed.used;
-    let place = fed.place;
+    let fed = stream_events::feed(&buf[..from.end], from.place, mem, rows, area, groups, out);
     if fed.more {
         return TurnResult {
             stream: Stream {
-                place,
-                end,
+                place: fed.place,
+                end: from.end,
                 more: true,
             },
-            used,
+            used: fed.used,
         };
     }
-    let left = stream_pieces::keep(buf, place.at, end, place.long);
-    let state = place.state;
+    let left = stream_pieces::keep(buf, fed.place.at, from.end, fed.place.long);
     TurnResult {
         stream: Stream {
             place: Place {
                 at: 0,
-                state,
+                state: fed.place.state,
                 long: left.long,
             },
             end: left.have,
             more: false,
         },
-        used,
+        used: fed.used,
     }
 }

@@ -7,7 +7,7 @@ use Rattle.stream_events.proofs.feed.Given as goal
 
 abbrev pub invariant-loop-out : goal.invariant-loop-out
 invariant-loop-out l =
-    law.Inv l.piece (state_of l.initial.state l.initial.mem l.initial.rows) l.initial.long l.initial.at l.initial.out l.mem l.rows l.area l.groups l.out l.state l.at l.long l.used × (length l.mem ≡ length l.initial.mem) × (length l.rows ≡ length l.initial.rows) × (length l.area ≡ length l.initial.area) × (length l.groups ≡ length l.initial.groups)
+    law.Inv l.piece (state_of l.initial.place.state l.initial.mem l.initial.rows) l.initial.place.long l.initial.place.at l.initial.out l.mem l.rows l.area l.groups l.out l.place l.used × (length l.mem ≡ length l.initial.mem) × (length l.rows ≡ length l.initial.rows) × (length l.area ≡ length l.initial.area) × (length l.groups ≡ length l.initial.groups)
 
 abbrev pub decreases-loop-out : goal.decreases-loop-out
-decreases-loop-out l = length l.piece - l.at
+decreases-loop-out l = length l.piece - l.place.at

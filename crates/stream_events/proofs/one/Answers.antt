@@ -1,10 +1,11 @@
 use Rattle.stream_events.proofs.Laws as law
-use borrow.Author.Rules.{rules}
+use native.Mathlib.Omega.{arith}
 use Rattle.stream_events.proofs.one.Goals as goal
 
 pub returns-then-long : goal.returns-then-long
-returns-then-long c = search (rules, law.says_long)
+returns-then-long c =
+    law.says_long _ _ _ _ _ _ _ _ _ c.requires.0 (law.counted _ _ (omega arith) c.saturating_add-number.ensures) _ _ c.if-long.true (rw c.number.ensures at c.put_answer-end.ensures)
 
 pub returns : goal.returns
 returns c =
-    law.says_heard _ _ _ _ _ _ _ _ _ c.requires.0 c.bump-number.ensures _ _ _ _ _ _ c.requires.1 c.if-long.false c.event-heard.ensures
+    law.says_heard _ _ _ _ _ _ _ _ _ c.requires.0 (law.counted _ _ (omega arith) c.saturating_add-number.ensures) _ _ _ _ _ _ _ c.requires.1 c.if-long.false c.host_after-host.ensures c.event-heard.ensures
