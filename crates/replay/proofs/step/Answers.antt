@@ -5,4 +5,4 @@ pub returns-then-from : goal.returns-then-from
 returns-then-from c = law.turned _ _ _ _ _ _ _ _ _ _ _ _ c.turn-turned.auto.buf c.turn-turned.ensures
 
 pub returns-in-Some : goal.returns-in-Some
-returns-in-Some c = law.piece_read _ _ _ _ _ _ c.requires.0 c.if-from.false _ _ c.in-Some.ensures
+returns-in-Some c = law.piece_read _ _ _ _ _ _ c.requires.0 c.if-from.false _ _ (rw c.in-Some.is at c.in_ok-end.ensures)
