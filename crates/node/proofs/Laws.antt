@@ -18,6 +18,10 @@ use Rattle.node.specs.View.{size, view, in_range, ready}
 use Rattle.peer_accept_bar.specs.Pairs.{pairs_of}
 use Rattle.insts.specs.Slots.{insts_of}
 use Rattle.node.specs.Begins.{Reset, Gives}
+use Rattle.ids.specs.declared.Ballot.{Ballot}
+use Rattle.ids.specs.declared.Slot.{Slot}
+use Rattle.ids.specs.declared.Replica.{Replica}
+use Rattle.roster_conf.specs.declared.RespondersConf.{RespondersConf}
 use Rattle.node.specs.declared.Node.{Node}
 use Rattle.bodega.specs.Replica.{pair, fresh_pair, fresh}
 use Rattle.roster_conf.specs.Conf.{empty}
@@ -142,6 +146,28 @@ module _ (s : List ℕ) (a : part s 0 replica_places ≡ replicate replica_place
 fresh_execs : (n : ℕ) → n ≤ replicas → words_from n (replicate replica_places 0) 0 ≡ replicate n 0
 fresh_execs n h = tab_ext (λ i. get_or (replicate replica_places 0) i 0) (λ i. 0) 0 n (λ j a b. get_or-replicate {A = ℕ} replicas j 0 0 (omega arith)) ∙ tab_const 0 0 n
 
+-- no slots, every ballot and bar 0
+abbrev pub fresh_node : Replica → ℕ → ℕ → RespondersConf → Node
+fresh_node id population quorum c =
+    let none : Ballot = record { 0 = 0 } in
+    let zero : Slot = record { 0 = 0 } in
+    record {
+      id = id;
+      population = population;
+      quorum = quorum;
+      bodega_conf = c;
+      bal_max_seen = none;
+      bal_prep_sent = none;
+      bal_prepared = none;
+      start_slot = zero;
+      accept_bar = zero;
+      commit_bar = zero;
+      exec_bar = zero;
+      snap_bar = zero;
+      peer_accept_max = record { 0 = 18446744073709551615 };
+      slots = 0;
+    }
+
 module _ (id population quorum : ℕ) (s : List ℕ) (t : Bool) (e : t ≡ leb size (length s) && in_range id population quorum) where
   pub not_begun : t ≡ false → Gives (leb size (length s) && in_range id population quorum) id population quorum s (Err NotReady) s
   not_begun f = rw (sym e ∙ f) (refl, refl)
@@ -166,30 +192,13 @@ module _ (id population quorum : ℕ) (s : List ℕ) (t : Bool) (e : t ≡ leb s
       execs : words_from population (part s' execs_at replica_places) 0 ≡ replicate population 0
       execs = rw r.execs (fresh_execs population few)
 
-      -- no slots, every ballot and bar 0
-      pub record Zero (n : Node) : Type 0 where
-        pub own : n.id.0 ≡ id
-        pub members : n.population ≡ population
-        pub enough : n.quorum ≡ quorum
-        pub seen : n.bal_max_seen.0 ≡ 0
-        pub sent : n.bal_prep_sent.0 ≡ 0
-        pub prepared : n.bal_prepared.0 ≡ 0
-        pub start : n.start_slot.0 ≡ 0
-        pub accept : n.accept_bar.0 ≡ 0
-        pub commit : n.commit_bar.0 ≡ 0
-        pub exec : n.exec_bar.0 ≡ 0
-        pub snap : n.snap_bar.0 ≡ 0
-        pub figure : n.peer_accept_max.0 ≡ 18446744073709551615
-        pub none : n.slots ≡ 0
-
-      pub begun : (n : Node) → Zero n → ((rows : List ℕ) → roster_of n.bodega_conf rows ≡ empty) × (n.bodega_conf.count ≤ 64)
-          → Gives (leb size (length s) && in_range id population quorum) id population quorum s (Ok n) s'
+      pub begun : (i : Replica) (c : RespondersConf) → i.0 ≡ id → ((rows : List ℕ) → roster_of c rows ≡ empty) × (c.count ≤ 64)
+          → Gives (leb size (length s) && in_range id population quorum) id population quorum s (Ok (fresh_node i population quorum c)) s'
       unfolding view fresh ready insts_of
-      begun n z c = rw (sym e ∙ f) (record { replica = replica; readied = readied; beyond = r.rest })
+      begun i c own k = rw (sym e ∙ f) (record { replica = replica; readied = readied; beyond = r.rest })
         where
-          replica : view n s' ≡ fresh id population quorum
-          replica =
-              rw (z.own, z.members, z.enough, z.seen, z.sent, z.prepared, z.start, z.accept, z.commit, z.exec, z.snap, z.figure, z.none, pairs, execs, c.0 (part s' rows_at roster_words), r.written)
+          replica : view (fresh_node i population quorum c) s' ≡ fresh id population quorum
+          replica = rw (own, pairs, execs, k.0 (part s' rows_at roster_words), r.written)
 
-          readied : ready n s' ≡ true
-          readied = rw (l, holds.0, z.own, z.members, z.enough, holds.1, le-leb n.bodega_conf.count 64 c.1, z.start, z.exec, z.commit, z.none)
+          readied : ready (fresh_node i population quorum c) s' ≡ true
+          readied = rw (l, holds.0, own, holds.1, le-leb c.count 64 k.1)

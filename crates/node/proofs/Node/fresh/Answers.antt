@@ -12,4 +12,4 @@ pub returns : goal.returns
 returns c =
     let r = c.reset in
     let a = c.args in
-    law.begun a.id.0 a.population a.quorum _ _ c.begins.ensures c.if-not-begins.false _ r.ensures r.auto.mem _ (record { own = refl; members = refl; enough = refl; seen = refl; sent = refl; prepared = refl; start = refl; accept = refl; commit = refl; exec = refl; snap = refl; figure = refl; none = refl }) c.empty.ensures
+    law.begun a.id.0 a.population a.quorum _ _ c.begins.ensures c.if-not-begins.false _ r.ensures r.auto.mem a.id _ refl c.empty.ensures
