@@ -5,67 +5,55 @@
 // begun is not answered.
 #![tactic(auto)]
 
-ghost use Rattle.std.specs.Prelude.{◌*◌, ◌≤◌, length, IfOk};
+ghost use Rattle.std.specs.Prelude.{◌*◌, ◌≤◌, length, IfOk, IfSome};
 
 use std::io;
 use std::io::{ErrorKind, Read, Stdin, Stdout};
 use stream_pieces::Carry;
 
-#[derive(Clone, Copy)]
-struct State {
-    line: Carry,
-    more: bool,
-}
-
-// Reads a piece behind the bytes that were kept, and writes the answers to the lines that end in it.
+// Reads a piece behind the bytes that were kept, and writes the answers to the lines that end in it. Gives what is kept
+// of the line that has begun, or nothing at the end of the input.
 fn turn(
     mut input: Stdin,
     output: Stdout,
     buf: &mut [u8],
     line: Carry,
     out: &mut [u8],
-) -> io::Result<State>
+) -> io::Result<Option<Carry>>
     requires { (line.have ≤ 1024) × (1025 ≤ length buf.old) × (2 * length buf.old ≤ length out.old) }
-    ensures { IfOk result (λ state. state.line.have ≤ 1024) }
+    ensures { IfOk result (λ next. IfSome next (λ kept. kept.have ≤ 1024)) }
 {
     let have = line.have;
     let n = match input.read(&mut buf[have..]) {
         Ok(n) => n,
-        Err(e) if e.kind() == ErrorKind::Interrupted => return Ok(State { line, more: true }),
+        Err(e) if e.kind() == ErrorKind::Interrupted => return Ok(Some(line)),
         Err(e) => return Err(e),
     };
-    let end = have + n;
     if n == 0 {
-        let used = key_lines::last_line(&buf[0..have], line.long, out);
-        output.write_all(&out[0..used])?;
-        return Ok(State { line, more: false });
+        let used = key_lines::last_line(&buf[..have], line.long, out);
+        output.write_all(&out[..used])?;
+        return Ok(None);
     }
-    let fed = key_lines::feed(&buf[0..end], line.long, out);
-    let used = fed.used;
-    output.write_all(&out[0..used])?;
-    let left = stream_pieces::keep(buf, fed.at, end, fed.long);
-    Ok(State {
-        line: left,
-        more: true,
-    })
+    let end = have + n;
+    let fed = key_lines::feed(&buf[..end], line.long, out);
+    output.write_all(&out[..fed.used])?;
+    Ok(Some(stream_pieces::keep(buf, fed.at, end, fed.long)))
 }
 
-// A proved loop has to end, and nothing says that the input does: so it counts its turns down, from a number that no
-// run uses up.
+// A proved loop has to end, and nothing says that the input does: so it counts its turns, up to a number that no run
+// reaches.
 fn run(input: Stdin, output: Stdout, buf: &mut [u8], out: &mut [u8]) -> io::Result<()>
     requires { (1025 ≤ length buf.old) × (2 * length buf.old ≤ length out.old) }
 {
-    let mut s = State {
-        line: Carry {
-            have: 0,
-            long: false,
-        },
-        more: true,
+    let mut line = Carry {
+        have: 0,
+        long: false,
     };
-    let mut turns = u64::MAX;
-    while turns > 0 && s.more {
-        s = turn(input, output, buf, s.line, out)?;
-        turns -= 1;
+    for _ in 0..u64::MAX {
+        let Some(next) = turn(input, output, buf, line, out)? else {
+            break;
+        };
+        line = next;
     }
     Ok(())
 }
