@@ -1,25 +1,24 @@
 -- The grounds of *record* test by test, the slot's place, the slots, and the call.
-use Rattle.std.specs.Prelude.{if◌then◌else◌}
 use mathlib.Core.Path.{◌≡◌, refl, sym, ap, ◌∙◌}
 use mathlib.Core.Bool.{Bool, true, false, not, ◌||◌}
-use mathlib.Core.List.{List, [], ◌++◌, append-nil}
-use Rattle.std.specs.Prelude.{Option, None, Some}
+use mathlib.Core.List.{List, ◌++◌}
+use Rattle.std.specs.Prelude.{Option, None, Some, Result, Ok, IsErrAnd, slice_get, if◌then◌else◌}
 use Prim.Native.Nat.{ℕ, ◌+◌, ◌-◌, ◌%◌, ◌≤◌, ◌<◌}
 use native.Mathlib.Omega.{arith}
 use lib.Dec.{ltb, leb, eqb}
-use lib.ListN.{length, set, take, drop, replicate, slice_get}
-use borrow.Author.Tests.{lt-ltb, le-ltb, le-leb, lt-leb, eq-eqb, ne_eqb, ltb-false, leb-false, not-true, not-false}
+use lib.ListN.{length, set, take, drop, replicate}
+use borrow.Author.Tests.{le-ltb, ltb-false, leb-false}
 use Rattle.words.specs.Choice.{if_none◌then◌else◌}
 use Rattle.words.specs.Part.{part, splice, Untouched, length_part, part_before}
 use Rattle.ids.specs.Leader.{leader_of}
 use Rattle.ids.specs.Limits.{keys, window, batch}
+use Rattle.ids.specs.Refusal.{number_of}
+use Rattle.ids.specs.declared.Refusal.{Refusal}
 use Rattle.layout.specs.Layout.{slot_places, batch_words, slot_words, written_words, slots_at, written_at, node_words}
 use Rattle.roster_conf.specs.Edits.{view as roster_of}
-use Rattle.inst_cell.specs.Cell.{Notices, Short, book_of as noticesOf}
-use Rattle.inst_cell.specs.declared.NoticeBook.{NoticeBook}
-use Rattle.accept_notices.specs.Book.{fresh_book}
+use Rattle.inst_cell.specs.Cell.{Notices}
 use Rattle.highest_slot.specs.Written.{written_of}
-use Rattle.bodega.specs.Replica.{Replica, Request, ReadReq, Highest, Instance, Record, Accepting, new_book, null_instance, is_open, is_leader, inst_at, set_inst, pad, with_insts, with_highest_slot}
+use Rattle.bodega.specs.Replica.{Replica, Request, ReadReq, Highest, Instance, Call, Record, new_book, null_instance, is_open, is_leader, inst_at, set_inst, pad, with_insts, with_highest_slot}
 use Rattle.bodega.specs.Localread.{refresh_highest_slot}
 use Rattle.bodega.specs.Events.{accepting, recorded}
 use Rattle.bodega.specs.Grounds.{far, grounds}
@@ -27,47 +26,19 @@ use Rattle.bodega.specs.Step.{effect}
 use Rattle.bodega.specs.Answers.{Answers}
 use Rattle.req_batch.specs.Given.{given, any_long}
 use Rattle.highest_slot_refresh.specs.Refresh.{Refreshes}
-use Rattle.insts.specs.Slots.{short_at, batch_at, reads_at, seen_reads, book_of, inst_of, inst_in, insts_of, Puts}
-use Rattle.insts.proofs.Laws.{batch_after, short_after, moved, inst_at_lem, inst_none, length_insts}
+use Rattle.insts.specs.Slots.{short_at, reads_at, seen_reads, book_of, inst_of, inst_in, insts_of, Puts}
+use Rattle.insts.proofs.Laws.{moved, inst_at_lem, inst_none, length_insts}
 use Rattle.node.specs.declared.Node.{Node}
-use Rattle.node.specs.View.{view, ready, given_of, lowest, leads_it}
-use Rattle.node.proofs.Calls.{Ready, is_ready, made_ready, gives_2, refused_by, taken_by}
-use Rattle.node.proofs.Frames.{slots_back, slots_size, slots_beyond, written_back, written_size, written_beyond}
-use Rattle.call_record.specs.Records.{batch_refusal, slot_refusal, late_refusal, ended, fresh_acks, kept_book, accepting_short, Pads, accepting_by, Records, Recorded}
-use Rattle.std.specs.Prelude.{Result}
-use Rattle.ids.specs.declared.Refusal.{Refusal}
 use Rattle.node.specs.declared.Taken.{Taken}
+use Rattle.node.specs.View.{view, ready, given_of, lowest, leads_it}
+use Rattle.node.proofs.Calls.{Ready, is_ready, made_ready, number-not-0, refused_by, taken_by}
+use Rattle.node.proofs.Frames.{slots_back, slots_size, slots_beyond, written_back, written_size, written_beyond}
+use Rattle.call_record.specs.Records.{batch_refusal, slot_refusal, late_refusal, ended, kept_book, accepting_short, Pads, accepting_by, Records, Recorded}
 
 -- ---- 5, 8, 9, and the others after them
 
 abbrev first : Bool → Bool → Bool → ℕ → ℕ
 first a b c l = if a then 5 else if b then 8 else if c then 9 else l
-
-module _ (qs : List Request) (slot : ℕ) (t : Bool) (e : t ≡ any_long qs) where
-  short_keys : first t (far slot) (ltb batch (length qs)) 0 ≡ batch_refusal qs slot
-  short_keys = ap (λ (x : Bool). first x (far slot) (ltb batch (length qs)) 0) e
-
-  pub gives_5 : t ≡ true → 5 ≡ batch_refusal qs slot
-  gives_5 f = sym (ap (λ (x : Bool). first x (far slot) (ltb batch (length qs)) 0) f) ∙ short_keys
-
-  module _ (f : t ≡ false) where
-    keys_fit : first false (far slot) (ltb batch (length qs)) 0 ≡ batch_refusal qs slot
-    keys_fit = sym (ap (λ (x : Bool). first x (far slot) (ltb batch (length qs)) 0) f) ∙ short_keys
-
-    pub gives_8 : 281474976710655 < slot → 8 ≡ batch_refusal qs slot
-    gives_8 h = sym (ap (λ (x : Bool). first false x (ltb batch (length qs)) 0) (lt-ltb 281474976710655 slot h)) ∙ keys_fit
-
-    module _ (h : slot ≤ 281474976710655) (n : ℕ) (g : n ≡ length qs) where
-      near : first false false (ltb batch n) 0 ≡ batch_refusal qs slot
-      near =
-          ap (λ (x : ℕ). first false false (ltb batch x) 0) g
-          ∙ sym (ap (λ (x : Bool). first false x (ltb batch (length qs)) 0) (le-ltb 281474976710655 slot h)) ∙ keys_fit
-
-      pub gives_9 : batch < n → 9 ≡ batch_refusal qs slot
-      gives_9 k = sym (ap (λ (x : Bool). first false false x 0) (lt-ltb batch n k)) ∙ near
-
-      pub batch_fits : n ≤ batch → 0 ≡ batch_refusal qs slot
-      batch_fits k = sym (ap (λ (x : Bool). first false false x 0) (le-ltb batch n k)) ∙ near
 
 first_of : (a b c : Bool) (k l : ℕ) → k ≡ first a b c 0 → (k ≡ 0 → ⊥) → k ≡ first a b c l
 first_of true b c k l e h = e
@@ -85,49 +56,6 @@ none_of false false false e = (refl, refl, refl)
 
 abbrev second : Bool → Bool → Bool → Bool → ℕ
 second a b c d = if a then 13 else if b then 14 else if c then 15 else if d then 18 else 0
-
-module _ (start n slot ballot current : ℕ) (full : Bool) (s : List ℕ) where
-  abbrev number : ℕ
-  number = slot_refusal start (insts_of start n s) slot ballot current full
-
-  abbrev closed : Bool
-  closed = ended start (insts_of start n s) slot
-
-  pub other_ballot : (ballot ≡ current → ⊥) → 13 ≡ number
-  other_ballot h = sym (ap (λ (x : Bool). second (not x || eqb current 0) closed (leb (start + window) slot) full) (ne_eqb ballot current h))
-
-  module _ (h : ballot ≡ current) where
-    same_ballot : second (eqb current 0) closed (leb (start + window) slot) full ≡ number
-    same_ballot = sym (ap (λ (x : Bool). second (not x || eqb current 0) closed (leb (start + window) slot) full) (eq-eqb ballot current h))
-
-    pub no_ballot : current ≡ 0 → 13 ≡ number
-    no_ballot g = sym (ap (λ (x : Bool). second x closed (leb (start + window) slot) full) (eq-eqb current 0 g)) ∙ same_ballot
-
-    module _ (g : current ≡ 0 → ⊥) (t : Bool) (e : t ≡ ended start (insts_of start n s) slot) where
-      at_ballot : second false t (leb (start + window) slot) full ≡ number
-      at_ballot =
-          ap (λ (x : Bool). second false x (leb (start + window) slot) full) e
-          ∙ sym (ap (λ (x : Bool). second x closed (leb (start + window) slot) full) (ne_eqb current 0 g)) ∙ same_ballot
-
-      pub gives_14 : t ≡ true → 14 ≡ number
-      gives_14 f = sym (ap (λ (x : Bool). second false x (leb (start + window) slot) full) f) ∙ at_ballot
-
-      module _ (f : t ≡ false) where
-        open_slot : second false false (leb (start + window) slot) full ≡ number
-        open_slot = sym (ap (λ (x : Bool). second false x (leb (start + window) slot) full) f) ∙ at_ballot
-
-        pub gives_15 : start + window ≤ slot → 15 ≡ number
-        gives_15 k = sym (ap (λ (x : Bool). second false false x full) (le-leb (start + window) slot k)) ∙ open_slot
-
-        module _ (k : slot < start + window) where
-          inside : second false false false full ≡ number
-          inside = sym (ap (λ (x : Bool). second false false x full) (lt-leb (start + window) slot k)) ∙ open_slot
-
-          pub gives_18 : full ≡ true → 18 ≡ number
-          gives_18 l = sym (ap (second false false false) l) ∙ inside
-
-          pub none_refuses : full ≡ false → 0 ≡ number
-          none_refuses l = sym (ap (second false false false) l) ∙ inside
 
 -- what holds where none of them applies
 pub record Fits (start slot : ℕ) (full : Bool) : Type 0 where
@@ -152,9 +80,6 @@ module _ (start n slot : ℕ) (s : List ℕ) where
   abbrev end_of : Option Instance → Bool
   end_of o = if_none o then false else λ i. not (is_open i.status)
 
-  pub below_start : slot < start → true ≡ ended start (insts_of start n s) slot
-  below_start h = sym (simp (lt-ltb slot start h))
-
   module _ (h : start ≤ slot) where
     from_start : end_of (slice_get (insts_of start n s) (slot - start)) ≡ ended start (insts_of start n s) slot
     from_start = sym (simp (le-ltb slot start h))
@@ -166,52 +91,6 @@ module _ (start n slot : ℕ) (s : List ℕ) where
     held_slot g t e =
         let q : slot ≡ start + (slot - start) = omega arith in
         ap not e ∙ ap (λ (j : ℕ). not (is_open (inst_in s (j % slot_places)).status)) q ∙ sym (ap end_of (inst_at_lem start n (slot - start) s (omega arith))) ∙ from_start
-
--- ---- null slots
-
-pub held_already : (start n k : ℕ) (s : List ℕ) → n ≤ slot_places → k < n → Pads start n k s s n
-held_already start n k s h g =
-    let z : k + 1 - n ≡ 0 = omega arith in
-    record {
-      insts = sym (ap (λ (j : ℕ). insts_of start n s ++ replicate j null_instance) z ∙ append-nil (insts_of start n s));
-      size = refl;
-      within = g;
-      more = omega arith;
-      few = h;
-    }
-
-pub padded_to : {t : List ℕ} (start n k : ℕ) (s : List ℕ) → k < slot_places → n ≤ k → (insts_of start (k + 1) t ≡ insts_of start n s ++ replicate (k + 1 - n) null_instance) × (length t ≡ length s)
-    → Pads start n k s t (k + 1)
-padded_to start n k s h g e = record { insts = e.0; size = e.1; within = omega arith; more = omega arith; few = omega arith }
-
--- ---- the slot's place
-
-module _ (leader : Bool) (o : Option NoticeBook) (f : leader ≡ false) where
-  pub new_book_lem : (b : NoticeBook) → o ≡ None → b ≡ fresh_book → Some (record { bal = b.bal.0; notices = b.notices }) ≡ kept_book leader (noticesOf o)
-  new_book_lem b e g = rw g (sym (rw (f, e)))
-
-  pub old_book : (b : NoticeBook) → o ≡ Some b → Some (record { bal = b.bal.0; notices = b.notices }) ≡ kept_book leader (noticesOf o)
-  old_book b e = sym (rw (f, e))
-
-abbrev short_with : ℕ → Option ℕ → Option Notices → Short
-short_with ballot a b = record { bal = ballot; status = Accepting; leader_bk = a; replica_bk = b }
-
-pub placed : {s t u v : List ℕ} {c : ℕ} {qs : List Request} {l : List ReadReq} (ballot : ℕ) (leader : Bool) (old : Short) (a : Option ℕ) (b : Option Notices)
-    → Puts s c (short_at s c) (batch_at s c) l t → Puts t c (short_at t c) qs (reads_at t c) u → old ≡ short_at u c → a ≡ fresh_acks leader → b ≡ kept_book leader old.replica_bk
-    → Puts u c (short_with ballot a b) (batch_at u c) (reads_at u c) v
-    → Puts s c (accepting_short leader ballot (short_at s c).replica_bk) qs l v
-placed {s = s} {c = c} ballot leader old a b p q e f g r =
-    let x = batch_after p q in
-    let y = short_after x r in
-    let o : old.replica_bk ≡ (short_at s c).replica_bk = ap (λ (z : Short). z.replica_bk) (e ∙ x.short) in
-    let h : b ≡ kept_book leader (short_at s c).replica_bk = g ∙ ap (kept_book leader) o in
-    record {
-      short = y.short ∙ ap (λ (z : Option ℕ). short_with ballot z b) f ∙ ap (short_with ballot (fresh_acks leader)) h;
-      batch = y.batch;
-      held = y.held;
-      others = y.others;
-      size = y.size;
-    }
 
 -- ---- the slots
 
@@ -297,8 +176,8 @@ module _ (n : Node) (m : List ℕ) (slot ballot : ℕ) (ok : ready n m ≡ true)
   pub long : node_words ≤ length m
   long = omega (arith, r.long)
 
-  pub long_slots : (l : ℕ) → l ≡ length m → written_at ≤ l
-  long_slots l e = omega (arith, r.long)
+  pub long_slots : written_at ≤ length m
+  long_slots = omega (arith, r.long)
 
   words_long : length words ≡ slot_words
   unfolding part
@@ -333,11 +212,8 @@ module _ (n : Node) (m : List ℕ) (slot ballot : ℕ) (ok : ready n m ≡ true)
     unfolding late_refusal part
     in_window = fits start slot (not (eqb ballot (current leader)) || eqb (current leader) 0) _ (overfull reqs) (sym z)
 
-    room : length (refresh_highest_slot slot reqs (written_of written)) ≤ keys
+    pub room : length (refresh_highest_slot slot reqs (written_of written)) ≤ keys
     room = ltb-false keys (length (refresh_highest_slot slot reqs (written_of written))) in_window.room
-
-    pub refreshable : (l : ℕ) → l ≡ batch_words → ((written_words ≤ length written) × (batch_words ≤ l)) × (length (refresh_highest_slot slot reqs (written_of written)) ≤ keys)
-    refreshable l e = ((omega (arith, written_long), omega (arith, e)), room)
 
     module _ (w' : List ℕ) (lw : length w' ≡ length written) where
       abbrev m₁ : List ℕ
@@ -348,6 +224,9 @@ module _ (n : Node) (m : List ℕ) (slot ballot : ℕ) (ok : ready n m ≡ true)
 
       size₁ : length m₁ ≡ length m
       size₁ = written_size n m r.long w' long_w
+
+      pub long_after : written_at ≤ length m₁
+      long_after = omega (arith, size₁, r.long)
 
       words_same : take slot_words (drop slots_at m₁) ≡ words
       unfolding part
@@ -424,62 +303,42 @@ module _ (n : Node) (m : List ℕ) (slot ballot : ℕ) (ok : ready n m ≡ true)
 
 -- ---- the call
 
-module _ (n : Node) (m area : List ℕ) (slot ballot : ℕ) (rows text : List ℕ) where
+module _ (n : Node) (m area : List ℕ) (slot ballot : ℕ) (rows text : List ℕ) (y : ready n m ≡ true) where
   abbrev qs : List Request
   qs = given rows text
 
-  whole : lowest (grounds (view n m) (Record slot ballot qs)) ≡ first (any_long qs) (far slot) (ltb batch (length qs)) (late_refusal n m slot ballot qs)
+  abbrev call : Call
+  call = Record slot ballot qs
+
+  whole : lowest (grounds (view n m) call) ≡ first (any_long qs) (far slot) (ltb batch (length qs)) (late_refusal n m slot ballot qs)
   unfolding grounds view inst_at roster_of part late_refusal
   whole = refl
 
-  module _ (k : ℕ) (e : k ≡ (if ready n m then batch_refusal qs slot else 2)) where
-    pub early_refused : (a : Result Taken Refusal) → (k ≡ 0 → ⊥) → a ≡ record { number = k; count = 0; node = n } → Answers ready view (Record slot ballot qs) n m area (given_of a) m area
-    early_refused a h g = rw g (go (ready n m) refl e)
-      where
-        go : (t : Bool) → ready n m ≡ t → k ≡ (if t then batch_refusal qs slot else 2) → Answers ready view (Record slot ballot qs) n m area (record { number = k; count = 0; node = n }) m area
-        go true f x = refused_by (Record slot ballot qs) n m area true (sym f) refl k (first_of (any_long qs) (far slot) (ltb batch (length qs)) k (late_refusal n m slot ballot qs) x h ∙ sym whole) h
-        go false f x = rw x (gives_2 (Record slot ballot qs) n m area false (sym f) refl)
+  pub early_refused : (x : Refusal) (z : Result Taken Refusal) → number_of x ≡ batch_refusal qs slot → IsErrAnd z (λ u. u ≡ x) → Answers ready view call n m area (given_of n z) m area
+  early_refused x z g =
+      refused_by call n m area true (sym y) refl x z
+      (first_of (any_long qs) (far slot) (ltb batch (length qs)) (number_of x) (late_refusal n m slot ballot qs) g (number-not-0 x) ∙ sym whole)
 
-    module _ (z : k ≡ 0) where
-      made : (ready n m ≡ true) × (0 ≡ batch_refusal qs slot)
-      made = go (ready n m) refl e
-        where
-          go : (t : Bool) → ready n m ≡ t → k ≡ (if t then batch_refusal qs slot else 2) → (ready n m ≡ true) × (0 ≡ batch_refusal qs slot)
-          go true f x = (f, sym z ∙ x)
-          go false f x = absurd (omega (arith, x))
+  module _ (e : 0 ≡ batch_refusal qs slot) where
+    none_yet : (any_long qs ≡ false) × (far slot ≡ false) × (ltb batch (length qs) ≡ false)
+    none_yet = none_of (any_long qs) (far slot) (ltb batch (length qs)) e
 
-      pub is_made : ready n m ≡ true
-      is_made = made.0
+    pub short_keys : any_long qs ≡ false
+    short_keys = none_yet.0
 
-      none_yet : (any_long qs ≡ false) × (far slot ≡ false) × (ltb batch (length qs) ≡ false)
-      none_yet = none_of (any_long qs) (far slot) (ltb batch (length qs)) made.1
+    pub few_requests : length qs ≤ batch
+    few_requests = ltb-false batch (length qs) none_yet.2
 
-      pub short_keys_all : any_long qs ≡ false
-      short_keys_all = none_yet.0
+    module _ (reqs : List Request) (x : reqs ≡ qs) where
+      number_is : late_refusal n m slot ballot reqs ≡ lowest (grounds (view n m) call)
+      number_is = sym (whole ∙ rw (none_yet.0, none_yet.1, none_yet.2, x) refl)
 
-      pub few_requests : length qs ≤ batch
-      few_requests = ltb-false batch (length qs) none_yet.2
+      pub late_refused : (u : Refusal) (z : Result Taken Refusal) → number_of u ≡ late_refusal n m slot ballot reqs → IsErrAnd z (λ v. v ≡ u) → Answers ready view call n m area (given_of n z) m area
+      late_refused u z g = refused_by call n m area true (sym y) refl u z (g ∙ number_is)
 
-      module _ (reqs : List Request) (x : reqs ≡ qs) (j : ℕ) (v : j ≡ late_refusal n m slot ballot reqs) where
-        number_is : j ≡ lowest (grounds (view n m) (Record slot ballot qs))
-        number_is =
-            v ∙ ap (late_refusal n m slot ballot) x
-            ∙ sym (whole ∙ ap (λ (p : Bool). first p (far slot) (ltb batch (length qs)) (late_refusal n m slot ballot qs)) none_yet.0
-            ∙ ap (λ (p : Bool). first false p (ltb batch (length qs)) (late_refusal n m slot ballot qs)) none_yet.1 ∙ ap (λ (p : Bool). first false false p (late_refusal n m slot ballot qs)) none_yet.2)
-
-        pub late_refused : (a : Result Taken Refusal) → (j ≡ 0 → ⊥) → a ≡ record { number = j; count = 0; node = n } → Answers ready view (Record slot ballot qs) n m area (given_of a) m area
-        late_refused a h g = rw g (refused_by (Record slot ballot qs) n m area true (sym is_made) refl j number_is h)
-
-        pub is_recorded : j ≡ 0 → (n' : Node) (m' : List ℕ) → Recorded slot ballot reqs n m n' m' → Answers ready view (Record slot ballot qs) n m area (record { number = 0; count = 0; node = n' }) m' area
-        unfolding effect
-        is_recorded y n' m' w =
-            taken_by (Record slot ballot qs) n m area true (sym is_made) refl j number_is y (recorded (view n m) slot ballot qs) n' m' refl (w.replica ∙ ap (recorded (view n m) slot ballot) x) w.size w.beyond
-            w.readied
-
--- ---- 2 before the batch
-
-pub unmade : (t : Bool) (n : Node) (m : List ℕ) (k : ℕ) → t ≡ ready n m → not t ≡ true → 2 ≡ (if ready n m then k else 2)
-unmade t n m k e f = sym (rw (sym e ∙ not-true t f))
-
-pub of_made : (t : Bool) (n : Node) (m : List ℕ) (j k : ℕ) → t ≡ ready n m → not t ≡ false → j ≡ k → j ≡ (if ready n m then k else 2)
-of_made t n m j k e f g = g ∙ sym (rw (sym e ∙ not-false t f))
+      pub is_recorded : 0 ≡ late_refusal n m slot ballot reqs → (n' : Node) (m' : List ℕ) → Recorded slot ballot reqs n m n' m'
+          → Answers ready view call n m area (given_of n (Ok (record { node = n'; count = 0 }))) m' area
+      unfolding effect
+      is_recorded g n' m' w =
+          taken_by call n m (g ∙ number_is) area true (sym y) refl (recorded (view n m) slot ballot qs) n' m' refl (w.replica ∙ ap (recorded (view n m) slot ballot) x) w.size w.beyond
+          w.readied

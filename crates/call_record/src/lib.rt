@@ -12,14 +12,14 @@ ghost use Rattle.inst_reqs.specs.Batch.{requests_of};
 ghost use Rattle.req_batch.specs.Given.{given};
 ghost use Rattle.insts.specs.Slots.{short_at, reads_at, seen_reads, insts_of, Puts};
 ghost use Rattle.node.specs.View.{view, ready, given_of};
-ghost use Rattle.call_record.specs.Records.{fresh_acks, batch_refusal, slot_refusal, late_refusal, ended, kept_book, accepting_short, Pads, Records, Recorded};
+ghost use Rattle.call_record.specs.Records.{batch_refusal, slot_refusal, late_refusal, ended, kept_book, accepting_short, Pads, Records, Recorded};
 ghost use Rattle.ids.specs.Refusal.{refused_by};
 
 use ids::{Ballot, Refusal, Slot};
-use inst_cell::{Cell, Status};
-use node::{Taken, Node, is_leader, is_ready};
+use inst_cell::{Cell, NoticeBook, Status};
+use node::{Node, Taken};
 
-// 5, 8, 9: the number of the refusal that the batch and the slot's number meet, 0 where there is none.
+// Refusals 5, 8 and 9.
 fn batch_refusal(rows: &[u64], text: &[u8], slot: Slot) -> Result<(), Refusal>
     ensures { refused_by result ≡ batch_refusal (given rows.now text.now) slot.0 }
 {
@@ -35,14 +35,11 @@ fn batch_refusal(rows: &[u64], text: &[u8], slot: Slot) -> Result<(), Refusal>
     Ok(())
 }
 
-// What *record* must be at.
+// The ballot that *record* must be at.
 fn current(leader: bool, prepared: Ballot, seen: Ballot) -> Ballot
     ensures { result.0 ≡ (if leader then prepared.0 else seen.0) }
 {
-    if leader {
-        return prepared;
-    }
-    seen
+    if leader { prepared } else { seen }
 }
 
 // 14: below the start, or held and no longer open.
@@ -50,17 +47,11 @@ fn is_ended(s: &[u64], start: Slot, n: usize, slot: Slot) -> bool
     requires { (start.0 ≤ top) × (n ≤ slot_places) × (slot_words ≤ length s.now) }
     ensures { result ≡ ended start.0 (insts_of start.0 n s.now) slot.0 }
 {
-    if slot.0 < start.0 {
-        return true;
-    }
-    if start.0 + n as u64 <= slot.0 {
-        return false;
-    }
-    let c = (slot.0 % layout::PLACES) as usize;
-    !insts::is_open(s, c)
+    slot < start
+        || (slot.0 < start.0 + n as u64 && !insts::is_open(s, (slot.0 % layout::PLACES) as usize))
 }
 
-// 13, 14, 15, 18: the number of the refusal, 0 where there is none.
+// Refusals 13, 14, 15 and 18.
 fn slot_refusal(
     s: &[u64],
     start: Slot,
@@ -73,10 +64,7 @@ fn slot_refusal(
     requires { (start.0 ≤ top) × (n ≤ slot_places) × (slot_words ≤ length s.now) }
     ensures { refused_by result ≡ slot_refusal start.0 (insts_of start.0 n s.now) slot.0 ballot.0 current.0 full }
 {
-    if ballot.0 != current.0 {
-        return Err(Refusal::BallotNotCurrent);
-    }
-    if current.0 == 0 {
+    if ballot != current || current.0 == 0 {
         return Err(Refusal::BallotNotCurrent);
     }
     if is_ended(s, start, n, slot) {
@@ -96,34 +84,19 @@ fn padded(s: &mut [u64], start: Slot, n: usize, k: usize) -> usize
     requires { (start.0 ≤ top) × (n ≤ slot_places) × (k < slot_places) × (slot_words ≤ length s.old) }
     ensures { Pads start.0 n k s.old s.new result }
 {
-    if k < n {
-        return n;
-    }
-    let to = k + 1;
-    insts::pad(s, start, n, to);
-    to
+    let held = n.max(k + 1);
+    insts::pad(s, start, n, held);
+    held
 }
 
-// Fresh empty acks for a leader.
-fn fresh_acks(leader: bool) -> Option<u64>
-    ensures { result ≡ fresh_acks leader }
-{
-    if leader {
-        return Some(0);
-    }
-    None
-}
-
-// For any other replica a notice book if there is none.
+// A leader keeps the book as it is; any other replica has a fresh one where there is none.
 fn kept_book(leader: bool, book: Option<NoticeBook>) -> Option<NoticeBook>
     ensures { book_of result ≡ kept_book leader (book_of book) }
 {
     if leader {
-        return book;
-    }
-    match book {
-        None => Some(accept_notices::fresh()),
-        Some(b) => Some(b),
+        book
+    } else {
+        Some(book.unwrap_or(accept_notices::fresh()))
     }
 }
 
@@ -134,16 +107,11 @@ fn accept_at(s: &mut [u64], c: usize, ballot: Ballot, leader: bool, words: &[u64
 {
     insts::clear_unseen(s, c);
     insts::put_batch(s, c, words);
-    let old = insts::load(s, c);
-    let book = old.replica_bk;
-    let status = Status::Accepting;
-    let leader_bk = fresh_acks(leader);
-    let replica_bk = kept_book(leader, book);
     let cell = Cell {
         bal: ballot,
-        status,
-        leader_bk,
-        replica_bk,
+        status: Status::Accepting,
+        leader_bk: leader.then_some(0),
+        replica_bk: kept_book(leader, insts::load(s, c).replica_bk),
     };
     insts::store(s, c, cell);
 }
@@ -163,28 +131,22 @@ fn accept(
 {
     let k = (slot.0 - start.0) as usize;
     let held = padded(s, start, n, k);
-    let place = (slot.0 % layout::PLACES) as usize;
-    accept_at(s, place, ballot, leader, words);
+    accept_at(s, (slot.0 % layout::PLACES) as usize, ballot, leader, words);
     held
 }
 
-// 2, or what the batch and the slot's number meet; 0 where there is none.
-fn early_refusal(node: Node, mem: &[u64], slot: Slot, rows: &[u64], text: &[u8]) -> Result<(), Refusal>
-    ensures { refused_by result ≡ (if ready node mem.now then batch_refusal (given rows.now text.now) slot.0 else 2) }
-{
-    if !is_ready(node, mem) {
-        return Err(Refusal::NotReady);
-    }
-    batch_refusal(rows, text, slot)
-}
-
 // What the slot, the ballot and the keys of a batch in words meet at a node.
-fn late_refusal(node: Node, mem: &[u64], slot: Slot, ballot: Ballot, words: &[u64]) -> Result<(), Refusal>
+fn late_refusal(
+    node: Node,
+    mem: &[u64],
+    slot: Slot,
+    ballot: Ballot,
+    words: &[u64],
+) -> Result<(), Refusal>
     requires { (ready node mem.now ≡ true) × (length words.now ≡ batch_words) }
     ensures { refused_by result ≡ late_refusal node mem.now slot.0 ballot.0 (requests_of words.now) }
 {
-    let leader = is_leader(node);
-    let bal = current(leader, node.bal_prepared, node.bal_max_seen);
+    let current = current(node::is_leader(node), node.bal_prepared, node.bal_max_seen);
     let full = highest_slot_refresh::overflows(&mem[layout::WRITTEN_AT..layout::NODE_WORDS], words);
     slot_refusal(
         &mem[layout::SLOTS_AT..layout::WRITTEN_AT],
@@ -192,7 +154,7 @@ fn late_refusal(node: Node, mem: &[u64], slot: Slot, ballot: Ballot, words: &[u6
         node.slots,
         slot,
         ballot,
-        bal,
+        current,
         full,
     )
 }
@@ -202,24 +164,21 @@ fn recorded(node: Node, mem: &mut [u64], slot: Slot, ballot: Ballot, words: &[u6
     requires { (ready node mem.old ≡ true) × (late_refusal node mem.old slot.0 ballot.0 (requests_of words.now) ≡ 0) × (length words.now ≡ batch_words) }
     ensures { Recorded slot.0 ballot.0 (requests_of words.now) node mem.old result mem.new }
 {
-    let leader = is_leader(node);
     highest_slot_refresh::refresh(
         &mut mem[layout::WRITTEN_AT..layout::NODE_WORDS],
         words,
         slot,
     );
-    let held = accept(
+    let slots = accept(
         &mut mem[layout::SLOTS_AT..layout::WRITTEN_AT],
         node.start_slot,
         node.slots,
         slot,
         ballot,
-        leader,
+        node::is_leader(node),
         words,
     );
-    let mut next = node;
-    next.slots = held;
-    next
+    Node { slots, ..node }
 }
 
 pub fn record(
@@ -233,10 +192,13 @@ pub fn record(
 ) -> Result<Taken, Refusal>
     ensures { Answers ready view (Record slot.0 ballot.0 (given rows.now text.now)) node mem.old area.now (given_of node result) mem.new area.now }
 {
-    early_refusal(node, mem, slot, rows, text)?;
-    let mut words = [0u64; layout::BATCH_WORDS];
+    if !node::is_ready(node, mem) {
+        return Err(Refusal::NotReady);
+    }
+    batch_refusal(rows, text, slot)?;
+    let mut words = [0; layout::BATCH_WORDS];
     req_batch::load(rows, text, &mut words);
     late_refusal(node, mem, slot, ballot, &words)?;
-    let next = recorded(node, mem, slot, ballot, &words);
-    Ok(Taken { node: next, count: 0 })
+    let node = recorded(node, mem, slot, ballot, &words);
+    Ok(Taken { node, count: 0 })
 }

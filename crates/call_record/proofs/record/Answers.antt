@@ -1,34 +1,36 @@
-use mathlib.Core.Path.{sym, ◌∙◌}
+use Rattle.std.proofs.Common.{refl, sym}
+use Rattle.bodega.specs.Replica.{Record}
+use Rattle.req_batch.specs.Given.{given}
+use Rattle.node.proofs.Calls.{not_ready}
 use Rattle.call_record.proofs.Laws as law
-use borrow.Author.Rules.{rules}
 use Rattle.call_record.proofs.record.Goals as goal
 
-pub returns-then-early-ne0 : goal.returns-then-early-ne0
-returns-then-early-ne0 c =
-    let a = c.args in law.early_refused a.node a.mem.now a.area.now a.slot.0 a.ballot.0 a.rows.now a.text.now _ c.early_refusal-early.ensures _ c.if-early-ne0.true c.refused.ensures
-
-pub load-requires : goal.load-requires
-load-requires c =
+pub returns-then-not-is_ready : goal.returns-then-not-is_ready
+returns-then-not-is_ready c =
     let a = c.args in
-    record {
-      room = search rules;
-      few = law.few_requests a.node a.mem.now a.area.now a.slot.0 a.ballot.0 a.rows.now a.text.now _ c.early_refusal-early.ensures c.if-early-ne0.false;
-      short = law.short_keys_all a.node a.mem.now a.area.now a.slot.0 a.ballot.0 a.rows.now a.text.now _ c.early_refusal-early.ensures c.if-early-ne0.false;
-    }
+    not_ready (Record a.slot.0 a.ballot.0 (given a.rows.now a.text.now)) a.node a.mem.now a.area.now _ c.if-not-is_ready.ensures refl
 
-pub late_refusal-late-requires : goal.late_refusal-late-requires
-late_refusal-late-requires c =
-    let a = c.args in (law.is_made a.node a.mem.now a.area.now a.slot.0 a.ballot.0 a.rows.now a.text.now _ c.early_refusal-early.ensures c.if-early-ne0.false, c.words-2-1.given)
+pub returns-in_err-batch_refusal : goal.returns-in_err-batch_refusal
+returns-in_err-batch_refusal c =
+    let a = c.args in
+    law.early_refused a.node a.mem.now a.area.now a.slot.0 a.ballot.0 a.rows.now a.text.now (sym c.if-not-is_ready.ensures) _ _ c.in_err-batch_refusal.ensures c.from_residual.ensures.1
 
-pub returns-then-late-ne0 : goal.returns-then-late-ne0
-returns-then-late-ne0 c =
-    let a = c.args in law.late_refused a.node a.mem.now a.area.now a.slot.0 a.ballot.0 a.rows.now a.text.now _ c.early_refusal-early.ensures c.if-early-ne0.false _ c.load.ensures.requests _ c.late_refusal-late.ensures _ c.if-late-ne0.true c.refused-then-late-ne0.ensures
+pub load-requires-clause-few : goal.load-requires-clause-few
+load-requires-clause-few c =
+    let a = c.args in
+    law.few_requests a.node a.mem.now a.area.now a.slot.0 a.ballot.0 a.rows.now a.text.now (sym c.if-not-is_ready.ensures) c.in_ok-batch_refusal.ensures
 
-pub recorded-next-requires : goal.recorded-next-requires
-recorded-next-requires c =
-    let a = c.args in (law.is_made a.node a.mem.now a.area.now a.slot.0 a.ballot.0 a.rows.now a.text.now _ c.early_refusal-early.ensures c.if-early-ne0.false, sym c.late_refusal-late.ensures ∙ c.if-late-ne0.false, c.words-2-1.given)
+pub load-requires-clause-short : goal.load-requires-clause-short
+load-requires-clause-short c =
+    let a = c.args in
+    law.short_keys a.node a.mem.now a.area.now a.slot.0 a.ballot.0 a.rows.now a.text.now (sym c.if-not-is_ready.ensures) c.in_ok-batch_refusal.ensures
+
+pub returns-in_err-late_refusal : goal.returns-in_err-late_refusal
+returns-in_err-late_refusal c =
+    let a = c.args in
+    law.late_refused a.node a.mem.now a.area.now a.slot.0 a.ballot.0 a.rows.now a.text.now (sym c.if-not-is_ready.ensures) c.in_ok-batch_refusal.ensures _ c.load.ensures.requests _ _ c.in_err-late_refusal.ensures c.from_residual-in_err-late_refusal.ensures.1
 
 pub returns : goal.returns
 returns c =
     let a = c.args in
-    rw c.taken.ensures (law.is_recorded a.node a.mem.now a.area.now a.slot.0 a.ballot.0 a.rows.now a.text.now _ c.early_refusal-early.ensures c.if-early-ne0.false _ c.load.ensures.requests _ c.late_refusal-late.ensures c.if-late-ne0.false _ _ c.recorded-next.ensures)
+    law.is_recorded a.node a.mem.now a.area.now a.slot.0 a.ballot.0 a.rows.now a.text.now (sym c.if-not-is_ready.ensures) c.in_ok-batch_refusal.ensures _ c.load.ensures.requests c.in_ok-late_refusal.ensures _ _ c.recorded-node.ensures
