@@ -1,13 +1,14 @@
 -- A read's condition and answer, test by test as the code comes to them.
 use Rattle.std.specs.Prelude.{if◌then◌else◌, option_map}
 use mathlib.Core.Path.{◌≡◌, refl, sym, ap, ◌∙◌}
-use mathlib.Core.Bool.{Bool, true, false, not, ◌&&◌, ◌||◌}
+use mathlib.Core.Bool.{Bool, true, false, not, ◌||◌}
+use mathlib.Core.Logic.{◌⊎◌, inl, inr}
 use mathlib.Core.List.{List, []}
 use Rattle.std.specs.Prelude.{Option, None, Some}
-use Prim.Native.Nat.{ℕ, ◌+◌, ◌-◌, ◌*◌, ◌%◌, ◌≤◌, ◌<◌}
+use Prim.Native.Nat.{ℕ, ◌+◌, ◌*◌, ◌%◌, ◌≤◌, ◌<◌}
 use native.Mathlib.Decide.{dec_lt}
 use native.Mathlib.Omega.{arith}
-use borrow.Author.Tests.{lt-ltb, le-ltb, le-leb, lt-leb, eq-eqb, ne_eqb, ltb-true, ltb-false, leb-true, not-true, not-false}
+use borrow.Author.Tests.{lt-ltb, le-ltb, le-leb, ltb-true, ltb-false, leb-true}
 use lib.Dec.{ltb, leb, eqb}
 use lib.ListN.{length}
 use Rattle.layout.specs.Layout.{slots_at, slot_words, written_at, written_words, rows_at, roster_words, node_words, slot_places}
@@ -26,11 +27,10 @@ use Rattle.bodega.specs.Localread as local
 use Rattle.bodega.specs.Request as request
 use Rattle.bodega.specs.Request.{read_answer, answered}
 use Rattle.bodega.specs.Grounds.{full, overfills}
-use Rattle.inst_cell.specs.Cell.{Notices, status_of, book_of, cell_of}
+use Rattle.inst_cell.specs.Cell.{status_of, cell_of}
 use Rattle.inst_cell.specs.declared.Cell.{Cell}
-use Rattle.inst_cell.specs.declared.Status.{Status}
 use Rattle.highest_slot.specs.Written.{written_of, slot_in}
-use Rattle.insts.specs.Slots.{short_at, batch_at, reads_at, inst_of, inst_in, book_of as heldBook}
+use Rattle.insts.specs.Slots.{short_at, batch_at, reads_at, inst_of, inst_in}
 use Rattle.release_held_reads.specs.Release.{holding_of}
 use Rattle.words.proofs.Tests.{and_both}
 use Rattle.node.specs.View.{view, ready}
@@ -44,111 +44,34 @@ use Rattle.inspect_latest_write.specs.declared.Settled.TheVariants as settled
 use Rattle.inspect_latest_write.specs.declared.ReadAnswer.{ReadAnswer}
 use Rattle.inspect_latest_write.specs.declared.ReadAnswer.TheVariants.{Found, Missing, FromStore, Consensus, HeldBy, Again}
 
--- ---- leases against a quorum that was widened
-
-pub few : {q n k : ℕ} → k ≡ q → n < k → n < q
-few e h = omega arith
-
-pub enough : {q n k : ℕ} → k ≡ q → k ≤ n → q ≤ n
-enough e h = omega arith
-
--- ---- leaders
-
--- `is_stable_leader` with its tests' numbers
-abbrev stable_by : Bool → ℕ → ℕ → ℕ → ℕ → ℕ → ℕ → Bool
-stable_by l p m q n max commit = l && ltb 0 p && (eqb m p && leb q n && leb max commit)
-
-module _ (l : Bool) (p m q n max commit : ℕ) where
-  pub follower : l ≡ false → false ≡ stable_by l p m q n max commit
-  follower f = sym (simp f)
-
-  module _ (t : l ≡ true) where
-    pub unprepared : p ≡ 0 → false ≡ stable_by l p m q n max commit
-    unprepared f = sym (simp (t, le-ltb 0 p (omega arith)))
-
-    module _ (z : p ≡ 0 → ⊥) where
-      pub outdated : (m ≡ p → ⊥) → false ≡ stable_by l p m q n max commit
-      outdated f = sym (simp (t, lt-ltb 0 p (omega arith), ne_eqb m p f))
-
-      module _ (e : m ≡ p) where
-        pub unleased : n < q → false ≡ stable_by l p m q n max commit
-        unleased f = sym (simp (t, lt-ltb 0 p (omega arith), eq-eqb m p e, lt-leb q n f))
-
-        pub stable : q ≤ n → leb max commit ≡ stable_by l p m q n max commit
-        stable f = sym (simp (t, lt-ltb 0 p (omega arith), eq-eqb m p e, le-leb q n f))
-
-pub stable_is : (n : Node) (leases : ℕ) (m : List ℕ)
-    → stable_by (machine.is_leader (view n m)) n.bal_prepared.0 n.bal_max_seen.0 n.quorum leases n.peer_accept_max.0 n.commit_bar.0
-    ≡ local.is_stable_leader (view n m) leases
-unfolding local.is_stable_leader view
-stable_is n leases m = refl
-
--- ---- responders
-
-module _ (d id : ℕ) (x : Option ℕ) (r : Bool) where
-  pub in_mask : (m : ℕ) → x ≡ Some m → r ≡ get m id → r ≡ get (if_none x then d else λ k. k) id
-  in_mask m e f = f ∙ ap (λ (y : Option ℕ). get (if_none y then d else λ k. k) id) (sym e)
-
-  pub in_default : x ≡ None → r ≡ get d id → r ≡ get (if_none x then d else λ k. k) id
-  in_default e f = f ∙ ap (λ (y : Option ℕ). get (if_none y then d else λ k. k) id) (sym e)
-
-pub stored_range : (x : Option ℕ) (k : ℕ) → x ≡ Some k → local.StoredRange ≡ (if_none x then local.DefaultRoster else λ m. local.StoredRange)
-stored_range x k e = sym (rw e)
-
-pub default_roster : (x : Option ℕ) → x ≡ None → local.DefaultRoster ≡ (if_none x then local.DefaultRoster else λ m. local.StoredRange)
-default_roster x e = sym (rw e)
-
 -- ---- a slot that is held
-
-pub held_not : (start n slot : ℕ) → slot < start → false ≡ held_at start n slot
-held_not start n slot h = sym (simp (lt-leb start slot h))
-
-pub held_by : (start n slot : ℕ) → start ≤ slot → ltb (slot - start) n ≡ held_at start n slot
-held_by start n slot h = elim (dec_lt slot (start + n)) [
-  | yes g ↦ lt-ltb (slot - start) n (omega arith) ∙ sym (simp (le-leb start slot h, lt-ltb slot (start + n) g))
-  | no g ↦ le-ltb (slot - start) n (omega arith) ∙ sym (simp (le-leb start slot h, le-ltb slot (start + n) (omega arith)))
-]
 
 pub place_below : {c : ℕ} (slot : ℕ) → c ≡ slot % slot_places → c < slot_places
 place_below slot e = omega arith
 
 module _ (n : Node) (m s : List ℕ) (l : part m slots_at slot_words ≡ s) (slot : ℕ) (t : Bool) (e : t ≡ held_at n.start_slot.0 n.slots slot) where
-  no_slot : not t ≡ true → machine.inst_at (view n m) slot ≡ None
+  no_slot : t ≡ false → machine.inst_at (view n m) slot ≡ None
   no_slot f = elim (dec_lt slot n.start_slot.0) [
     | yes h ↦ not_below n m slot h
     | no h ↦
         let k : n.start_slot.0 ≤ slot = omega arith in
-        let g : ltb slot (n.start_slot.0 + n.slots) ≡ false = rw (le-leb n.start_slot.0 slot k) at (sym e ∙ not-true t f) in
+        let g : ltb slot (n.start_slot.0 + n.slots) ≡ false = rw (le-leb n.start_slot.0 slot k) at (sym e ∙ f) in
         not_past n m slot k (ltb-false slot (n.start_slot.0 + n.slots) g)
   ]
 
-  slot_at : not t ≡ false → machine.inst_at (view n m) slot ≡ Some (inst_in s (slot % slot_places))
+  slot_at : t ≡ true → machine.inst_at (view n m) slot ≡ Some (inst_in s (slot % slot_places))
   slot_at f =
-      let b = and_both (leb n.start_slot.0 slot) (ltb slot (n.start_slot.0 + n.slots)) (sym e ∙ not-false t f) in
+      let b = and_both (leb n.start_slot.0 slot) (ltb slot (n.start_slot.0 + n.slots)) (sym e ∙ f) in
       held_at_lem n m slot (leb-true n.start_slot.0 slot b.0) (ltb-true slot (n.start_slot.0 + n.slots) b.1)
       ∙ ap (λ (y : List ℕ). Some (inst_in y (slot % slot_places))) l
 
-  slot_in_lem : not t ≡ false → (c : ℕ) → c ≡ slot % slot_places → machine.inst_at (view n m) slot ≡ Some (inst_in s c)
+  slot_in_lem : t ≡ true → (c : ℕ) → c ≡ slot % slot_places → machine.inst_at (view n m) slot ≡ Some (inst_in s c)
   slot_in_lem f c k = slot_at f ∙ ap (λ (j : ℕ). Some (inst_in s j)) (sym k)
 
 -- the slot's short part as it is loaded
 loaded : (s : List ℕ) (c : ℕ) (x : Cell) → cell_of x ≡ short_at s c → inst_in s c ≡ inst_of (cell_of x) (batch_at s c) (reads_at s c)
 unfolding inst_in
 loaded s c x l = ap (λ (y : _). inst_of y (batch_at s c) (reads_at s c)) (sym l)
-
--- ---- a slot's book
-
-pub some_book : (o : Option Notices) (l : List machine.ReadReq) → (if_none o then false else λ b. true) ≡ (if_none heldBook o l then false else λ b. true)
-some_book None l = refl
-some_book (Some b) l = refl
-
--- by the status that the match told
-abbrev waits_by : machine.Status → Option Notices → List machine.ReadReq → Bool
-waits_by t o l = machine.is_accepting t && (if_none heldBook o l then false else λ b. true)
-
-pub waits_by_lem : (x : Cell) (y : Status) (reqs : List machine.Request) (reads : List machine.ReadReq) → x.status ≡ y
-    → waits_by (status_of y) (book_of x.replica_bk) reads ≡ local.waits (inst_of (cell_of x) reqs reads)
-waits_by_lem x y reqs reads e = ap (λ (z : Status). waits_by (status_of z) (book_of x.replica_bk) reads) (sym e)
 
 full_book : (o : Option machine.Book) → leb 16 (length (if_none o then [] else λ b. b.holding)) ≡ (if_none o then false else λ b. leb 16 (length b.holding))
 full_book None = refl
@@ -178,10 +101,10 @@ module _ (n : Node) (m s : List ℕ) (d : part m slots_at slot_words ≡ s) (slo
   unfolding local.inspect_highest_slot view
   inspect_by o f = ap (inspected n.quorum key slot.0) (sym f)
 
-  pub inspect_none : not t ≡ true → Inspects (settled.SlotStatus slot)
+  pub inspect_none : t ≡ false → Inspects (settled.SlotStatus slot)
   inspect_none f = (inspect_by None (no_slot n m s d slot.0 t e f), tt)
 
-  module _ (f : not t ≡ false) (c : ℕ) (x : Cell) (k : c ≡ slot.0 % slot_places) (l : cell_of x ≡ short_at s c) where
+  module _ (f : t ≡ true) (c : ℕ) (x : Cell) (k : c ≡ slot.0 % slot_places) (l : cell_of x ≡ short_at s c) where
     abbrev here : machine.Instance
     here = inst_of (cell_of x) (batch_at s c) (reads_at s c)
 
@@ -197,19 +120,19 @@ module _ (n : Node) (m s : List ℕ) (d : part m slots_at slot_words ≡ s) (slo
       inspect_early h = (sym (rw (sym g ∙ h)) ∙ inspect_by (Some here) found_here, tt)
 
       module _ (h : u ≡ false) (b : Bool) (y : b ≡ local.is_bound n.quorum here) where
-        pub inspect_unbound : not b ≡ true → (w : Bool) → w ≡ local.waits here → Inspects (settled.Notices (record { slot = slot; place = c; waits = w }))
-        inspect_unbound z w v = (sym (rw (sym g ∙ h, sym y ∙ not-true b z)) ∙ inspect_by (Some here) found_here, stands w v)
+        pub inspect_unbound : b ≡ false → (w : Bool) → w ≡ local.waits here → Inspects (settled.Notices (record { slot = slot; place = c; waits = w }))
+        inspect_unbound z w v = (sym (rw (sym g ∙ h, sym y ∙ z)) ∙ inspect_by (Some here) found_here, stands w v)
 
-        module _ (z : not b ≡ false) (p : Option ℕ) (q : p ≡ local.last_put key (batch_at s c)) where
+        module _ (z : b ≡ true) (p : Option ℕ) (q : p ≡ local.last_put key (batch_at s c)) where
           bound : (if not (local.is_bound n.quorum here) then local.Notices slot.0 else if_none p then local.MissingPut slot.0 else local.FoundPut)
               ≡ local.inspect_highest_slot (view n m) key slot.0
           bound = rw q (sym (rw (sym g ∙ h)) ∙ inspect_by (Some here) found_here)
 
           pub inspect_found : (k : ℕ) → p ≡ Some k → Inspects (settled.FoundPut k)
-          inspect_found k r = (sym (rw (sym y ∙ not-false b z, r)) ∙ bound, tt)
+          inspect_found k r = (sym (rw (sym y ∙ z, r)) ∙ bound, tt)
 
           pub inspect_missing : p ≡ None → (w : Bool) → w ≡ local.waits here → Inspects (settled.MissingPut (record { slot = slot; place = c; waits = w }))
-          inspect_missing r w v = (sym (rw (sym y ∙ not-false b z, r)) ∙ bound, stands w v)
+          inspect_missing r w v = (sym (rw (sym y ∙ z, r)) ∙ bound, stands w v)
 
 -- where a read waits
 module _ (r : machine.Replica) (s : List ℕ) (x : SlotAt) (y : Stands r s x) where
@@ -230,8 +153,8 @@ full_counted r s slot c n f j = ap (leb 16) j.0 ∙ full_book (inst_in s c).repl
 -- ---- `inspect_latest_write`
 
 module _ (n : Node) (m s w : List ℕ) (l : part m written_at written_words ≡ w) (key : List ℕ) (o : Option Slot) (e : slot_in o ≡ local.highest_of key (written_of w)) where
-  abbrev Option ℕ' : Settled → Type 0
-  Option ℕ' x = Settles (view n m) s (local.inspect_latest_write (view n m) key) x
+  abbrev IsLatest : Settled → Type 0
+  IsLatest x = Settles (view n m) s (local.inspect_latest_write (view n m) key) x
 
   abbrev latest_of : Option ℕ → local.Settled
   latest_of q =
@@ -242,17 +165,17 @@ module _ (n : Node) (m s w : List ℕ) (l : part m written_at written_words ≡ 
   unfolding local.inspect_latest_write view
   latest_by = ap latest_of (e ∙ ap (λ (y : List ℕ). local.highest_of key (written_of y)) (sym l))
 
-  pub latest_none : o ≡ None → Option ℕ' settled.NoSlot
+  pub latest_none : o ≡ None → IsLatest settled.NoSlot
   latest_none f = (ap (λ (x : Option Slot). latest_of (slot_in x)) (sym f) ∙ latest_by, tt)
 
   module _ (slot : Slot) (f : o ≡ Some slot) where
     here_by : latest_of (Some slot.0) ≡ local.inspect_latest_write (view n m) key
     here_by = ap (λ (x : Option Slot). latest_of (slot_in x)) (sym f) ∙ latest_by
 
-    pub latest_low : slot.0 < n.start_slot.0 → Option ℕ' settled.NoSlot
+    pub latest_low : slot.0 < n.start_slot.0 → IsLatest settled.NoSlot
     latest_low h = (sym (rw (lt-ltb slot.0 n.start_slot.0 h)) ∙ here_by, tt)
 
-    pub latest_at : n.start_slot.0 ≤ slot.0 → (y : Settled) → Settles (view n m) s (local.inspect_highest_slot (view n m) key slot.0) y → Option ℕ' y
+    pub latest_at : n.start_slot.0 ≤ slot.0 → (y : Settled) → Settles (view n m) s (local.inspect_highest_slot (view n m) key slot.0) y → IsLatest y
     latest_at h y g = (g.0 ∙ sym (rw (le-ltb slot.0 n.start_slot.0 h)) ∙ here_by, g.1)
 
 -- ---- `settled`
@@ -316,18 +239,18 @@ module _ (n : Node) (m : List ℕ) (leases : ℕ) (key : List ℕ) where
             answers : (b : Bool) → u ≡ b → (if not b then (if_none r then local.DefaultRoster else λ j. local.StoredRange) else barred) ≡ whole
             answers b x = ap (λ (y : Bool). if not y then (if_none r then local.DefaultRoster else λ j. local.StoredRange) else barred) (sym x ∙ d) ∙ looked
 
-            pub settled_roster : not u ≡ true → (y : Settled) → Settles (view n m) (part m slots_at slot_words) (if_none r then local.DefaultRoster else λ j. local.StoredRange) y → Whole y
-            settled_roster x y z = (z.0 ∙ answers false (not-true u x), z.1)
+            pub settled_roster : u ≡ false → (y : Settled) → Settles (view n m) (part m slots_at slot_words) (if_none r then local.DefaultRoster else λ j. local.StoredRange) y → Whole y
+            settled_roster x y z = (z.0 ∙ answers false (x), z.1)
 
-            module _ (x : not u ≡ false) where
+            module _ (x : u ≡ true) where
               pub settled_bar : n.commit_bar.0 < n.peer_accept_max.0 → Whole settled.Bar
-              settled_bar b = (first ∙ answers true (not-false u x), tt)
+              settled_bar b = (first ∙ answers true (x), tt)
                 where
                   first : local.Bar ≡ barred
                   first = rw (lt-ltb n.commit_bar.0 n.peer_accept_max.0 b)
 
               pub settled_latest : n.peer_accept_max.0 ≤ n.commit_bar.0 → (y : Settled) → Settles (view n m) (part m slots_at slot_words) (local.inspect_latest_write (view n m) key) y → Whole y
-              settled_latest b y z = (z.0 ∙ first ∙ answers true (not-false u x), z.1)
+              settled_latest b y z = (z.0 ∙ first ∙ answers true (x), z.1)
                 where
                   first : local.inspect_latest_write (view n m) key ≡ barred
                   first = rw (le-ltb n.commit_bar.0 n.peer_accept_max.0 b)
@@ -337,36 +260,28 @@ packed_as r s k key x e f = (f.0 ∙ ap (local.inspect_latest_write r) e, f.1)
 
 -- ---- the answer
 
-abbrev improper_by : Bool → ℕ → local.ReadAnswer
-improper_by l p = if not l || eqb p 0 then local.Again else local.Consensus
-
-module _ (l : Bool) (p : ℕ) where
-  pub again_follower : l ≡ false → local.Again ≡ improper_by l p
-  again_follower f = sym (simp f)
-
-  pub again_unprepared : l ≡ true → p ≡ 0 → local.Again ≡ improper_by l p
-  again_unprepared f h = sym (simp (f, eq-eqb p 0 h))
-
-  pub consensus : l ≡ true → (p ≡ 0 → ⊥) → local.Consensus ≡ improper_by l p
-  consensus f h = sym (simp (f, ne_eqb p 0 h))
-
-pub improper_is : (n : Node) (m : List ℕ) → improper_by (machine.is_leader (view n m)) n.bal_prepared.0 ≡ local.improper (view n m)
-unfolding view
-improper_is n m = refl
-
-module _ (start : ℕ) (r : machine.Replica) (s : List ℕ) (e : start ≡ r.bar.start) where
-  pub never_written : start ≡ 0 → Gets r s (local.answer_of r local.NoSlot) Missing
-  never_written h = (sym (rw (eq-eqb r.bar.start 0 (sym e ∙ h))), tt)
-
-  pub in_store : (start ≡ 0 → ⊥) → Gets r s (local.answer_of r local.NoSlot) FromStore
-  in_store h = (sym (rw (ne_eqb r.bar.start 0 (λ z. h (e ∙ z)))), tt)
-
 -- what settled the read, as the match told it
 pub told_by : (r : machine.Replica) (s : List ℕ) (x y : Settled) → x ≡ y → Located r s x → Located r s y
 told_by r s x y e p = rw e at p
 
 pub answer_by : (r : machine.Replica) (s : List ℕ) (x y : Settled) (a : ReadAnswer) → x ≡ y → Gets r s (local.answer_of r (settled_of y)) a → Gets r s (local.answer_of r (settled_of x)) a
 answer_by r s x y a e f = (f.0 ∙ ap (λ (z : Settled). local.answer_of r (settled_of z)) (sym e), f.1)
+
+-- the conditions that send it to the leader
+pub improper_by : (r : machine.Replica) (s : List ℕ) (x : Settled) (a : ReadAnswer)
+    → (x ≡ settled.FewLeases) ⊎ ((x ≡ settled.UnreadKey) ⊎ ((x ≡ settled.StoredRange) ⊎ ((x ≡ settled.DefaultRoster) ⊎ (x ≡ settled.Bar))))
+    → Gets r s (local.improper r) a → Gets r s (local.answer_of r (settled_of x)) a
+improper_by r s x a (inl e) f = answer_by r s x settled.FewLeases a e f
+improper_by r s x a (inr (inl e)) f = answer_by r s x settled.UnreadKey a e f
+improper_by r s x a (inr (inr (inl e))) f = answer_by r s x settled.StoredRange a e f
+improper_by r s x a (inr (inr (inr (inl e)))) f = answer_by r s x settled.DefaultRoster a e f
+improper_by r s x a (inr (inr (inr (inr e)))) f = answer_by r s x settled.Bar a e f
+
+-- those at which it may wait
+pub waits_by : (r : machine.Replica) (s : List ℕ) (y : Settled) (x : SlotAt) (a : ReadAnswer) → (y ≡ settled.Notices x) ⊎ (y ≡ settled.MissingPut x)
+    → Located r s y → (Stands r s x → Gets r s (local.waits_at r x.slot.0) a) → Gets r s (local.answer_of r (settled_of y)) a
+waits_by r s y x a (inl e) d f = answer_by r s y (settled.Notices x) a e (f (told_by r s y (settled.Notices x) e d))
+waits_by r s y x a (inr e) d f = answer_by r s y (settled.MissingPut x) a e (f (told_by r s y (settled.MissingPut x) e d))
 
 pub start_is : (n : Node) (m : List ℕ) → n.start_slot.0 ≡ (view n m).bar.start
 unfolding view

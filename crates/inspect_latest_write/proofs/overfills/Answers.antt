@@ -5,9 +5,6 @@ use Rattle.words.specs.Part.{part}
 use native.Mathlib.Omega.{arith}
 use Rattle.inspect_latest_write.proofs.overfills.Goals as goal
 
-pub returns-in_default : goal.returns-in_default
-returns-in_default c = law.fills_none (view c.args.node c.args.mem.now) c.args.answer c.in_default.not-HeldBy
-
 pub slice_bounds-holding-end : goal.slice_bounds-holding-end
 slice_bounds-holding-end c = omega (arith, law.words_long c.args.node c.args.mem.now c.requires.0)
 
@@ -17,8 +14,8 @@ holding-requires c =
     let a = c.args in
     (law.held_below (view a.node a.mem.now) (part a.mem.now slots_at slot_words) a.answer _ _ c.in-HeldBy.is c.requires.1, law.slots_long a.node a.mem.now c.requires.0)
 
-pub returns : goal.returns
+pub returns-in-HeldBy : goal.returns-in-HeldBy
 unfolding part
-returns c =
+returns-in-HeldBy c =
     let a = c.args in
     law.fills_slot (view a.node a.mem.now) (part a.mem.now slots_at slot_words) a.answer _ _ _ c.in-HeldBy.is c.requires.1 c.holding.ensures

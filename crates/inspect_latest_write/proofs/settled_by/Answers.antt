@@ -3,9 +3,8 @@ use Rattle.inspect_latest_write.proofs.Laws as law
 use mathlib.Core.Path.{refl}
 use Rattle.node.specs.View.{view}
 use Rattle.words.specs.Part.{part}
-use native.Mathlib.Omega.{arith}
-use mathlib.Core.Path.{ap}
-use mathlib.Core.Bool.{not}
+use Rattle.std.proofs.Common.{rules, sym, arith}
+use Rattle.std.proofs.lemmas.Map.Keys.{ge_from_not_lt}
 use Rattle.inspect_latest_write.proofs.settled_by.Goals as goal
 
 pub returns-then-is_stable_leader : goal.returns-then-is_stable_leader
@@ -13,15 +12,15 @@ returns-then-is_stable_leader c =
     let a = c.args in
     law.settled_stable a.node a.mem.now a.leases a.key.now _ (c.is_stable_leader.ensures a.mem.now) c.if-is_stable_leader.true
 
-pub returns-then-leases-quorum : goal.returns-then-leases-quorum
-returns-then-leases-quorum c =
+pub returns-then-leases-from : goal.returns-then-leases-from
+returns-then-leases-from c =
     let a = c.args in
-    law.settled_leases a.node a.mem.now a.leases a.key.now _ (c.is_stable_leader.ensures a.mem.now) c.if-is_stable_leader.false (law.few c.wide-quorum.ensures c.if-leases-quorum.true)
+    law.settled_leases a.node a.mem.now a.leases a.key.now _ (c.is_stable_leader.ensures a.mem.now) c.if-is_stable_leader.false (omega arith)
 
 pub returns-in_default : goal.returns-in_default
 returns-in_default c =
     let a = c.args in
-    law.settled_unread a.node a.mem.now a.leases a.key.now _ (c.is_stable_leader.ensures a.mem.now) c.if-is_stable_leader.false (law.enough c.wide-quorum.ensures c.if-leases-quorum.false) c.key_to_inty.result c.key_to_inty.ensures c.in_default.is
+    law.settled_unread a.node a.mem.now a.leases a.key.now _ (c.is_stable_leader.ensures a.mem.now) c.if-is_stable_leader.false (omega arith) c.key_to_inty.result c.key_to_inty.ensures c.in_default.is
 
 pub slice_bounds-at-end : goal.slice_bounds-at-end
 slice_bounds-at-end c = omega (arith, law.words_long c.args.node c.args.mem.now c.requires.0)
@@ -34,13 +33,13 @@ pub returns-then-not-is_responder : goal.returns-then-not-is_responder
 unfolding part
 returns-then-not-is_responder c =
     let a = c.args in
-    law.settled_roster a.node a.mem.now a.leases a.key.now _ (c.is_stable_leader.ensures a.mem.now) c.if-is_stable_leader.false (law.enough c.wide-quorum.ensures c.if-leases-quorum.false) c.key_to_inty.result c.key_to_inty.ensures _ c.in-Number.is c.at-stored.result c.at-stored.ensures _ c.is_responder.ensures (ap not c.if-not-is_responder.true) c.not_responder.result (c.not_responder.ensures (view a.node a.mem.now) (part a.mem.now slots_at slot_words))
+    law.settled_roster a.node a.mem.now a.leases a.key.now _ (c.is_stable_leader.ensures a.mem.now) c.if-is_stable_leader.false (omega arith) c.key_to_inty.result c.key_to_inty.ensures _ c.in-Some.is c.at-stored.result c.at-stored.ensures _ c.is_responder.ensures c.if-not-is_responder.true c.not_responder.result (c.not_responder.ensures (view a.node a.mem.now) (part a.mem.now slots_at slot_words))
 
-pub returns-then-commit-max : goal.returns-then-commit-max
+pub returns-then-lt : goal.returns-then-lt
 unfolding part
-returns-then-commit-max c =
+returns-then-lt c =
     let a = c.args in
-    law.settled_bar a.node a.mem.now a.leases a.key.now _ (c.is_stable_leader.ensures a.mem.now) c.if-is_stable_leader.false (law.enough c.wide-quorum.ensures c.if-leases-quorum.false) c.key_to_inty.result c.key_to_inty.ensures _ c.in-Number.is c.at-stored.result c.at-stored.ensures _ c.is_responder.ensures (ap not c.if-not-is_responder.false) c.if-commit-max.true
+    law.settled_bar a.node a.mem.now a.leases a.key.now _ (c.is_stable_leader.ensures a.mem.now) c.if-is_stable_leader.false (omega arith) c.key_to_inty.result c.key_to_inty.ensures _ c.in-Some.is c.at-stored.result c.at-stored.ensures _ c.is_responder.ensures c.if-not-is_responder.false (search rules)
 
 pub slice_bounds-inspect_latest_write-end : goal.slice_bounds-inspect_latest_write-end
 slice_bounds-inspect_latest_write-end c = omega (arith, law.words_long c.args.node c.args.mem.now c.requires.0)
@@ -57,4 +56,4 @@ pub returns : goal.returns
 unfolding part
 returns c =
     let a = c.args in
-    law.settled_latest a.node a.mem.now a.leases a.key.now _ (c.is_stable_leader.ensures a.mem.now) c.if-is_stable_leader.false (law.enough c.wide-quorum.ensures c.if-leases-quorum.false) c.key_to_inty.result c.key_to_inty.ensures _ c.in-Number.is c.at-stored.result c.at-stored.ensures _ c.is_responder.ensures (ap not c.if-not-is_responder.false) c.if-commit-max.false c.inspect_latest_write.result (law.packed_as (view a.node a.mem.now) (part a.mem.now slots_at slot_words) _ _ c.inspect_latest_write.result c.requires.1 (c.inspect_latest_write.ensures a.mem.now refl refl))
+    law.settled_latest a.node a.mem.now a.leases a.key.now _ (c.is_stable_leader.ensures a.mem.now) c.if-is_stable_leader.false (omega arith) c.key_to_inty.result c.key_to_inty.ensures _ c.in-Some.is c.at-stored.result c.at-stored.ensures _ c.is_responder.ensures c.if-not-is_responder.false (ge_from_not_lt a.node.commit_bar.0 a.node.peer_accept_max.0 (sym c.if-lt.ensures)) c.inspect_latest_write.result (law.packed_as (view a.node a.mem.now) (part a.mem.now slots_at slot_words) _ _ c.inspect_latest_write.result c.requires.1 (c.inspect_latest_write.ensures a.mem.now refl refl))
