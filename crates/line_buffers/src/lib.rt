@@ -1,7 +1,11 @@
-// How large the buffers are that an event line is answered in, and a blank one for a program to lend.
+// How large the buffers are that an event line is answered in, a blank one for a program to lend, and one filled from an
+// input.
 #![tactic(auto)]
 
-ghost use Rattle.std.specs.Prelude.{◌≡◌, length};
+ghost use Rattle.std.specs.Prelude.{◌≡◌, ◌≤◌, length, IfOk};
+
+use std::io;
+use std::io::{ErrorKind, Read};
 
 // The longest line that is read; a stream keeps no more of one.
 pub const LINE_BYTES: usize = 1024;
@@ -22,4 +26,24 @@ pub fn blank<T: Copy + Default, const N: usize>() -> [T; N]
     ensures { length result ≡ N }
 {
     [T::default(); N]
+}
+
+// Reads until the buffer is full or the input ends, and returns how many bytes it put at the buffer's start.
+// A proved loop has to end, and nothing says that a signal does not interrupt each read: so it counts them.
+pub fn read_full<R: Read>(input: &mut R, buf: &mut [u8]) -> io::Result<usize>
+    ensures { IfOk result (λ n. n ≤ length buf.new) }
+{
+    let mut done = 0;
+    for _ in 0..u64::MAX {
+        if done == buf.len() {
+            break;
+        }
+        match input.read(&mut buf[done..]) {
+            Ok(0) => break,
+            Ok(n) => done += n,
+            Err(e) if e.kind() == ErrorKind::Interrupted => {}
+            Err(e) => return Err(e),
+        }
+    }
+    Ok(done)
 }

@@ -4,13 +4,17 @@
 
 ghost use Rattle.std.specs.Prelude.{◌≡◌, ◌≤◌, length, IfOk};
 
-use ids::Slot;
+use ids::{Refusal, Slot};
+use line_buffers::{GROUP_WORDS, ITEM_PLACES, ITEM_WORDS, LINE_BYTES, TEXT_BYTES, blank, read_full};
 use line_host::Host;
 use line_kind::{CallKind, EditKind, Kind};
-use node::{Taken, Node};
+use node::{Node, Taken};
 use roster_conf::RespondersConf;
 use std::io;
-use std::io::{ErrorKind, Read, Stdin, Stdout};
+use std::io::{Stdin, Stdout};
+
+// Room for a piece behind the start of a line.
+const PIECE_BYTES: usize = 65536;
 
 // ---- what a line of document 01 does to the node and the draft
 
@@ -26,100 +30,73 @@ struct State {
     lines: u64,
 }
 
-// 0: taken, with this many items; else the number of the refusal.
+// What a line leaves that is taken: how many items it answers, and what the next line finds.
 #[derive(Clone, Copy)]
 struct Done {
-    number: u64,
     count: usize,
     state: State,
 }
 
-fn ends(state: State, number: u64, count: usize) -> Done {
-    Done {
-        number,
+fn called(from: State, a: Result<Taken, Refusal>) -> Result<Done, Refusal> {
+    a.map(|Taken { node, count }| Done {
         count,
-        state,
-    }
-}
-
-fn called(from: State, a: Result<Taken, Refusal>) -> Done {
-    let mut state = from;
-    let node = a.node;
-    state.node = node;
-    ends(state, a.number, a.count)
+        state: State { node, ..from },
+    })
 }
 
 // Makes a fresh node wherever it can, with an empty draft.
-fn begin(from: State, mem: &mut [u64], line: &[u8], at: usize) -> Done {
+fn begin(from: State, mem: &mut [u64], line: &[u8], at: usize) -> Result<Done, Refusal> {
     let none = Host::fresh();
-    let a = line_draft::node_line(none.node, mem, line, at);
-    if a.number != 0 {
-        return ends(from, a.number, 0);
-    }
-    let mut state = from;
-    let node = a.node;
-    let draft = none.draft;
-    state.node = node;
-    state.draft = draft;
-    state.population = node.population;
-    ends(state, 0, 0)
+    let Taken { node, .. } = line_draft::node_line(none.node, mem, line, at)?;
+    Ok(Done {
+        count: 0,
+        state: State {
+            node,
+            draft: none.draft,
+            population: node.population,
+            ..from
+        },
+    })
 }
 
-fn edit(from: State, kind: EditKind, rows: &mut [u64], line: &[u8], at: usize) -> Done {
-    let e = line_draft::edit_line(kind, from.draft, rows, from.population, line, at);
-    match e {
-        Ok(draft) => {
-            let mut state = from;
-            state.draft = draft;
-            ends(state, 0, 0)
-        }
-        Err(number) => ends(from, number, 0),
-    }
+fn edit(
+    from: State,
+    kind: EditKind,
+    rows: &mut [u64],
+    line: &[u8],
+    at: usize,
+) -> Result<Done, Refusal> {
+    let draft = line_draft::edit_line(kind, from.draft, rows, from.population, line, at)?;
+    Ok(Done {
+        count: 0,
+        state: State { draft, ..from },
+    })
 }
 
-fn show(state: State, rows: &[u64], area: &mut [u64], line: &[u8], at: usize) -> Done {
-    let s = line_draft::show_line(state.draft, rows, area, state.population, line, at);
-    match s {
-        Ok(count) => ends(state, 0, count),
-        Err(number) => ends(state, number, 0),
-    }
+fn show(
+    state: State,
+    rows: &[u64],
+    area: &mut [u64],
+    line: &[u8],
+    at: usize,
+) -> Result<Done, Refusal> {
+    let count = line_draft::show_line(state.draft, rows, area, state.population, line, at)?;
+    Ok(Done { count, state })
 }
 
-fn hear(
+fn record(
     state: State,
     mem: &mut [u64],
     area: &mut [u64],
-    rows: &[u64],
     line: &[u8],
     at: usize,
-) -> Done {
-    called(
-        state,
-        line_calls::heard_line(state.node, mem, area, state.draft, rows, line, at),
-    )
-}
-
-fn record(state: State, mem: &mut [u64], area: &mut [u64], line: &[u8], at: usize) -> Done
+) -> Result<Done, Refusal>
     requires { length line.now ≤ 1024 }
 {
-    let mut groups = line_buffers::group_words();
+    let mut groups: [u64; GROUP_WORDS] = blank();
     called(
         state,
         line_record::record_line(state.node, mem, area, &mut groups, line, at),
-    )
-}
-
-fn call_line(
-    state: State,
-    kind: CallKind,
-    mem: &mut [u64],
-    area: &mut [u64],
-    line: &[u8],
-    at: usize,
-) -> Done {
-    called(
-        state,
-        line_calls::call_line(kind, state.node, mem, area, line, at),
     )
 }
 
@@ -131,43 +108,27 @@ fn done_by(
     kind: Kind,
     line: &[u8],
     at: usize,
-) -> Done
+) -> Result<Done, Refusal>
     requires { length line.now ≤ 1024 }
 {
     match kind {
         Kind::Node => begin(state, mem, line, at),
         Kind::Edit(kind) => edit(state, kind, rows, line, at),
         Kind::Show => show(state, rows, area, line, at),
-        Kind::Heard => hear(state, mem, area, rows, line, at),
+        Kind::Heard => called(
+            state,
+            line_calls::heard_line(state.node, mem, area, state.draft, rows, line, at),
+        ),
         Kind::Record => record(state, mem, area, line, at),
-        Kind::Call(kind) => call_line(state, kind, mem, area, line, at),
-        Kind::Unknown => ends(state, 1, 0),
+        Kind::Call(kind) => called(
+            state,
+            line_calls::call_line(kind, state.node, mem, area, line, at),
+        ),
+        Kind::Unknown => Err(Refusal::Malformed),
     }
 }
 
-// ---- the stream
-
-// Where the lines of a piece end.
-#[derive(Clone, Copy)]
-struct Place {
-    at: usize,
-    state: State,
-}
-
-fn least(a: usize, b: usize) -> usize
-    ensures { result ≤ b }
-{
-    if a < b { a } else { b }
-}
-
 // ---- answers
-
-// Room for any answer.
-fn text_space() -> [u8; 65536]
-    ensures { 65536 ≡ length result }
-{
-    [0; 65536]
-}
 
 fn say_sums(output: Stdout, node: u32, draft: u32) -> io::Result<()> {
     println!(output; "sum,{node},{draft}")
@@ -176,64 +137,66 @@ fn say_sums(output: Stdout, node: u32, draft: u32) -> io::Result<()> {
 fn say_answer(
     output: Stdout,
     line: u64,
-    number: u64,
-    count: usize,
+    done: Result<Done, Refusal>,
     area: &[u64],
 ) -> io::Result<()> {
-    if 546 < count {
+    let (number, count) = match done {
+        Ok(done) => (0, done.count),
+        Err(refusal) => (refusal.number(), 0),
+    };
+    if ITEM_PLACES < count || area.len() < count * 6 {
         return Ok(());
     }
-    if area.len() < count * 6 {
-        return Ok(());
-    }
-    let mut out = text_space();
+    let mut out: [u8; TEXT_BYTES] = blank();
     let end = line_answer::put_answer(&mut out, line, number, count, area);
-    output.write_all(&out[0..end])
+    output.write_all(&out[..end])
 }
 
 // ---- lines
 
 // Begins a draft for a population that need not be the node's.
 fn drafted(from: State, population: u64) -> State {
-    if 255 < population {
-        return from;
+    match u8::try_from(population) {
+        Ok(population) => State {
+            draft: RespondersConf::empty(),
+            population,
+            ..from
+        },
+        Err(_) => from,
     }
-    let mut s = from;
-    let draft = RespondersConf::empty();
-    s.draft = draft;
-    s.population = population as u8;
-    s
 }
 
 // Start, commit and exec bar at a slot: no list of calls gets there soon.
 fn jumped(from: State, bar: Slot) -> State {
-    let mut node = from.node;
-    node.start_slot = bar;
-    node.commit_bar = bar;
-    node.exec_bar = bar;
-    let mut s = from;
-    s.node = node;
-    s
+    State {
+        node: Node {
+            start_slot: bar,
+            commit_bar: bar,
+            exec_bar: bar,
+            ..from.node
+        },
+        ..from
+    }
 }
 
 // A line that has no answer: `lend`, `draft`, `jump`, or the name of a script.
 fn prepare(from: State, line: &[u8]) -> State {
-    if line.len() == 0 {
-        return from;
-    }
-    let mut s = from;
     let name = line_fields::field_at(line, 0);
-    let a = line_fields::number_at(line, name.next);
-    match line[0] {
-        b'l' => {
-            let b = line_fields::number_at(line, a.next);
-            s.words = a.value as usize;
-            s.rows = b.value as usize;
-            s
-        }
-        b'd' => drafted(s, a.value),
-        b'j' => jumped(s, Slot(a.value)),
-        _ => s,
+    let Some(a) = line_fields::number_at(line, name.next) else {
+        return from;
+    };
+    match line.first() {
+        Some(b'l') => match line_fields::number_at(line, a.next) {
+            Some(b) => State {
+                words: a.value as usize,
+                rows: b.value as usize,
+                ..from
+            },
+            None => from,
+        },
+        Some(b'd') => drafted(from, a.value),
+        Some(b'j') => jumped(from, Slot(a.value)),
+        _ => from,
     }
 }
 
@@ -247,17 +210,17 @@ fn act(
     kind: Kind,
     line: &[u8],
     at: usize,
-) -> Done
+) -> Result<Done, Refusal>
     requires { (places ≤ 546) × (length line.now ≤ 1024) }
 {
-    let n = least(s.words, mem.len());
-    let k = least(s.rows, rows.len());
-    let room = least(places * 6, area.len());
+    let n = s.words.min(mem.len());
+    let k = s.rows.min(rows.len());
+    let room = (places * 6).min(area.len());
     done_by(
         s,
-        &mut mem[0..n],
-        &mut rows[0..k],
-        &mut area[0..room],
+        &mut mem[..n],
+        &mut rows[..k],
+        &mut area[..room],
         kind,
         line,
         at,
@@ -268,8 +231,7 @@ fn act(
 fn name_end(line: &[u8]) -> usize
     ensures { result ≤ length line.now }
 {
-    let name = line_fields::field_at(line, 0);
-    name.end
+    line_fields::field_at(line, 0).end
 }
 
 // A line of document 01, with places for so many items.
@@ -284,11 +246,11 @@ fn call(
     requires { (places ≤ 546) × (length line.now ≤ 1024) }
 {
     let end = name_end(line);
-    let kind = line_kind::kind_of(&line[0..end]);
-    let mut area = line_buffers::item_area();
+    let kind = line_kind::kind_of(&line[..end]);
+    let mut area: [u64; ITEM_WORDS] = blank();
     let done = act(s, mem, rows, &mut area, places, kind, line, end + 1);
-    say_answer(output, s.lines, done.number, done.count, &area)?;
-    let next = done.state;
+    say_answer(output, s.lines, done, &area)?;
+    let next = done.map_or(s, |done| done.state);
     say_sums(
         output,
         test_node_sum::of_node(next.node, mem),
@@ -304,17 +266,17 @@ fn take(
     rows: &mut [u64],
     line: &[u8],
 ) -> io::Result<State> {
-    let mut s = from;
-    s.lines = s.lines.wrapping_add(1);
-    let places = line_fields::number_at(line, 0);
-    if !places.good {
+    let s = State {
+        lines: from.lines.wrapping_add(1),
+        ..from
+    };
+    let Some(places) = line_fields::number_at(line, 0) else {
         return Ok(prepare(s, line));
-    }
-    let at = places.next;
-    if line.len() < at {
+    };
+    let Some(line) = line.get(places.next..) else {
         return Ok(s);
-    }
-    if 1024 < line.len() - at {
+    };
+    if LINE_BYTES < line.len() {
         return Ok(s);
     }
     call(
@@ -322,12 +284,19 @@ fn take(
         s,
         mem,
         rows,
-        least(places.value as usize, 546),
-        &line[at..],
+        ITEM_PLACES.min(places.value as usize),
+        line,
     )
 }
 
 // ---- pieces of standard input
+
+// Where the lines of a piece end.
+#[derive(Clone, Copy)]
+struct Place {
+    at: usize,
+    state: State,
+}
 
 // Where the line that begins at a position ends.
 fn line_end(piece: &[u8], at: usize) -> usize
@@ -353,17 +322,14 @@ fn drain(
         if end == piece.len() {
             return Ok(Place { at, state });
         }
-        let next = end + 1;
         state = take(output, state, mem, rows, &piece[at..end])?;
-        at = next;
+        at = end + 1;
     }
 }
 
 // Before the first line.
 fn fresh() -> State {
-    let none = Host::fresh();
-    let node = none.node;
-    let draft = none.draft;
+    let Host { node, draft } = Host::fresh();
     State {
         node,
         draft,
@@ -374,38 +340,17 @@ fn fresh() -> State {
     }
 }
 
-// Reads until the buffer is full or the input ends, and returns how many bytes it put at the buffer's start.
-// A proved loop has to end, and nothing says that a signal does not interrupt each read: so it counts them.
-fn read_full(mut input: Stdin, buf: &mut [u8]) -> io::Result<usize>
-    ensures { IfOk result (λ n. n ≤ length buf.new) }
-{
-    let mut done = 0;
-    for _ in 0..u64::MAX {
-        if done == buf.len() {
-            break;
-        }
-        match input.read(&mut buf[done..]) {
-            Ok(0) => break,
-            Ok(n) => done += n,
-            Err(e) if e.kind() == ErrorKind::Interrupted => {}
-            Err(e) => return Err(e),
-        }
-    }
-    Ok(done)
-}
-
 // Reads a piece behind the bytes that were kept, and returns where it ends.
-fn fill(input: Stdin, buf: &mut [u8], have: usize) -> io::Result<usize>
+fn fill(mut input: Stdin, buf: &mut [u8], have: usize) -> io::Result<usize>
     requires { have ≤ length buf.old }
     ensures { IfOk result (λ end. (have ≤ end) × (end ≤ length buf.old)) }
 {
-    let n = read_full(input, &mut buf[have..])?;
-    Ok(have + n)
+    Ok(have + read_full(&mut input, &mut buf[have..])?)
 }
 
 // Reads pieces, each behind the bytes that were kept, and takes the lines that end in them.
-// A proved loop has to end, and nothing says that the input does: so it counts its turns down, from a number that no
-// run uses up.
+// A proved loop has to end, and nothing says that the input does: so it counts its turns, up to a number that no run
+// reaches.
 fn run(
     input: Stdin,
     output: Stdout,
@@ -417,31 +362,21 @@ fn run(
 {
     let mut state = fresh();
     let mut have = 0;
-    let mut turns = u64::MAX;
-    while turns > 0 {
+    for _ in 0..u64::MAX {
         let end = fill(input, buf, have)?;
         if end == have {
-            return Ok(());
+            break;
         }
-        let place = drain(output, &buf[0..end], state, mem, rows)?;
-        let kept = stream_pieces::keep(buf, place.at, end, false);
-        have = kept.have;
+        let place = drain(output, &buf[..end], state, mem, rows)?;
+        have = stream_pieces::keep(buf, place.at, end, false).have;
         state = place.state;
-        turns -= 1;
     }
     Ok(())
 }
 
-// Room for a piece behind the start of a line.
-fn piece_space() -> [u8; 65536]
-    ensures { 65536 ≡ length result }
-{
-    [0; 65536]
-}
-
 fn main(rt: HostRuntime) -> io::Result<()> {
-    let mut buf = piece_space();
-    let mut mem = line_buffers::node_words();
-    let mut rows = line_buffers::draft_rows();
+    let mut buf: [u8; PIECE_BYTES] = blank();
+    let mut mem: [u64; Node::WORDS] = blank();
+    let mut rows: [u64; RespondersConf::WORDS] = blank();
     run(rt.stdin(), rt.stdout(), &mut buf, &mut mem, &mut rows)
 }
