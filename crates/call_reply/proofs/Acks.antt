@@ -27,41 +27,12 @@ use Rattle.call_reply.specs.Acks.{with_acks, acks_with, ack_of, commits_by, comm
 use Rattle.call_reply.proofs.Resends.{none_written, put_one}
 use Rattle.std.specs.Prelude.{Option}
 
--- ---- whether the slot waits for it, test by test
-
-module _ (x : Short) (peer ballot : ℕ) (k : Cell) (e : cell_of k ≡ x) (t : Bool) (f : t ≡ is_accepting (status_of k.status)) where
-  back : acks_with (cell_of k) peer ballot ≡ acks_with x peer ballot
-  back = ap (λ (y : Short). acks_with y peer ballot) e
-
-  pub not_accepting : not t ≡ true → None ≡ acks_with x peer ballot
-  unfolding acks_with
-  not_accepting g = sym (rw (sym f ∙ not-true t g)) ∙ back
-
-  module _ (g : not t ≡ false) where
-    pub old_ballot : ballot < k.bal.0 → None ≡ acks_with x peer ballot
-    unfolding acks_with
-    old_ballot h = sym (rw (sym f ∙ not-false t g, lt-ltb ballot k.bal.0 h)) ∙ back
-
-    module _ (h : k.bal.0 ≤ ballot) where
-      pub no_acks : k.leader_bk ≡ None → None ≡ acks_with x peer ballot
-      unfolding acks_with
-      no_acks w = sym (rw (sym f ∙ not-false t g, le-ltb ballot k.bal.0 h, w)) ∙ back
-
-      module _ (acks : ℕ) (w : k.leader_bk ≡ Some acks) (b : Bool) (a : b ≡ get acks peer) where
-        pub acked : b ≡ true → None ≡ acks_with x peer ballot
-        unfolding acks_with
-        acked q = sym (rw (sym f ∙ not-false t g, le-ltb ballot k.bal.0 h, w, sym a ∙ q)) ∙ back
-
-        pub marked : b ≡ false → (m : ℕ) → m ≡ set_to acks peer true → Some m ≡ acks_with x peer ballot
-        unfolding acks_with set_to
-        marked q m z = ap Some z ∙ sym (rw (sym f ∙ not-false t g, le-ltb ballot k.bal.0 h, w, sym a ∙ q)) ∙ back
-
 -- ---- what it does
 
 module _ (s : List ℕ) (c peer ballot quorum : ℕ) (conf : Conf) (r : Option ℕ) (e : r ≡ acks_with (short_at s c) peer ballot) where
   pub ignored : r ≡ None → Ignored ≡ ack_of (short_at s c) (batch_at s c) peer ballot quorum conf
   unfolding ack_of
-  ignored f = sym (rw (sym e ∙ ap f))
+  ignored f = sym (rw (sym e ∙ f))
 
   module _ (acks : ℕ) (f : r ≡ Some acks) (from k : ℕ) (h : from ≡ batch_start c) (w : k ≡ batch_words) (t : Bool)
       (g : t ≡ commit_condition acks (requests_of (take k (drop from s))) quorum conf) where
@@ -71,31 +42,24 @@ module _ (s : List ℕ) (c peer ballot quorum : ℕ) (conf : Conf) (r : Option �
 
     pub commits : t ≡ true → Commits acks ≡ ack_of (short_at s c) (batch_at s c) peer ballot quorum conf
     unfolding ack_of
-    commits h = sym (rw (sym e ∙ ap f, sym condition ∙ h))
+    commits h = sym (rw (sym e ∙ f, sym condition ∙ h))
 
     pub marks : t ≡ false → Marks acks ≡ ack_of (short_at s c) (batch_at s c) peer ballot quorum conf
     unfolding ack_of
-    marks h = sym (rw (sym e ∙ ap f, sym condition ∙ h))
+    marks h = sym (rw (sym e ∙ f, sym condition ∙ h))
 
 -- ---- its item
 
-module _ (area : List ℕ) (place slot : ℕ) (a : Ack) (n : ℕ) (e : n ≡ commits_by a) where
-  pub no_commit : n ≡ 0 → area ≡ writes area (place * 6) (encode (commit_items a slot))
-  no_commit h = go a (sym e ∙ h)
-    where
-      go : (a : Ack) → commits_by a ≡ 0 → area ≡ writes area (place * 6) (encode (commit_items a slot))
-      go Ignored f = none_written area (place * 6)
-      go (Marks m) f = none_written area (place * 6)
-      go (Commits m) f = absurd (omega arith)
+module _ (area : List ℕ) (place slot : ℕ) where
+  pub no_commit : (a : Ack) → ((m : ℕ) → a ≡ Commits m → ⊥) → area ≡ writes area (place * 6) (encode (commit_items a slot))
+  no_commit Ignored f = none_written area (place * 6)
+  no_commit (Marks m) f = none_written area (place * 6)
+  no_commit (Commits m) f = absurd (f m refl)
 
-  pub one_commit : (n ≡ 0 → ⊥) → place + commits_by a ≤ places area → (t : Bool) (after : List ℕ) → ◌≡◌ {A = Put} (record { taken = t; area = after }) (put_item area place (Commit slot))
+  pub one_commit : (a : Ack) (m : ℕ) → a ≡ Commits m → place + commits_by a ≤ places area → (t : Bool) (after : List ℕ) → ◌≡◌ {A = Put} (record { taken = t; area = after }) (put_item area place (Commit slot))
       → after ≡ writes area (place * 6) (encode (commit_items a slot))
-  one_commit h f t after p = go a (λ z. h (e ∙ z)) f
-    where
-      go : (a : Ack) → (commits_by a ≡ 0 → ⊥) → place + commits_by a ≤ places area → after ≡ writes area (place * 6) (encode (commit_items a slot))
-      go Ignored g f = absurd (g refl)
-      go (Marks m) g f = absurd (g refl)
-      go (Commits m) g f = put_one area place (Commit slot) t after (omega arith) p
+  one_commit a m e f t after p =
+      let g = rw e at f in rw e (put_one area place (Commit slot) t after (omega (arith, g)) p)
 
 -- ---- the words after it
 

@@ -3,7 +3,11 @@ use Rattle.std.specs.Prelude.{if◌then◌else◌}
 use mathlib.Core.Path.{◌≡◌, refl, sym, ap, subst, ◌∙◌}
 use mathlib.Core.Bool.{Bool, true, false, not, ◌&&◌, ◌||◌}
 use mathlib.Core.List.{List, [], ◌∷◌, ◌++◌, append-nil}
-use Rattle.std.specs.Prelude.{Option, None, Some}
+use Rattle.std.specs.Prelude.{Option, None, Some, Result, Ok, Err, IsErrAnd, ok_or}
+use Rattle.ids.specs.Refusal.{number_of}
+use Rattle.ids.specs.declared.Refusal.{Refusal}
+use Rattle.ids.specs.declared.Refusal.TheVariants.{AreaTooSmall}
+use Rattle.node.specs.declared.Taken.{Taken}
 use Prim.Native.Nat.{ℕ, zero, suc, ◌+◌, ◌-◌, ◌*◌, ◌/◌, ◌%◌, ◌≤◌, ◌<◌}
 use native.Mathlib.Decide.{dec_lt}
 use native.Mathlib.Omega.{arith}
@@ -26,7 +30,7 @@ use Rattle.bodega.specs.Answers.{Answers}
 use Rattle.inst_cell.specs.Cell.{Short}
 use Rattle.insts.specs.Slots.{short_at, batch_at, reads_at, inst_of, inst_in, insts_of}
 use Rattle.node.specs.declared.Node.{Node}
-use Rattle.node.specs.View.{view, ready, lowest, leads_it}
+use Rattle.node.specs.View.{view, ready, given_of, lowest, leads_it}
 use Rattle.words.proofs.Tests.{and_both}
 use Rattle.layout.specs.Layout.{slot_places, slot_words, roster_words, rows_at, slots_at, node_words}
 use Rattle.node.proofs.Calls.{Ready, is_ready, refused_by, none_applies, few_places, taken_with, taken_by}
@@ -40,60 +44,12 @@ use Rattle.call_reply.specs.Acks.{acks_with, ack_of, commits_by, commit_items, A
 use Rattle.call_reply.specs.Replies.{unheld, reply_refusal, awaited, span, items_of, Replies}
 use Rattle.call_reply.proofs.Resends.{no_resend}
 
--- ---- a test after another
+pub leads_is : (n : Node) (t : Bool) → t ≡ machine.is_leader (view n []) → t ≡ leads_it (leader_of n.bodega_conf.leader) n.id.0
+unfolding view roster_of
+leads_is n t e = e
 
-module _ (start slots prepared slot ballot : ℕ) where
-  pub below_start : slot < start → false ≡ unheld start slots prepared slot ballot
-  below_start h = sym (simp (lt-leb start slot h))
-
-  module _ (h : start ≤ slot) where
-    pub other_ballot : (ballot ≡ prepared → ⊥) → false ≡ unheld start slots prepared slot ballot
-    other_ballot g = sym (simp (le-leb start slot h, ne_eqb ballot prepared g))
-
-    pub past_end : ballot ≡ prepared → leb (start + slots) slot ≡ unheld start slots prepared slot ballot
-    past_end g = sym (simp (le-leb start slot h, eq-eqb ballot prepared g))
-
-module _ (population start slots prepared peer slot ballot : ℕ) where
-  pub gives_3 : population ≤ peer → 3 ≡ reply_refusal population start slots prepared peer slot ballot
-  gives_3 h = sym (simp (le-leb population peer h))
-
-  module _ (h : peer < population) where
-    pub gives_8 : 281474976710655 < slot → 8 ≡ reply_refusal population start slots prepared peer slot ballot
-    gives_8 g = sym (simp (lt-leb population peer h, lt-ltb 281474976710655 slot g))
-
-    module _ (g : slot ≤ 281474976710655) (t : Bool) (e : t ≡ unheld start slots prepared slot ballot) where
-      near : (b : Bool) → t ≡ b → reply_refusal population start slots prepared peer slot ballot ≡ (if b then 16 else 0)
-      near b f =
-          ap (λ (x : Bool). if leb population peer then 3 else if ltb 281474976710655 slot then 8 else if x then 16 else 0) (sym e ∙ f)
-          ∙ simp (lt-leb population peer h, le-ltb 281474976710655 slot g)
-
-      pub gives_16 : t ≡ true → 16 ≡ reply_refusal population start slots prepared peer slot ballot
-      gives_16 f = sym (near true f)
-
-      pub gives_0 : t ≡ false → 0 ≡ reply_refusal population start slots prepared peer slot ballot
-      gives_0 f = sym (near false f)
-
-module _ (leader : Option ℕ) (id start prepared slot ballot : ℕ) where
-  pub old_slot : slot < start → false ≡ awaited leader id start prepared slot ballot
-  old_slot h = sym (simp (lt-ltb slot start h))
-
-  module _ (h : start ≤ slot) where
-    pub unprepared : (ballot ≡ prepared → ⊥) → false ≡ awaited leader id start prepared slot ballot
-    unprepared g = sym (simp (le-ltb slot start h, ne_eqb ballot prepared g))
-
-    pub leads_then : ballot ≡ prepared → (t : Bool) → t ≡ leads_it leader id → t ≡ awaited leader id start prepared slot ballot
-    leads_then g t e = e ∙ sym (simp (le-ltb slot start h, eq-eqb ballot prepared g))
-
-module _ (id peer commit slot : ℕ) where
-  pub own_reply : peer ≡ id → 0 ≡ span id peer commit slot
-  own_reply h = sym (simp (eq-eqb peer id h))
-
-  module _ (h : peer ≡ id → ⊥) where
-    pub span_above : slot - commit ≡ span id peer commit slot
-    span_above = sym (simp (ne_eqb peer id h))
-
-    pub span_below : slot < commit → 0 ≡ span id peer commit slot
-    span_below g = let z : 0 ≡ slot - commit = omega arith in z ∙ span_above
+past_end : (start slots prepared slot ballot : ℕ) → start ≤ slot → ballot ≡ prepared → leb (start + slots) slot ≡ unheld start slots prepared slot ballot
+past_end start slots prepared slot ballot h g = sym (simp (le-leb start slot h, eq-eqb ballot prepared g))
 
 -- ---- the items, and the ack
 
@@ -259,7 +215,7 @@ acts_size (Commits m) s t c x = x.size
 
 -- ---- the call
 
-module _ (n : Node) (m area : List ℕ) (peer slot ballot : ℕ) (t : Bool) (e : t ≡ ready n m) (f : not t ≡ false) where
+module _ (n : Node) (m area : List ℕ) (peer slot ballot : ℕ) (y : ready n m ≡ true) where
   abbrev words : List ℕ
   words = take slot_words (drop slots_at m)
 
@@ -267,29 +223,35 @@ module _ (n : Node) (m area : List ℕ) (peer slot ballot : ℕ) (t : Bool) (e :
   call = machine.Reply peer slot ballot
 
   r : Ready n m
-  r = is_ready n m t e f
+  r = is_ready n m true (sym y) refl
 
   pub asked : (n.start_slot.0 ≤ 281474976710655) × (n.slots ≤ slot_places)
   asked = (r.start_low_lem, r.window)
 
-  module _ (k : ℕ) (g : k ≡ reply_refusal n.population n.start_slot.0 n.slots n.bal_prepared.0 peer slot ballot) where
-    g' : k ≡ lowest (grounds (view n m) call)
+  abbrev refusal : ℕ
+  refusal = reply_refusal n.population n.start_slot.0 n.slots n.bal_prepared.0 peer slot ballot
+
+  pub reply_refused : (x : Refusal) (z : Result Taken Refusal) → number_of x ≡ refusal → IsErrAnd z (λ u. u ≡ x) → Answers ready view call n m area (given_of n z) m area
+  reply_refused x z g = refused_by call n m area true (sym y) refl x z (g ∙ number_is n m peer slot ballot)
+
+  pub buffer : node_words ≤ length m
+  buffer = r.long
+
+  module _ (g : 0 ≡ refusal) where
+    g' : 0 ≡ lowest (grounds (view n m) call)
     g' = g ∙ number_is n m peer slot ballot
 
-    pub reply_refused : (k ≡ 0 → ⊥) → Answers ready view call n m area (record { number = k; count = 0; node = n }) m area
-    reply_refused h = refused_by call n m area t e f k g' h
-
-    module _ (z : k ≡ 0) (u : Bool) (w : u ≡ waits n m peer slot ballot) where
-      pub not_awaited : not u ≡ true → Answers ready view call n m area (record { number = 0; count = 0; node = n }) m area
+    module _ (u : Bool) (w : u ≡ waits n m peer slot ballot) where
+      pub not_awaited : u ≡ false → Answers ready view call n m area (given_of n (Ok (record { node = n; count = 0 }))) m area
       unfolding effect
       not_awaited v =
-          taken_by call n m area t e f k g' z (view n m) n m
-          (handled_at n m peer slot ballot ∙ ap (λ (b : Bool). if b then take_ack (view n m) peer slot ballot (resent n m peer slot ballot) else machine.done (view n m) []) (sym w ∙ not-true u v))
-          refl refl (λ j l. refl) (sym e ∙ not-false t f)
+          taken_by call n m g' area true (sym y) refl (view n m) n m
+          (handled_at n m peer slot ballot ∙ ap (λ (b : Bool). if b then take_ack (view n m) peer slot ballot (resent n m peer slot ballot) else machine.done (view n m) []) (sym w ∙ v))
+          refl refl (λ j l. refl) y
 
-      module _ (v : not u ≡ false) where
+      module _ (v : u ≡ true) where
         is_awaited : (not (ltb slot n.start_slot.0) ≡ true) × (eqb ballot n.bal_prepared.0 && leads_it (leader_of n.bodega_conf.leader) n.id.0 ≡ true)
-        is_awaited = and_both (not (ltb slot n.start_slot.0)) (eqb ballot n.bal_prepared.0 && leads_it (leader_of n.bodega_conf.leader) n.id.0) (sym w ∙ not-false u v)
+        is_awaited = and_both (not (ltb slot n.start_slot.0)) (eqb ballot n.bal_prepared.0 && leads_it (leader_of n.bodega_conf.leader) n.id.0) (sym w ∙ v)
 
         low : n.start_slot.0 ≤ slot
         low = ltb-false slot n.start_slot.0 (not-true (ltb slot n.start_slot.0) is_awaited.0)
@@ -299,7 +261,7 @@ module _ (n : Node) (m area : List ℕ) (peer slot ballot : ℕ) (t : Bool) (e :
         high =
             let same : ballot ≡ n.bal_prepared.0 = eqb-true ballot n.bal_prepared.0 (and_both (eqb ballot n.bal_prepared.0) (leads_it (leader_of n.bodega_conf.leader) n.id.0) is_awaited.1).0 in
             leb-false (n.start_slot.0 + n.slots) slot
-            (past_end n.start_slot.0 n.slots n.bal_prepared.0 slot ballot low same ∙ ground_16 n m peer slot ballot ∙ (none_applies call n m k g' z).1.1.0)
+            (past_end n.start_slot.0 n.slots n.bal_prepared.0 slot ballot low same ∙ ground_16 n m peer slot ballot ∙ (none_applies call n m g').1.1.0)
 
         resent_by : (b : Bool) → (if b then [] else resend_missed_accepts (view n m) peer (slot - n.commit_bar.0))
             ≡ resends_of (part m slots_at slot_words) n.commit_bar.0 peer n.bal_prepared.0 (if b then 0 else slot - n.commit_bar.0)
@@ -318,9 +280,6 @@ module _ (n : Node) (m area : List ℕ) (peer slot ballot : ℕ) (t : Bool) (e :
         after_is (Marks b) s' x = set_at n m slot low high r.window x
         after_is (Commits b) s' x = set_at n m slot low high r.window x
 
-        pub buffer : node_words ≤ length m
-        buffer = r.long
-
         pub ack_asked : (slot % slot_places < slot_places) × (node_words ≤ length m) × (n.bodega_conf.count ≤ 64)
         ack_asked = (omega arith, r.long, r.ranges)
 
@@ -331,7 +290,7 @@ module _ (n : Node) (m area : List ℕ) (peer slot ballot : ℕ) (t : Bool) (e :
         pub reply_asked : (slot_words ≤ length words) × (n.commit_bar.0 ≤ 281474976710687) × (slot ≤ n.commit_bar.0 + slot_places)
         reply_asked = (omega (arith, words_long), omega (arith, r), omega (arith, r, high))
 
-        module _ (a : Ack) (y : a ≡ ack_of (short_at (part m slots_at slot_words) (slot % slot_places)) (batch_at (part m slots_at slot_words) (slot % slot_places)) peer ballot n.quorum (roster_of n.bodega_conf (part m rows_at roster_words))) where
+        module _ (a : Ack) (d : a ≡ ack_of (short_at (part m slots_at slot_words) (slot % slot_places)) (batch_at (part m slots_at slot_words) (slot % slot_places)) peer ballot n.quorum (roster_of n.bodega_conf (part m rows_at roster_words))) where
           abbrev items : List Item
           items = items_of (part m slots_at slot_words) n.id.0 peer n.commit_bar.0 n.bal_prepared.0 slot a
 
@@ -339,27 +298,39 @@ module _ (n : Node) (m area : List ℕ) (peer slot ballot : ℕ) (t : Bool) (e :
           unfolding effect view inst_in
           effect_is =
               handled_at n m peer slot ballot
-              ∙ ap (λ (b : Bool). if b then take_ack (view n m) peer slot ballot (resent n m peer slot ballot) else machine.done (view n m) []) (sym w ∙ not-false u v)
+              ∙ ap (λ (b : Bool). if b then take_ack (view n m) peer slot ballot (resent n m peer slot ballot) else machine.done (view n m) []) (sym w ∙ v)
               ∙ take_ack_lem (view n m) peer slot ballot (resent n m peer slot ballot) (short_at (part m slots_at slot_words) (slot % slot_places)) (batch_at (part m slots_at slot_words) (slot % slot_places)) (reads_at (part m slots_at slot_words) (slot % slot_places)) (held_at_lem n m slot low high)
-              ∙ ap (result slot (resent n m peer slot ballot) here (view n m)) (sym y)
+              ∙ ap (result slot (resent n m peer slot ballot) here (view n m)) (sym d)
               ∙ ap (λ (l : List Item). result slot l here (view n m) a) (resent_by (eqb peer n.id.0))
 
           module _ (q : Option ℕ) (s' area' : List ℕ)
               (p : Replies (items_of words n.id.0 peer n.commit_bar.0 n.bal_prepared.0 slot a) a (slot % slot_places) words area q s' area') where
-            pub reply_full : q ≡ None → Answers ready view call n m area (record { number = 20; count = 0; node = n }) (splice m slots_at slot_words s') area'
+            pub reply_full : (x : Refusal) (z : Result Taken Refusal) → Err x ≡ ok_or q AreaTooSmall → IsErrAnd z (λ o. o ≡ x) → Answers ready view call n m area (given_of n z) (splice m slots_at slot_words s') area'
             unfolding part
-            reply_full h =
-                let x : Replies items a (slot % slot_places) words area None s' area' = subst (λ (y : Option ℕ). Replies items a (slot % slot_places) words area y s' area') h p in
-                let few : places area < length (effect (view n m) call).items = rw effect_is x.0 in
-                let same : m ≡ splice m slots_at slot_words s' = sym (splice_same m slots_at slot_words) ∙ ap (splice m slots_at slot_words) (sym x.1) in
-                subst (λ (y : List ℕ). Answers ready view call n m area (record { number = 20; count = 0; node = n }) y area') same
-                (subst (λ (y : List ℕ). Answers ready view call n m area (record { number = 20; count = 0; node = n }) m y) (sym x.2) (few_places call n m area t e f k g' z few))
+            reply_full x (Ok z) h i = absurd i
+            reply_full x (Err z) h i = rw i (go q p h)
+              where
+                go : (o : Option ℕ) → Replies (items_of words n.id.0 peer n.commit_bar.0 n.bal_prepared.0 slot a) a (slot % slot_places) words area o s' area' → Err x ≡ ok_or o AreaTooSmall
+                    → Answers ready view call n m area (given_of n (Err x)) (splice m slots_at slot_words s') area'
+                go None k h =
+                    let few : places area < length (effect (view n m) call).items = rw effect_is k.0 in
+                    let same : m ≡ splice m slots_at slot_words s' = sym (splice_same m slots_at slot_words) ∙ ap (splice m slots_at slot_words) (sym k.1) in
+                    let x_is : x ≡ AreaTooSmall = cc in
+                    rw x_is
+                    (subst (λ (y : List ℕ). Answers ready view call n m area (given_of n (Err AreaTooSmall)) y area') same
+                    (subst (λ (y : List ℕ). Answers ready view call n m area (given_of n (Err AreaTooSmall)) m y) (sym k.2) (few_places call n m g' area true (sym y) refl few)))
+                go (Some j) k h = cc
 
-            pub reply_taken : (j : ℕ) → q ≡ Some j → Answers ready view call n m area (record { number = 0; count = j; node = n }) (splice m slots_at slot_words s') area'
+            pub reply_taken : (j : ℕ) → Ok j ≡ ok_or q AreaTooSmall → Answers ready view call n m area (given_of n (Ok (record { node = n; count = j }))) (splice m slots_at slot_words s') area'
             unfolding part
-            reply_taken j h =
-                let x : Replies items a (slot % slot_places) words area (Some j) s' area' = subst (λ (y : Option ℕ). Replies items a (slot % slot_places) words area y s' area') h p in
-                let long : length s' ≡ slot_words = acts_size a words s' (slot % slot_places) x.3 ∙ words_long in
-                subst (λ (c : ℕ). Answers ready view call n m area (record { number = 0; count = c; node = n }) (splice m slots_at slot_words s') area') (sym x.0)
-                (taken_with call n m area t e f k g' z (after a slot here (view n m)) items n (splice m slots_at slot_words s') area' effect_is x.1
-                (slots_back n m r.long s' long ∙ after_is a s' x.3) x.2 (slots_size n m r.long s' long) (slots_beyond n m r.long s' long) (slots_ready n m r.long s' long ∙ sym e ∙ not-false t f))
+            reply_taken j h = go q p h
+              where
+                go : (o : Option ℕ) → Replies (items_of words n.id.0 peer n.commit_bar.0 n.bal_prepared.0 slot a) a (slot % slot_places) words area o s' area' → Ok j ≡ ok_or o AreaTooSmall
+                    → Answers ready view call n m area (given_of n (Ok (record { node = n; count = j }))) (splice m slots_at slot_words s') area'
+                go None k h = cc
+                go (Some i) k h =
+                    let size : length s' ≡ slot_words = acts_size a words s' (slot % slot_places) k.3 ∙ words_long in
+                    let same : j ≡ length items = (let z : j ≡ i = cc in z) ∙ k.0 in
+                    subst (λ (c : ℕ). Answers ready view call n m area (given_of n (Ok (record { node = n; count = c }))) (splice m slots_at slot_words s') area') (sym same)
+                    (taken_with call n m g' area true (sym y) refl (after a slot here (view n m)) items n (splice m slots_at slot_words s') area' effect_is k.1
+                    (slots_back n m r.long s' size ∙ after_is a s' k.3) k.2 (slots_size n m r.long s' size) (slots_beyond n m r.long s' size) (slots_ready n m r.long s' size ∙ y))

@@ -18,22 +18,6 @@ missed_of x peer prepared =
     if get acks peer then Stop else
     if eqb x.bal prepared then Send else Skip
 
--- how many it sends there, which, and how many of i slots are left then
-abbrev pub sent_by : Missed → ℕ
-sent_by Skip = 0
-sent_by Stop = 0
-sent_by Send = 1
-
-abbrev pub sends : Missed → ℕ → ℕ → List Item
-sends Skip slot peer = []
-sends Stop slot peer = []
-sends Send slot peer = Resend slot peer ∷ []
-
-abbrev pub left_by : Missed → ℕ → ℕ
-left_by Skip i = i
-left_by Stop i = 0
-left_by Send i = i
-
 -- n slots from the commit bar on, the last of them first
 abbrev pub and_more : Missed → ℕ → ℕ → List Item → List Item
 and_more Skip slot peer more = more

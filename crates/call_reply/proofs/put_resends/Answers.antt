@@ -1,40 +1,37 @@
-use borrow.Author.Rules.{rules}
-use Rattle.call_reply.proofs.Resends as law
+use mathlib.Core.Path.{refl, ap, ◌∙◌}
 use native.Mathlib.Omega.{arith}
-use mathlib.Core.Path.{refl, ◌∙◌}
-use Prim.Native.Nat.{◌-◌}
+use lib.ListN.{length}
+use Rattle.call_reply.proofs.Resends as law
 use Rattle.call_reply.proofs.put_resends.Goals as goal
 
-pub loop-k-init : goal.loop-k-init
-loop-k-init c = (omega arith, refl, omega arith, refl)
+pub loop-j-init : goal.loop-j-init
+loop-j-init c = (omega arith, refl, omega arith, refl)
 
-pub put_missed-place-requires : goal.put_missed-place-requires
-put_missed-place-requires c =
-    let l = c.loop-k in
+pub loop-j-preserved-in-Skip : goal.loop-j-preserved-in-Skip
+loop-j-preserved-in-Skip c =
     let a = c.args in
-    law.room a.s.now a.commit.0 a.peer.0 a.prepared.0 l.k c.loop-k-test.true c.missed_at-kind.result c.missed_at-kind.ensures l.place _ _ l.invariant.2 (omega arith)
+    let l = c.loop-j in
+    let e = law.skipped a.s.now a.commit.0 a.peer.0 a.prepared.0 l.j c.loop-j-test.true c.in-Skip.ensures in
+    (omega arith, l.invariant.1, omega (arith, ap length e), law.put_same a.s.now a.commit.0 a.peer.0 a.prepared.0 l.area _ l.place l.j l.invariant.3 e)
 
-pub left-k-requires : goal.left-k-requires
-left-k-requires c = tt
-
-pub loop-k-smaller : goal.loop-k-smaller
-loop-k-smaller c =
-    let l = c.loop-k in
-    omega (arith, law.left_less c.missed_at-kind.result (l.k - 1))
-
-pub loop-k-preserved : goal.loop-k-preserved
-loop-k-preserved c =
-    let l = c.loop-k in
+pub returns-in-Stop : goal.returns-in-Stop
+returns-in-Stop c =
     let a = c.args in
-    let q = c.missed_at-kind.result in (
-      omega (arith, law.sent_one q, law.left_less q (l.k - 1)),
-      search rules,
-      law.count_step a.s.now a.commit.0 a.peer.0 a.prepared.0 l.k c.loop-k-test.true q c.missed_at-kind.ensures _ c.left-k.ensures l.place _ _ c.put_missed-place.ensures.0 l.invariant.2,
-      law.put_step a.s.now a.commit.0 a.peer.0 a.prepared.0 l.k c.loop-k-test.true q c.missed_at-kind.ensures _ c.left-k.ensures l.area _ l.place _ c.put_missed-place.ensures.0 c.put_missed-place.ensures.1 ∙ l.invariant.3,
-    )
+    let l = c.loop-j in
+    let e = law.stopped a.s.now a.commit.0 a.peer.0 a.prepared.0 l.j c.loop-j-test.true c.in-Stop.ensures in
+    (omega (arith, ap length e), law.put_end a.s.now a.commit.0 a.peer.0 a.prepared.0 l.area _ l.place l.j l.invariant.3 e)
+
+pub loop-j-preserved : goal.loop-j-preserved
+loop-j-preserved c =
+    let a = c.args in
+    let l = c.loop-j in
+    let e = law.sent a.s.now a.commit.0 a.peer.0 a.prepared.0 l.j c.loop-j-test.true c.in-Send.ensures in
+    let p = law.put_step a.s.now a.commit.0 a.peer.0 a.prepared.0 l.area _ l.place l.j l.invariant.3 _ _ _ e (omega (arith, ap length e, l.invariant.1, l.invariant.2)) c.put_item.ensures in
+    (omega arith, p.0 ∙ l.invariant.1, omega (arith, ap length e), p.1)
 
 pub returns : goal.returns
 returns c =
-    let l = c.loop-k in
     let a = c.args in
-    law.put_end a.s.now a.commit.0 a.peer.0 a.prepared.0 l.k l.place _ c.loop-k-test.false l.invariant.2 l.area _ l.invariant.3
+    let l = c.loop-j in
+    let e = law.ended a.s.now a.commit.0 a.peer.0 a.prepared.0 l.j c.loop-j-test.false in
+    (omega (arith, ap length e), law.put_end a.s.now a.commit.0 a.peer.0 a.prepared.0 l.area _ l.place l.j l.invariant.3 e)
