@@ -1,7 +1,7 @@
 -- The grounds of *record* test by test, the slot's place, the slots, and the call.
 use mathlib.Core.Path.{◌≡◌, refl, sym, ap, ◌∙◌}
 use mathlib.Core.Bool.{Bool, true, false, not, ◌||◌}
-use mathlib.Core.List.{List, ◌++◌}
+use mathlib.Core.List.{List, [], ◌++◌}
 use Rattle.std.specs.Prelude.{Option, None, Some, Result, Ok, IsErrAnd, slice_get, if◌then◌else◌}
 use Prim.Native.Nat.{ℕ, ◌+◌, ◌-◌, ◌%◌, ◌≤◌, ◌<◌}
 use native.Mathlib.Omega.{arith}
@@ -9,6 +9,7 @@ use lib.Dec.{ltb, leb, eqb}
 use lib.ListN.{length, set, take, drop, replicate}
 use borrow.Author.Tests.{le-ltb, ltb-false, leb-false}
 use Rattle.words.specs.Choice.{if_none◌then◌else◌}
+use Rattle.words.proofs.Tests.{or_both}
 use Rattle.words.specs.Part.{part, splice, Untouched, length_part, part_before}
 use Rattle.ids.specs.Leader.{leader_of}
 use Rattle.ids.specs.Limits.{keys, window, batch}
@@ -57,22 +58,12 @@ none_of false false false e = (refl, refl, refl)
 abbrev second : Bool → Bool → Bool → Bool → ℕ
 second a b c d = if a then 13 else if b then 14 else if c then 15 else if d then 18 else 0
 
--- what holds where none of them applies
-pub record Fits (start slot : ℕ) (full : Bool) : Type 0 where
-  pub above : start ≤ slot
-  pub inside : slot < start + window
-  pub room : full ≡ false
-
-fits : (start slot : ℕ) (a b full : Bool) → 0 ≡ second a (ltb slot start || b) (leb (start + window) slot) full → Fits start slot full
-fits start slot a b full e = go a (ltb slot start) b (leb (start + window) slot) full refl refl refl e
-  where
-    go : (x p y z w : Bool) → ltb slot start ≡ p → leb (start + window) slot ≡ z → full ≡ w → 0 ≡ second x (p || y) z w → Fits start slot full
-    go true p y z w f g o h = absurd (omega (arith, h))
-    go false true y z w f g o h = absurd (omega (arith, h))
-    go false false true z w f g o h = absurd (omega (arith, h))
-    go false false false true w f g o h = absurd (omega (arith, h))
-    go false false false false true f g o h = absurd (omega (arith, h))
-    go false false false false false f g o h = record { above = ltb-false slot start f; inside = leb-false (start + window) slot g; room = o }
+none_late : (a b c d : Bool) → 0 ≡ second a b c d → (b ≡ false) × (c ≡ false) × (d ≡ false)
+none_late true b c d e = absurd (omega (arith, e))
+none_late false true c d e = absurd (omega (arith, e))
+none_late false false true d e = absurd (omega (arith, e))
+none_late false false false true e = absurd (omega (arith, e))
+none_late false false false false e = (refl, refl, refl)
 
 -- ---- 14
 
@@ -133,6 +124,12 @@ accepted {s = s} {t = t} {u = u} {qs = qs} start n slot ballot r leader h p q =
         = rw (ap (λ (j : ℕ). j % slot_places) e) q in
         moved start r k at a b ∙ ap (set (insts_of start r t) k) (accepting_is leader ballot qs t (slot % slot_places))
 
+-- ---- the ballot
+
+pub leads_is : (n : Node) (t : Bool) → t ≡ is_leader (view n []) → t ≡ leads_it (leader_of n.bodega_conf.leader) n.id.0
+unfolding view roster_of
+leads_is n t e = e
+
 -- ---- the node after it
 
 recorded_is : (r : Replica) (slot ballot : ℕ) (qs : List Request) (l : List Instance) (i : Instance) → r.bar.start ≤ slot
@@ -140,25 +137,6 @@ recorded_is : (r : Replica) (slot ballot : ℕ) (qs : List Request) (l : List In
     → recorded r slot ballot qs ≡ with_insts (set l (slot - r.bar.start) (accepting r ballot qs i)) (with_highest_slot (refresh_highest_slot slot qs r.highest_slot) r)
 unfolding recorded inst_at set_inst pad
 recorded_is r slot ballot qs l i h e g = rw (le-ltb slot r.bar.start h, e, g)
-
-abbrev pub next : Node → ℕ → Node
-next n held =
-    record {
-      id = n.id;
-      population = n.population;
-      quorum = n.quorum;
-      bodega_conf = n.bodega_conf;
-      bal_max_seen = n.bal_max_seen;
-      bal_prep_sent = n.bal_prep_sent;
-      bal_prepared = n.bal_prepared;
-      start_slot = n.start_slot;
-      accept_bar = n.accept_bar;
-      commit_bar = n.commit_bar;
-      exec_bar = n.exec_bar;
-      snap_bar = n.snap_bar;
-      peer_accept_max = n.peer_accept_max;
-      slots = held;
-    }
 
 module _ (n : Node) (m : List ℕ) (slot ballot : ℕ) (ok : ready n m ≡ true) where
   abbrev start : ℕ
@@ -199,21 +177,28 @@ module _ (n : Node) (m : List ℕ) (slot ballot : ℕ) (ok : ready n m ≡ true)
   abbrev overfull : List Request → Bool
   overfull reqs = ltb keys (length (refresh_highest_slot slot reqs (written_of written)))
 
-  pub late_is : (reqs : List Request) (lead : Bool) (cur : ℕ) (full : Bool) (j : ℕ) → lead ≡ leads_it (leader_of n.bodega_conf.leader) n.id.0
-      → cur ≡ (if lead then n.bal_prepared.0 else n.bal_max_seen.0) → ((at : ℕ) → full ≡ ltb keys (length (refresh_highest_slot at reqs (written_of written))))
+  pub late_is : (reqs : List Request) (cur : ℕ) (full : Bool) (j : ℕ) → cur ≡ current leader → ((at : ℕ) → full ≡ ltb keys (length (refresh_highest_slot at reqs (written_of written))))
       → j ≡ slot_refusal start (insts_of start n.slots words) slot ballot cur full → j ≡ late_refusal n m slot ballot reqs
   unfolding late_refusal part
-  late_is reqs lead cur full j b y w v =
-      v ∙ ap (λ (c : ℕ). slot_refusal start (insts_of start n.slots words) slot ballot c full) (y ∙ ap current b)
+  late_is reqs cur full j y w v =
+      v ∙ ap (λ (c : ℕ). slot_refusal start (insts_of start n.slots words) slot ballot c full) y
       ∙ ap (slot_refusal start (insts_of start n.slots words) slot ballot (current leader)) (w slot)
 
   module _ (reqs : List Request) (z : late_refusal n m slot ballot reqs ≡ 0) where
-    in_window : Fits start slot (overfull reqs)
+    no_ground : (ended start (insts_of start n.slots words) slot ≡ false) × (leb (start + window) slot ≡ false) × (overfull reqs ≡ false)
     unfolding late_refusal part
-    in_window = fits start slot (not (eqb ballot (current leader)) || eqb (current leader) 0) _ (overfull reqs) (sym z)
+    no_ground =
+        none_late (not (eqb ballot (current leader)) || eqb (current leader) 0) (ended start (insts_of start n.slots words) slot) (leb (start + window) slot) (overfull reqs)
+        (sym z)
+
+    above : start ≤ slot
+    above = ltb-false slot start (or_both (ltb slot start) _ no_ground.0).0
+
+    inside : slot < start + window
+    inside = leb-false (start + window) slot no_ground.1
 
     pub room : length (refresh_highest_slot slot reqs (written_of written)) ≤ keys
-    room = ltb-false keys (length (refresh_highest_slot slot reqs (written_of written))) in_window.room
+    room = ltb-false keys (length (refresh_highest_slot slot reqs (written_of written))) no_ground.2
 
     module _ (w' : List ℕ) (lw : length w' ≡ length written) where
       abbrev m₁ : List ℕ
@@ -233,12 +218,12 @@ module _ (n : Node) (m : List ℕ) (slot ballot : ℕ) (ok : ready n m ≡ true)
       words_same = part_before m written_at written_words w' (omega (arith, r.long)) long_w slots_at slot_words (omega arith)
 
       pub acceptable : (l : ℕ) → l ≡ batch_words → (start ≤ 281474976710655) × (n.slots ≤ slot_places) × (start ≤ slot) × (slot < start + window) × (slot_words ≤ length (take slot_words (drop slots_at m₁))) × (l ≡ batch_words)
-      acceptable l e = (r.start_low_lem, r.window, in_window.above, in_window.inside, rw words_same (omega (arith, words_long)), e)
+      acceptable l e = (r.start_low_lem, r.window, above, inside, rw words_same (omega (arith, words_long)), e)
 
       module _ (q : Refreshes slot reqs written w') (lead : Bool) (b : lead ≡ leads_it (leader_of n.bodega_conf.leader) n.id.0) (s' : List ℕ) (held : ℕ)
           (p₁ : Records start n.slots slot ballot lead reqs (take slot_words (drop slots_at m₁)) s' held) where
         abbrev d : Node
-        d = next n held
+        d = record n { slots = held }
 
         abbrev m₂ : List ℕ
         m₂ = splice m₁ slots_at slot_words s'
@@ -268,7 +253,7 @@ module _ (n : Node) (m : List ℕ) (slot ballot : ℕ) (ok : ready n m ≡ true)
         view_due : recorded (view n m) slot ballot reqs ≡ after (accepting (view n m) ballot reqs p.old)
         unfolding view part
         view_due =
-            recorded_is (view n m) slot ballot reqs padded p.old in_window.above
+            recorded_is (view n m) slot ballot reqs padded p.old above
             (ap (λ (k : ℕ). insts_of start n.slots words ++ replicate (slot + 1 - (start + k)) null_instance) (length_insts start n.slots words)) p.was
 
         view_after : view d m₂ ≡ after (accepting_by lead ballot reqs p.old)

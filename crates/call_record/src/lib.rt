@@ -4,6 +4,7 @@
 
 ghost use Rattle.std.specs.Prelude.{◌≡◌, true, ◌+◌, ◌≤◌, ◌<◌, length, if◌then◌else◌};
 ghost use Rattle.ids.specs.Limits.{top};
+ghost use Rattle.ids.specs.Leader.{leader_of};
 ghost use Rattle.layout.specs.Layout.{slot_places, batch_words, slot_words};
 ghost use Rattle.bodega.specs.Replica.{Record};
 ghost use Rattle.bodega.specs.Answers.{Answers};
@@ -11,7 +12,7 @@ ghost use Rattle.inst_cell.specs.Cell.{book_of};
 ghost use Rattle.inst_reqs.specs.Batch.{requests_of};
 ghost use Rattle.req_batch.specs.Given.{given};
 ghost use Rattle.insts.specs.Slots.{short_at, reads_at, seen_reads, insts_of, Puts};
-ghost use Rattle.node.specs.View.{view, ready, given_of};
+ghost use Rattle.node.specs.View.{view, ready, leads_it, given_of};
 ghost use Rattle.call_record.specs.Records.{batch_refusal, slot_refusal, late_refusal, ended, kept_book, accepting_short, Pads, Records, Recorded};
 ghost use Rattle.ids.specs.Refusal.{refused_by};
 
@@ -36,10 +37,14 @@ fn batch_refusal(rows: &[u64], text: &[u8], slot: Slot) -> Result<(), Refusal>
 }
 
 // The ballot that *record* must be at.
-fn current(leader: bool, prepared: Ballot, seen: Ballot) -> Ballot
-    ensures { result.0 ≡ (if leader then prepared.0 else seen.0) }
+fn current(node: Node) -> Ballot
+    ensures { result.0 ≡ (if leads_it (leader_of node.bodega_conf.leader) node.id.0 then node.bal_prepared.0 else node.bal_max_seen.0) }
 {
-    if leader { prepared } else { seen }
+    if node::is_leader(node) {
+        node.bal_prepared
+    } else {
+        node.bal_max_seen
+    }
 }
 
 // 14: below the start, or held and no longer open.
@@ -146,7 +151,6 @@ fn late_refusal(
     requires { (ready node mem.now ≡ true) × (length words.now ≡ batch_words) }
     ensures { refused_by result ≡ late_refusal node mem.now slot.0 ballot.0 (requests_of words.now) }
 {
-    let current = current(node::is_leader(node), node.bal_prepared, node.bal_max_seen);
     let full = highest_slot_refresh::overflows(&mem[layout::WRITTEN_AT..layout::NODE_WORDS], words);
     slot_refusal(
         &mem[layout::SLOTS_AT..layout::WRITTEN_AT],
@@ -154,7 +158,7 @@ fn late_refusal(
         node.slots,
         slot,
         ballot,
-        current,
+        current(node),
         full,
     )
 }

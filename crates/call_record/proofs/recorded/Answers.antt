@@ -1,6 +1,4 @@
 use Rattle.std.proofs.Common.{[]}
-use Rattle.roster_conf.specs.Edits.{view as roster_of}
-use Rattle.node.specs.View.{view}
 use Rattle.call_record.proofs.Laws as law
 use Rattle.call_record.proofs.recorded.Goals as goal
 
@@ -17,6 +15,5 @@ pub accept-slots-requires : goal.accept-slots-requires
 accept-slots-requires c = let p = c.requires in law.acceptable _ _ _ _ p.0 _ p.1 c.refresh.new.written c.refresh.auto.written _ p.2
 
 pub returns : goal.returns
-unfolding view roster_of
 returns c =
-    let p = c.requires in law.is_written _ _ _ _ p.0 _ p.1 _ c.refresh.auto.written c.refresh.ensures _ (c.is_leader.ensures []) _ _ c.accept-slots.ensures
+    let p = c.requires in law.is_written _ _ _ _ p.0 _ p.1 _ c.refresh.auto.written c.refresh.ensures _ (law.leads_is _ _ (c.is_leader.ensures [])) _ _ c.accept-slots.ensures
