@@ -7,7 +7,7 @@ use Prim.Native.Nat.{ℕ, ◌+◌, ◌*◌, ◌≤◌}
 use native.Mathlib.Omega.{arith}
 use borrow.Author.Tests.{le-leb}
 use native.Mathlib.Nat.{add-zero}
-use lib.ListN.{length, get_or, set, length-append, length-set}
+use lib.ListN.{length, get_or, set, length-append}
 use lib.Seq.{get_or-set_other}
 use Rattle.words.specs.Counted.{count_of, length_counted, counted_push, counted_clear}
 use Rattle.words.specs.Tab.{tab}

@@ -8,8 +8,8 @@ use Rattle.std.specs.Prelude.{Option, None, Some}
 use Prim.Native.Nat.{ℕ, ◌+◌, ◌-◌, ◌*◌, ◌≤◌, ◌<◌}
 use native.Mathlib.Nat.{zero-add}
 use native.Mathlib.Omega.{arith}
-use borrow.Author.Tests.{le-leb, eq-eqb, ne_eqb}
-use lib.ListN.{length, get_or, set, length-append, length-set}
+use borrow.Author.Tests.{le-leb}
+use lib.ListN.{length, get_or, set, length-append}
 use lib.Seq.{get_or-set_other}
 use Rattle.words.specs.Choice.{if_none◌then◌else◌}
 use Rattle.words.specs.Counted.{count_of, length_counted, counted_push, counted_clear}

@@ -3,7 +3,7 @@ use Rattle.std.specs.Prelude.{if◌then◌else◌}
 use mathlib.Core.Path.{◌≡◌, refl, sym, ap, ◌∙◌}
 use mathlib.Core.Logic.{◌≢◌}
 use mathlib.Core.List.{List, [], ◌∷◌, ◌++◌, append_assoc, append-nil}
-use mathlib.Core.Bool.{Bool, true, false, not}
+use mathlib.Core.Bool.{Bool, true, false}
 use Rattle.std.specs.Prelude.{Option, None, Some, slice_get}
 use Prim.Native.Nat.{ℕ, zero, suc, ◌+◌, ◌-◌, ◌*◌, ◌%◌, ◌≤◌, ◌<◌}
 use native.Mathlib.Nat.{zero-add}
@@ -11,12 +11,11 @@ use native.Mathlib.Decide.{dec_lt}
 use native.Mathlib.Omega.{arith}
 use lib.ListN.{length, set, take, drop, replicate, length-set, length-append}
 use lib.Dec.{ltb}
-use lib.Seq.{take-length}
-use borrow.Author.Tests.{le-leb, not-true, not-false}
+use borrow.Author.Tests.{le-leb}
 use Rattle.words.specs.Choice.{if_none◌then◌else◌}
 use Rattle.words.specs.Tab.{tab, tab_ext, tab_set, tab_snoc, tab_shift, drop_tab, take_tab, elem_tab, elem_past, length_tab}
 use Rattle.words.specs.Part.{part, splice, part_here, part_before, part_after, length_splice, length_part, get_or_splice, part_set_below}
-use Rattle.words.specs.Writes.{writes, length_writes, part_writes, writes_all}
+use Rattle.words.specs.Writes.{writes, length_writes, part_writes}
 use Rattle.layout.specs.Layout.{cell_row, slot_places, held_places, batch_words, held_words, batches_from, reads_from, slot_words}
 use Rattle.bodega.specs.Replica as machine
 use Rattle.bodega.specs.Localread.{last_put}
