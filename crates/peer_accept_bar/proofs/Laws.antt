@@ -1,16 +1,14 @@
 -- The pair that a guard alters, and the bars counted one by one.
 use mathlib.Core.Path.{◌≡◌, refl, sym, ◌∙◌}
 use mathlib.Core.Logic.{◌≢◌}
-use mathlib.Core.Bool.{Bool, true, false, not}
+use mathlib.Core.Bool.{Bool, true, false}
 use mathlib.Core.List.{List, map}
 use Prim.Native.Nat.{ℕ, ◌+◌, ◌≤◌, ◌<◌}
 use native.Mathlib.Nat.{zero-add}
 use native.Mathlib.Numerals.{add-one}
 use native.Mathlib.Omega.{arith}
-use lib.Dec.{ltb}
 use lib.ListN.{length, get_or, set, take, length-set}
 use lib.Seq.{get_or-set_same, get_or-set_other, take-suc-set}
-use borrow.Author.Tests.{le-ltb, eq-eqb, ne_eqb, not-true, not-false}
 use Rattle.words.specs.Tab.{tab, get_or_tab, tab_set, tab_snoc, map_tab}
 use Rattle.ids.specs.Limits.{replicas}
 use Rattle.layout.specs.Layout.{bars_at, pair_words}

@@ -7,9 +7,7 @@ use Prim.Native.Nat.{ℕ, zero, suc, ◌+◌, ◌-◌, ◌/◌, ◌≤◌, ◌<�
 use native.Mathlib.Nat.{add-zero, zero-add, sub-zero, not-suc-le-zero}
 use native.Mathlib.Decide.{dec_lt}
 use native.Mathlib.Omega.{arith}
-use borrow.Author.Tests.{ltb-false}
-use lib.Dec.{ltb}
-use lib.ListN.{length, get_or, set, take, drop, length-take, length-drop, drop_of_length-le}
+use lib.ListN.{length, get_or, set, take, drop, length-drop, drop_of_length-le}
 use lib.Seq.{take_all, take-length, drop-length, get_or-set_other}
 use Rattle.words.specs.Part.{part}
 use Rattle.words.specs.Tab.{tab, tab_snoc, length_tab}
