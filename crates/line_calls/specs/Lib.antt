@@ -1,2 +1,1 @@
-pub mod ReadsRead
 pub mod Asks

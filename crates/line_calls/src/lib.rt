@@ -2,166 +2,86 @@
 // well-formed is refused 1.
 #![tactic(auto)]
 
-ghost use Rattle.std.specs.Prelude.{◌≡◌, true, false, List, ℕ, ◌≤◌, ◌<◌, length, get_or};
+ghost use Rattle.std.specs.Prelude.{◌≡◌, true, [], length};
 ghost use Rattle.line_kind.specs.declared.CallKind.TheVariants.{Read};
 ghost use Rattle.line_fields.specs.Split.{fields_from};
 ghost use Rattle.roster_conf.specs.Edits.{holds_rows};
-ghost use Rattle.call_apply.specs.Call.{call_of as applied};
-ghost use Rattle.line_host.specs.Line.{is_heard, is_read, is_call, call_of, call_by};
+ghost use Rattle.line_host.specs.Line.{is_heard, is_read, is_call, call_of};
 ghost use Rattle.line_host.specs.Follows.{AnswersLine};
-ghost use Rattle.line_calls.specs.ReadsRead.{ReadsRead};
-ghost use Rattle.line_calls.specs.Asks.{in_byte, width, no_call, AsksNumbers, Asks, heard_by, ReadsHeard};
+ghost use Rattle.line_calls.specs.Asks.{Asks, heard_by, ReadsHeard};
 
 use call_apply::Call;
-use ids::{Ballot, Refusal, Replica, Slot};
+use ids::{Ballot, Refusal, Slot};
 use line_kind::CallKind;
-use node::{Taken, Node};
+use line_reader::LineReader;
+use node::{Node, Taken};
 use roster_conf::RespondersConf;
 
-// The call that a line's fields are, where they are well-formed. A read's key is a part of the line.
+// The call that a line's fields are. A read's key is a part of the line.
 #[derive(Clone, Copy)]
-struct Asked {
-    good: bool,
+struct Asked<'a> {
     call: Call,
-    start: usize,
-    end: usize,
+    key: &'a [u8],
 }
 
-fn no_call() -> Asked
-    ensures { result ≡ no_call }
+fn read_call<'a>(line: &'a [u8], at: usize) -> Option<Asked<'a>>
+    ensures { Asks (is_read (fields_from line.now at)) (call_of Read (fields_from line.now at)) result }
 {
-    Asked {
-        good: false,
-        call: Call::Release(Slot(0)),
-        start: 0,
-        end: 0,
+    let mut reader = LineReader::new(line, at);
+    let client = reader.next_number()?;
+    let request = reader.next_number()?;
+    let leases = reader.next_number()?;
+    if reader.is_ended() {
+        return None;
     }
+    let key = reader.next_field();
+    reader.is_ended().then_some(Asked {
+        call: Call::Read(client, request, leases),
+        key: &line[key.start..key.end],
+    })
 }
 
-// How many numbers the fields are; a read's are not numbers alone.
-fn width(kind: CallKind) -> usize
-    ensures { (result ≡ width kind) × (result ≤ 4) }
+// A call without a key.
+fn keyless<'a>(call: Call) -> Asked<'a>
+    ensures { (result.call ≡ call) × (result.key.now ≡ []) }
+{
+    Asked { call, key: &[] }
+}
+
+fn call_at<'a>(kind: CallKind, line: &'a [u8], at: usize) -> Option<Asked<'a>>
+    ensures { Asks (is_call kind (fields_from line.now at)) (call_of kind (fields_from line.now at)) result }
 {
     match kind {
-        CallKind::Guard => 3,
-        CallKind::Prepared => 1,
-        CallKind::Reply => 3,
-        CallKind::Notice => 3,
-        CallKind::Commit => 3,
-        CallKind::Bars => 4,
-        CallKind::Read => 0,
-        CallKind::Release => 1,
+        CallKind::Guard => {
+            let [peer, ballot, bar] = line_reader::numbers::<3>(line, at)?;
+            Some(keyless(Call::Guard(line_host::replica(peer), Ballot(ballot), Slot(bar))))
+        }
+        CallKind::Prepared => {
+            let [ballot] = line_reader::numbers::<1>(line, at)?;
+            Some(keyless(Call::Prepared(Ballot(ballot))))
+        }
+        CallKind::Reply => {
+            let [peer, slot, ballot] = line_reader::numbers::<3>(line, at)?;
+            Some(keyless(Call::Reply(line_host::replica(peer), Slot(slot), Ballot(ballot))))
+        }
+        CallKind::Notice => {
+            let [peer, slot, ballot] = line_reader::numbers::<3>(line, at)?;
+            Some(keyless(Call::Notice(line_host::replica(peer), Slot(slot), Ballot(ballot))))
+        }
+        CallKind::Commit => {
+            let [peer, ballot, bar] = line_reader::numbers::<3>(line, at)?;
+            Some(keyless(Call::Commit(line_host::replica(peer), Ballot(ballot), Slot(bar))))
+        }
+        CallKind::Bars => {
+            let [start, accept, commit, exec] = line_reader::numbers::<4>(line, at)?;
+            Some(keyless(Call::Bars(Slot(start), Slot(accept), Slot(commit), Slot(exec))))
+        }
+        CallKind::Read => read_call(line, at),
+        CallKind::Release => {
+            let [slot] = line_reader::numbers::<1>(line, at)?;
+            Some(keyless(Call::Release(Slot(slot))))
+        }
     }
-}
-
-fn call_by(kind: CallKind, a: &[u64]) -> Call
-    requires { 4 ≤ length a.now }
-    ensures { (rows text : List ℕ) → applied result rows text ≡ in_byte (call_by kind (λ i. get_or a.now i 0) text) }
-{
-    let peer = line_host::replica(a[0]);
-    match kind {
-        CallKind::Guard => Call::Guard(peer, Ballot(a[1]), Slot(a[2])),
-        CallKind::Prepared => Call::Prepared(Ballot(a[0])),
-        CallKind::Reply => Call::Reply(peer, Slot(a[1]), Ballot(a[2])),
-        CallKind::Notice => Call::Notice(peer, Slot(a[1]), Ballot(a[2])),
-        CallKind::Commit => Call::Commit(peer, Ballot(a[1]), Slot(a[2])),
-        CallKind::Bars => Call::Bars(Slot(a[0]), Slot(a[1]), Slot(a[2]), Slot(a[3])),
-        CallKind::Read => Call::Read(a[0], a[1], a[2]),
-        CallKind::Release => Call::Release(Slot(a[0])),
-    }
-}
-
-fn numbers_call(kind: CallKind, n: usize, line: &[u8], at: usize) -> Asked
-    requires { (n ≡ width kind) × (n ≤ 4) × (0 < n) }
-    ensures { AsksNumbers kind (fields_from line.now at) result }
-{
-    let mut a = [0u64; 4];
-    if !line_reader::numbers(line, at, n, &mut a) {
-        return no_call();
-    }
-    Asked {
-        good: true,
-        call: call_by(kind, &a),
-        start: 0,
-        end: 0,
-    }
-}
-
-// The fields of a read line: where the key starts and ends.
-#[derive(Clone, Copy)]
-struct ReadFields {
-    good: bool,
-    client: u64,
-    request: u64,
-    leases: u64,
-    start: usize,
-    end: usize,
-}
-
-fn no_read() -> ReadFields
-    ensures { result.good ≡ false }
-{
-    ReadFields {
-        good: false,
-        client: 0,
-        request: 0,
-        leases: 0,
-        start: 0,
-        end: 0,
-    }
-}
-
-// The reader stands at a field that is no number, so the third number is one only after two others.
-fn read_fields(line: &[u8], at: usize) -> ReadFields
-    ensures { ReadsRead line.now at result }
-{
-    let f = line_reader::numbers_field_from(line, at);
-    let client = f.first;
-    let request = f.second;
-    let leases = f.third;
-    let key = f.field;
-    if !leases.good {
-        return no_read();
-    }
-    if line_fields::ended(line, leases.next) {
-        return no_read();
-    }
-    if !line_fields::ended(line, key.next) {
-        return no_read();
-    }
-    ReadFields {
-        good: true,
-        client: client.value,
-        request: request.value,
-        leases: leases.value,
-        start: key.start,
-        end: key.end,
-    }
-}
-
-fn read_call(line: &[u8], at: usize) -> Asked
-    ensures { Asks (is_read (fields_from line.now at)) (call_of Read (fields_from line.now at)) line.now result }
-{
-    let f = read_fields(line, at);
-    if !f.good {
-        return no_call();
-    }
-    Asked {
-        good: true,
-        call: Call::Read(f.client, f.request, f.leases),
-        start: f.start,
-        end: f.end,
-    }
-}
-
-fn call_at(kind: CallKind, line: &[u8], at: usize) -> Asked
-    ensures { Asks (is_call kind (fields_from line.now at)) (call_of kind (fields_from line.now at)) line.now result }
-{
-    let n = width(kind);
-    if n == 0 {
-        return read_call(line, at);
-    }
-    numbers_call(kind, n, line, at)
 }
 
 // The line of a call that only the node and its answer area take part in.
@@ -175,62 +95,26 @@ pub fn call_line(
 ) -> Result<Taken, Refusal>
     ensures { AnswersLine (is_call kind (fields_from line.now at)) (call_of kind (fields_from line.now at)) node mem.old area.old result mem.new area.new }
 {
-    let a = call_at(kind, line, at);
-    if !a.good {
-        return Err(Refusal::Malformed);
-    }
-    let call = a.call;
-    let start = a.start;
-    let end = a.end;
-    let none = [0u64; 1];
-    call_apply::apply(node, mem, area, call, &none, &line[start..end])
+    let asked = call_at(kind, line, at).ok_or(Refusal::Malformed)?;
+    call_apply::apply(node, mem, area, asked.call, &[], asked.key)
 }
 
-// The fields of a heard line but for the roster.
-#[derive(Clone, Copy)]
-struct HeardFields {
-    good: bool,
-    peer: Replica,
-    ballot: Ballot,
-    attached: bool,
-    commit: Slot,
-    exec: Slot,
-    snap: Slot,
-}
-
-fn no_heard() -> HeardFields
-    ensures { result.good ≡ false }
+// The heartbeat that the fields of a heard line are, with the draft where WITH is 1.
+fn heard_call(line: &[u8], at: usize, draft: RespondersConf) -> Option<Call>
+    ensures { ReadsHeard draft (fields_from line.now at) result }
 {
-    HeardFields {
-        good: false,
-        peer: Replica(0),
-        ballot: Ballot(0),
-        attached: false,
-        commit: Slot(0),
-        exec: Slot(0),
-        snap: Slot(0),
+    let [peer, ballot, with, commit, exec, snap] = line_reader::numbers::<6>(line, at)?;
+    if 1 < with {
+        return None;
     }
-}
-
-fn heard_fields(line: &[u8], at: usize) -> HeardFields
-    ensures { ReadsHeard (fields_from line.now at) result }
-{
-    let mut a = [0u64; 6];
-    if !line_reader::numbers(line, at, 6, &mut a) {
-        return no_heard();
-    }
-    if 1 < a[2] {
-        return no_heard();
-    }
-    HeardFields {
-        good: true,
-        peer: line_host::replica(a[0]),
-        ballot: Ballot(a[1]),
-        attached: a[2] == 1,
-        commit: Slot(a[3]),
-        exec: Slot(a[4]),
-        snap: Slot(a[5]),
-    }
+    Some(Call::Heartbeat(
+        line_host::replica(peer),
+        Ballot(ballot),
+        (with == 1).then_some(draft),
+        Slot(commit),
+        Slot(exec),
+        Slot(snap),
+    ))
 }
 
 // A draft that is attached is whole.
@@ -245,15 +129,6 @@ pub fn heard_line(
 ) -> Result<Taken, Refusal>
     ensures { holds_rows (length rows.now) draft.count ≡ true → AnswersLine (is_heard (fields_from line.now at)) (heard_by draft rows.now (fields_from line.now at)) node mem.old area.old result mem.new area.new }
 {
-    let f = heard_fields(line, at);
-    if !f.good {
-        return Err(Refusal::Malformed);
-    }
-    let peer = f.peer;
-    let ballot = f.ballot;
-    let commit = f.commit;
-    let exec = f.exec;
-    let snap = f.snap;
-    let call = Call::Heartbeat(peer, ballot, f.attached, draft, commit, exec, snap);
+    let call = heard_call(line, at, draft).ok_or(Refusal::Malformed)?;
     call_apply::apply(node, mem, area, call, rows, line)
 }

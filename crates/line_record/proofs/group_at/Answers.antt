@@ -1,16 +1,16 @@
 use Rattle.line_record.proofs.Laws as law
 use Rattle.line_record.proofs.group_at.Goals as goal
 
-pub returns-then-not-request : goal.returns-then-not-request
-returns-then-not-request c = law.no_numbers _ _ _ c.request_from-f.ensures _ c.if-not-request.true c.no_group.ensures
+pub returns-in_err-client : goal.returns-in_err-client
+returns-in_err-client c = rw c.from_residual.ensures (law.other_client _ _ _ c.new-reader.ensures c.in_err-client.ensures.0)
 
-pub returns-then-not-value : goal.returns-then-not-value
-returns-then-not-value c =
-    law.no_optional_lem _ _ _ c.request_from-f.ensures c.if-not-request.false _ c.if-not-value.true c.no_group-then-not-value.ensures
+pub returns-in_err-request : goal.returns-in_err-request
+returns-in_err-request c =
+    rw c.from_residual-in_err-request.ensures (law.other_request _ _ _ c.new-reader.ensures _ _ c.in_ok-client.ensures c.in_err-request.ensures.0)
 
-pub overflow_sub-result : goal.overflow_sub-result
-overflow_sub-result c = law.field_ordered _ _ _ c.request_from-f.ensures.key
+pub returns-in_err-value : goal.returns-in_err-value
+returns-in_err-value c =
+    rw c.from_residual-in_err-value.ensures (law.other_value _ _ _ c.new-reader.ensures _ _ c.in_ok-client.ensures _ _ c.in_ok-request.ensures _ _ c.next_field-key.ensures c.in_err-value.ensures.0)
 
 pub returns : goal.returns
-returns c =
-    law.whole_group _ _ _ c.request_from-f.ensures c.if-not-request.false c.if-not-value.false
+returns c = law.whole_group _ _ _ c.new-reader.ensures _ _ c.in_ok-client.ensures _ _ c.in_ok-request.ensures _ _ c.next_field-key.ensures _ _ c.in_ok-value.ensures
