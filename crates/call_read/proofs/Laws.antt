@@ -2,13 +2,13 @@
 -- slot's queue.
 use Rattle.std.specs.Prelude.{if◌then◌else◌, option_map}
 use mathlib.Core.Path.{◌≡◌, refl, sym, ap, ◌∙◌}
-use mathlib.Core.Bool.{Bool, true, false, not}
+use mathlib.Core.Bool.{Bool, true, false}
 use mathlib.Core.List.{List, [], ◌∷◌, ◌++◌}
 use Rattle.std.specs.Prelude.{Option, None, Some}
 use Prim.Native.Nat.{ℕ, ◌+◌, ◌%◌, ◌≤◌, ◌<◌}
 use native.Mathlib.Decide.{dec_lt}
 use native.Mathlib.Omega.{arith}
-use borrow.Author.Tests.{lt-ltb, le-ltb, le-leb, lt-leb, ltb-true, ltb-false, leb-false, not-true, not-false}
+use borrow.Author.Tests.{lt-ltb, le-ltb, le-leb, lt-leb, ltb-true, ltb-false, leb-false}
 use lib.Dec.{ltb, leb}
 use lib.ListN.{length}
 use Rattle.words.specs.Choice.{if_none◌then◌else◌}
@@ -36,16 +36,19 @@ use Rattle.inspect_latest_write.proofs.Laws.{Waiting, waiting, holds_none, place
 use Rattle.node.proofs.Calls.{Ready, is_ready, refused_by, few_places, taken_with}
 use Rattle.node.proofs.Frames.{slots_back, slots_size, slots_beyond, slots_ready}
 use Rattle.node.proofs.Slots.{not_below, not_past, held_at_lem, set_at}
-use Rattle.node.specs.View.{view, ready, lowest}
+use Rattle.std.specs.Prelude.{Result, Ok, Err, IsErrAnd}
+use Rattle.std.specs.Option.{ok_or}
+use Rattle.ids.specs.Refusal.{number_of}
+use Rattle.ids.specs.declared.Refusal.{Refusal}
+use Rattle.ids.specs.declared.Refusal.TheVariants.{KeyTooLong, TooManyReads, AreaTooSmall}
+use Rattle.node.specs.declared.Taken.{Taken}
+use Rattle.node.specs.View.{view, ready, lowest, given_of}
 use Rattle.node.specs.declared.Node.{Node}
 
 -- ---- the parts lent are long enough
 
 place : {c : ℕ} (slot : ℕ) → c ≡ slot % slot_places → c < slot_places
 place slot e = omega arith
-
-pub ready_is : (n : Node) (m : List ℕ) (t : Bool) → t ≡ ready n m → not t ≡ false → ready n m ≡ true
-ready_is n m t e f = sym e ∙ not-false t f
 
 pub slots_long : (n : Node) (m : List ℕ) → Ready n m → slot_words ≤ length (part m slots_at slot_words)
 slots_long n m r = rw (length_part m slots_at slot_words (omega (arith, r.long))) (omega arith)
@@ -69,6 +72,15 @@ long_key_lem key e = elim (dec_lt 48 (length key)) [
       let f : None ≡ Some key = e ∙ rw (le-leb (length key) 48 l) in
       let z : ◌≡◌ {A = ℕ} 0 1 = cc in absurd (omega arith)
 ]
+
+-- packed, or refused
+pub ok_is : (p : Option Key) (k : Key) → ◌≡◌ {A = Result Key Refusal} (Ok k) (ok_or p KeyTooLong) → p ≡ Some k
+ok_is None k e = let z : ◌≡◌ {A = ℕ} 0 1 = cc in absurd (omega arith)
+ok_is (Some x) k e = cc
+
+err_is : (p : Option Key) (x : Refusal) → ◌≡◌ {A = Result Key Refusal} (Err x) (ok_or p KeyTooLong) → (p ≡ None) × (x ≡ KeyTooLong)
+err_is None x e = (refl, cc)
+err_is (Some k) x e = let z : ◌≡◌ {A = ℕ} 0 1 = cc in absurd (omega arith)
 
 -- ---- an item put at the first place
 
@@ -164,7 +176,7 @@ module _ (n : Node) (m : List ℕ) (slot : ℕ) (w : Waiting (view n m) slot) wh
 
 -- ---- the call
 
-module _ (n : Node) (m area : List ℕ) (client request leases : ℕ) (key : List ℕ) (t : Bool) (e : t ≡ ready n m) (f : not t ≡ false) where
+module _ (n : Node) (m area : List ℕ) (client request leases : ℕ) (key : List ℕ) (y : ready n m ≡ true) where
   abbrev q : machine.ReadReq
   q = record { client = client; request = request; key = key }
 
@@ -176,8 +188,9 @@ module _ (n : Node) (m area : List ℕ) (client request leases : ℕ) (key : Lis
     unfolding grounds
     number_5 h = rw (long_key_lem key (ap (option_map bytes_of) (sym h) ∙ g))
 
-    pub long_5 : p ≡ None → Answers ready view call n m area (record { number = 5; count = 0; node = n }) m area
-    long_5 h = refused_by call n m area t e f 5 (number_5 h) (λ z. absurd (omega arith))
+    pub long_5 : (x : Refusal) (r : Result Taken Refusal) → ◌≡◌ {A = Result Key Refusal} (Err x) (ok_or p KeyTooLong) → IsErrAnd r (λ v. v ≡ x)
+        → Answers ready view call n m area (given_of n r) m area
+    long_5 x r h = let i = err_is p x h in refused_by call n m area true (sym y) refl x r (ap number_of i.1 ∙ number_5 i.0)
 
     module _ (k : Key) (h : p ≡ Some k) where
       short : (bytes_of k ≡ key) × (ltb 48 (length key) ≡ false)
@@ -195,8 +208,8 @@ module _ (n : Node) (m area : List ℕ) (client request leases : ℕ) (key : Lis
           unfolding grounds
           ground_19 = rw short.1 (ap (λ (x : Bool). if x then 19 else 0) (fills ∙ ap (overfills (view n m)) answer_is))
 
-          pub full_19 : b ≡ true → Answers ready view call n m area (record { number = 19; count = 0; node = n }) m area
-          full_19 u = refused_by call n m area t e f 19 (sym (rw u) ∙ ground_19) (λ z. absurd (omega arith))
+          pub full_19 : b ≡ true → Answers ready view call n m area (given_of n (Err TooManyReads)) m area
+          full_19 u = refused_by call n m area true (sym y) refl TooManyReads (Err TooManyReads) (sym (rw u) ∙ ground_19) refl
 
           module _ (u : b ≡ false) (x : code.Item) (w : (answered (view n m) q (answer_in a)).items ≡ item_of x ∷ []) where
             number_0 : 0 ≡ lowest (grounds (view n m) call)
@@ -212,25 +225,25 @@ module _ (n : Node) (m area : List ℕ) (client request leases : ℕ) (key : Lis
               placed : r ≡ ltb 0 (places area)
               placed = ap (λ (v : Put). v.taken) z ∙ put_taken area (item_of x) (ltb 0 (places area)) refl
 
-              pub few_20 : not r ≡ true → Answers ready view call n m area (record { number = 20; count = 0; node = n }) m area'
+              pub few_20 : r ≡ false → Answers ready view call n m area (given_of n (Err AreaTooSmall)) m area'
               few_20 v =
-                  let d : ltb 0 (places area) ≡ false = sym placed ∙ not-true r v in
+                  let d : ltb 0 (places area) ≡ false = sym placed ∙ v in
                   let s : area' ≡ area = ap (λ (o : Put). o.area) z ∙ put_none area (item_of x) d in
-                  rw s (few_places call n m area t e f 0 number_0 refl (rw effect_is (none_left d)))
+                  rw s (few_places call n m number_0 area true (sym y) refl (rw effect_is (none_left d)))
                 where
                   none_left : ltb 0 (places area) ≡ false → places area < 1
                   none_left d = let h = ltb-false 0 (places area) d in omega arith
 
-              module _ (v : not r ≡ false) where
+              module _ (v : r ≡ true) where
                 taken : (m' : List ℕ) → view n m' ≡ (answered (view n m) q (answer_in a)).replica → length m' ≡ length m → Untouched node_words m m' → ready n m' ≡ ready n m
-                    → Answers ready view call n m area (record { number = 0; count = 1; node = n }) m' area'
+                    → Answers ready view call n m area (given_of n (Ok (record { node = n; count = 1 }))) m' area'
                 taken m' x₁ x₂ x₃ x₄ =
-                    let d : ltb 0 (places area) ≡ true = sym placed ∙ not-false r v in
+                    let d : ltb 0 (places area) ≡ true = sym placed ∙ v in
                     let h : 0 < places area = ltb-true 0 (places area) d in
-                    taken_with call n m area t e f 0 number_0 refl (answered (view n m) q (answer_in a)).replica (item_of x ∷ []) n m' area' effect_is (omega arith) x₁
-                    (ap (λ (o : Put). o.area) z ∙ put_area area (item_of x) d) x₂ x₃ (x₄ ∙ sym e ∙ not-false t f)
+                    taken_with call n m number_0 area true (sym y) refl (answered (view n m) q (answer_in a)).replica (item_of x ∷ []) n m' area' effect_is (omega arith) x₁
+                    (ap (λ (o : Put). o.area) z ∙ put_area area (item_of x) d) x₂ x₃ (x₄ ∙ y)
 
-                pub served : ((x : Slot) (d : ℕ) → a ≡ HeldBy x d → ⊥) → Answers ready view call n m area (record { number = 0; count = 1; node = n }) m area'
+                pub served : ((x : Slot) (d : ℕ) → a ≡ HeldBy x d → ⊥) → Answers ready view call n m area (given_of n (Ok (record { node = n; count = 1 }))) m area'
                 served o = taken m (sym (holds_none (view n m) q a o)) refl (λ j l. refl) refl
 
                 module _ (slot : Slot) (d : ℕ) (o : a ≡ HeldBy slot d) where
@@ -250,11 +263,11 @@ module _ (n : Node) (m area : List ℕ) (client request leases : ℕ) (key : Lis
                   pub held : (s : List ℕ)
                       → Puts (part m slots_at slot_words) d (short_at (part m slots_at slot_words) d) (batch_at (part m slots_at slot_words) d)
                       (reads_at (part m slots_at slot_words) d ++ (record { client = client; request = request; key = bytes_of k } ∷ [])) s
-                      → Answers ready view call n m area (record { number = 0; count = 1; node = n }) (splice m slots_at slot_words s) area'
+                      → Answers ready view call n m area (given_of n (Ok (record { node = n; count = 1 }))) (splice m slots_at slot_words s) area'
                   held s p' =
                       let d' : Puts (part m slots_at slot_words) (slot.0 % slot_places) (short_at (part m slots_at slot_words) (slot.0 % slot_places)) (batch_at (part m slots_at slot_words) (slot.0 % slot_places))
                       (reads_at (part m slots_at slot_words) (slot.0 % slot_places) ++ (q ∷ [])) s = rw (at_place, bytes_are) at p' in
-                      let b' : Ready n m = is_ready n m t e f in
+                      let b' : Ready n m = is_ready n m true (sym y) refl in
                       taken (splice m slots_at slot_words s)
                       (hold_view n m slot.0 waits b' q s d' ∙ ap (λ (y : ReadAnswer). (answered (view n m) q (answer_in y)).replica) (sym o))
                       (hold_size n m slot.0 waits b' q s d') (hold_beyond n m slot.0 waits b' q s d') (hold_ready n m slot.0 waits b' q s d')

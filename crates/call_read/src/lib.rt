@@ -5,10 +5,10 @@ ghost use Rattle.bodega.specs.Replica.{Read};
 ghost use Rattle.bodega.specs.Answers.{Answers};
 ghost use Rattle.node.specs.View.{view, ready, given_of};
 
-use ids::{Refusal, Replica};
+use ids::Refusal;
 use inspect_latest_write::ReadAnswer;
 use inst_holding::ReadReq;
-use node::{Taken, Node, is_ready};
+use node::{Node, Taken, is_ready};
 
 pub fn read(
     node: Node,
@@ -24,9 +24,7 @@ pub fn read(
     if !is_ready(node, mem) {
         return Err(Refusal::NotReady);
     }
-    let Some(packed) = key_words::pack(key) else {
-        return Err(Refusal::KeyTooLong);
-    };
+    let packed = key_words::pack(key).ok_or(Refusal::KeyTooLong)?;
     let answer = inspect_latest_write::read_answer(node, mem, leases, key, packed);
     if inspect_latest_write::overfills(node, mem, answer) {
         return Err(Refusal::TooManyReads);
@@ -35,14 +33,13 @@ pub fn read(
     if !items::put_item(area, 0, item) {
         return Err(Refusal::AreaTooSmall);
     }
-    let ReadAnswer::HeldBy(_slot, c) = answer else {
-        return Ok(Taken { node, count: 1 });
-    };
-    let held = ReadReq {
-        client,
-        request,
-        key: packed,
-    };
-    insts::push_read(&mut mem[layout::SLOTS_AT..layout::WRITTEN_AT], c, held);
+    if let ReadAnswer::HeldBy(_, place) = answer {
+        let held = ReadReq {
+            client,
+            request,
+            key: packed,
+        };
+        insts::push_read(&mut mem[layout::SLOTS_AT..layout::WRITTEN_AT], place, held);
+    }
     Ok(Taken { node, count: 1 })
 }

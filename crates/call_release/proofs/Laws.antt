@@ -1,13 +1,13 @@
 -- *release*: its grounds, and the held reads answered.
-use mathlib.Core.Path.{◌≡◌, sym, ap, ◌∙◌}
-use mathlib.Core.Bool.{Bool, false, not, ◌||◌}
+use mathlib.Core.Path.{◌≡◌, refl, sym, ap, ◌∙◌}
+use mathlib.Core.Bool.{Bool, true, not, ◌||◌}
 use mathlib.Core.List.{List, []}
-use Prim.Native.Nat.{ℕ, ◌+◌, ◌-◌, ◌/◌, ◌%◌, ◌≤◌, ◌<◌}
+use Prim.Native.Nat.{ℕ, ◌+◌, ◌/◌, ◌%◌, ◌≤◌, ◌<◌}
 use native.Mathlib.Decide.{dec_lt}
 use native.Mathlib.Omega.{arith}
 use lib.Dec.{ltb, leb}
 use lib.ListN.{length, take, drop}
-use borrow.Author.Tests.{lt-ltb, le-ltb, le-leb, lt-leb, ltb-false, leb-false, not-false}
+use borrow.Author.Tests.{lt-ltb, le-ltb, le-leb, lt-leb, ltb-false, leb-false}
 use Rattle.words.specs.Part.{part, splice, length_part}
 use Rattle.words.proofs.Tests.{or_both}
 use Rattle.ids.specs.Leader.{leader_of}
@@ -24,28 +24,16 @@ use Rattle.release_held_reads.specs.Release.{holding_of, answers_of, emptied, Re
 use Rattle.release_held_reads.proofs.Laws.{length_answers}
 use Rattle.release_held_reads.proofs.Machine.{release_is, emptied_is}
 use Rattle.node.specs.declared.Node.{Node}
-use Rattle.node.specs.View.{view, ready, lowest}
+use Rattle.std.specs.Prelude.{Result, Ok, Err, IsErrAnd}
+use Rattle.ids.specs.Refusal.{number_of}
+use Rattle.ids.specs.declared.Refusal.{Refusal}
+use Rattle.ids.specs.declared.Refusal.TheVariants.{AreaTooSmall}
+use Rattle.node.specs.declared.Taken.{Taken}
+use Rattle.node.specs.View.{view, ready, lowest, given_of}
 use Rattle.node.proofs.Calls.{Ready, is_ready, refused_by, few_places, taken_with, none_applies}
 use Rattle.node.proofs.Frames.{slots_back, slots_size, slots_beyond, slots_ready}
 use Rattle.node.proofs.Slots.{not_below, not_past, held_at_lem, set_at}
 use Rattle.call_release.specs.Release.{release_refusal}
-
--- ---- the tests
-
-module _ (start slots slot : ℕ) where
-  pub far_8 : 281474976710655 < slot → 8 ≡ release_refusal start slots slot
-  far_8 h = simp (lt-ltb 281474976710655 slot h)
-
-  module _ (h : slot ≤ 281474976710655) where
-    pub below_16 : slot < start → 16 ≡ release_refusal start slots slot
-    below_16 g = simp (le-ltb 281474976710655 slot h, lt-ltb slot start g)
-
-    module _ (g : start ≤ slot) where
-      pub past_16 : slots ≤ slot - start → 16 ≡ release_refusal start slots slot
-      past_16 k = simp (le-ltb 281474976710655 slot h, le-ltb slot start g, le-leb (start + slots) slot (omega arith))
-
-      pub held_0 : slot - start < slots → 0 ≡ release_refusal start slots slot
-      held_0 k = simp (le-ltb 281474976710655 slot h, le-ltb slot start g, lt-leb (start + slots) slot (omega arith))
 
 pub slots_long : (m : List ℕ) → node_words ≤ length m → length (take slot_words (drop slots_at m)) ≡ slot_words
 unfolding part
@@ -53,8 +41,7 @@ slots_long m h = length_part m slots_at slot_words (omega arith)
 
 -- ---- the call
 
-module _ (n : Node) (m area : List ℕ) (slot : ℕ) (t : Bool) (e : t ≡ ready n m) (f : not t ≡ false)
-    (k : ℕ) (g : k ≡ release_refusal n.start_slot.0 n.slots slot) where
+module _ (n : Node) (m area : List ℕ) (slot : ℕ) (y : ready n m ≡ true) where
   abbrev start : ℕ
   start = n.start_slot.0
 
@@ -68,21 +55,22 @@ module _ (n : Node) (m area : List ℕ) (slot : ℕ) (t : Bool) (e : t ≡ ready
         ]
       ]
 
-  number_is : k ≡ lowest (grounds (view n m) (machine.Release slot))
+  number_is : release_refusal start n.slots slot ≡ lowest (grounds (view n m) (machine.Release slot))
   unfolding grounds
-  number_is = g ∙ ap (λ (b : Bool). lowest (8 when ltb 281474976710655 slot or 16 when b or [])) (sym held_test)
+  number_is = ap (λ (b : Bool). lowest (8 when ltb 281474976710655 slot or 16 when b or [])) (sym held_test)
 
-  pub release_refused : (k ≡ 0 → ⊥) → Answers ready view (machine.Release slot) n m area (record { number = k; count = 0; node = n }) m area
-  release_refused h = refused_by (machine.Release slot) n m area t e f k number_is h
+  pub release_refused : (x : Refusal) (r : Result Taken Refusal) → number_of x ≡ release_refusal start n.slots slot → IsErrAnd r (λ v. v ≡ x)
+      → Answers ready view (machine.Release slot) n m area (given_of n r) m area
+  release_refused x r g = refused_by (machine.Release slot) n m area true (sym y) refl x r (g ∙ number_is)
 
-  module _ (z : k ≡ 0) where
+  module _ (z : 0 ≡ release_refusal start n.slots slot) where
     r : Ready n m
-    r = is_ready n m t e f
+    r = is_ready n m true (sym y) refl
 
     in_window : (start ≤ slot) × (slot < start + n.slots)
     unfolding grounds
     in_window =
-        let q = or_both (ltb slot start) (leb (start + n.slots) slot) (sym held_test ∙ (none_applies (machine.Release slot) n m k number_is z).1.0) in
+        let q = or_both (ltb slot start) (leb (start + n.slots) slot) (sym held_test ∙ (none_applies (machine.Release slot) n m (z ∙ number_is)).1.0) in
         (ltb-false slot start q.0, leb-false (start + n.slots) slot q.1)
 
     abbrev s : List ℕ
@@ -103,20 +91,20 @@ module _ (n : Node) (m area : List ℕ) (slot : ℕ) (t : Bool) (e : t ≡ ready
       unfolding part
       many = length_answers n.quorum (leader_of n.bodega_conf.leader) inst ∙ sym p.0
 
-      pub release_20 : length area / 6 < h → Answers ready view (machine.Release slot) n m area (record { number = 20; count = 0; node = n }) m area
-      release_20 q = few_places (machine.Release slot) n m area t e f k number_is z (rw (effect_is, many) q)
+      pub release_20 : length area / 6 < h → Answers ready view (machine.Release slot) n m area (given_of n (Err AreaTooSmall)) m area
+      release_20 q = few_places (machine.Release slot) n m (z ∙ number_is) area true (sym y) refl (rw (effect_is, many) q)
 
       module _ (q : h ≤ length area / 6) where
         pub room : (slot % slot_places < slot_places) × (slot_words ≤ length (take slot_words (drop slots_at m))) × (0 + length (holding_of (inst_in (take slot_words (drop slots_at m)) (slot % slot_places))) ≤ places area)
         room = (omega arith, omega (arith, slots_long m r.long), omega (arith, p.0))
 
         pub release_taken : (s' area' : List ℕ) (count : ℕ) → Releases n.quorum (leader_of n.bodega_conf.leader) (slot % slot_places) 0 (take slot_words (drop slots_at m)) area count s' area'
-            → Answers ready view (machine.Release slot) n m area (record { number = 0; count = count; node = n }) (splice m slots_at slot_words s') area'
+            → Answers ready view (machine.Release slot) n m area (given_of n (Ok (record { node = n; count = count }))) (splice m slots_at slot_words s') area'
         unfolding part
         release_taken s' area' count x =
             let l : length s' ≡ slot_words = x.emptied.size ∙ slots_long m r.long in
             rw x.count
-            (taken_with (machine.Release slot) n m area t e f k number_is z (machine.set_inst slot (emptied inst) (view n m)) items n (splice m slots_at slot_words s') area'
+            (taken_with (machine.Release slot) n m (z ∙ number_is) area true (sym y) refl (machine.set_inst slot (emptied inst) (view n m)) items n (splice m slots_at slot_words s') area'
             effect_is (rw many q)
             (slots_back n m r.long s' l ∙ set_at n m slot in_window.0 in_window.1 r.window x.emptied ∙ ap (λ (i : machine.Instance). machine.set_inst slot i (view n m)) (emptied_is s (slot % slot_places)))
-            x.items (slots_size n m r.long s' l) (slots_beyond n m r.long s' l) (slots_ready n m r.long s' l ∙ sym e ∙ not-false t f))
+            x.items (slots_size n m r.long s' l) (slots_beyond n m r.long s' l) (slots_ready n m r.long s' l ∙ y))

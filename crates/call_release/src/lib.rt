@@ -9,22 +9,19 @@ ghost use Rattle.call_release.specs.Release.{release_refusal};
 ghost use Rattle.ids.specs.Refusal.{refused_by};
 
 use ids::{Refusal, Slot};
-use node::{Taken, Node};
+use node::{Node, Taken};
 
 // The number of a release's refusal but 20, 0 where there is none.
 fn release_refusal(start: Slot, slots: usize, slot: Slot) -> Result<(), Refusal>
     ensures { refused_by result ≡ release_refusal start.0 slots slot.0 }
 {
     if Slot::TOP < slot {
-        return Err(Refusal::SlotTooLarge);
+        Err(Refusal::SlotTooLarge)
+    } else if slot < start || slots as u64 <= slot.0 - start.0 {
+        Err(Refusal::SlotNotHeld)
+    } else {
+        Ok(())
     }
-    if slot.0 < start.0 {
-        return Err(Refusal::SlotNotHeld);
-    }
-    if slots as u64 <= slot.0 - start.0 {
-        return Err(Refusal::SlotNotHeld);
-    }
-    Ok(())
 }
 
 pub fn release(node: Node, mem: &mut [u64], area: &mut [u64], slot: Slot) -> Result<Taken, Refusal>
@@ -33,22 +30,19 @@ pub fn release(node: Node, mem: &mut [u64], area: &mut [u64], slot: Slot) -> Res
     if !node::is_ready(node, mem) {
         return Err(Refusal::NotReady);
     }
-    let start = node.start_slot;
-    release_refusal(start, node.slots, slot)?;
+    release_refusal(node.start_slot, node.slots, slot)?;
     let c = (slot.0 % layout::PLACES) as usize;
     let held = release_held_reads::holding(&mem[layout::SLOTS_AT..layout::WRITTEN_AT], c);
     if area.len() / 6 < held {
         return Err(Refusal::AreaTooSmall);
     }
-    let conf = node.bodega_conf;
-    let leader = conf.leader;
     let count = release_held_reads::release(
         &mut mem[layout::SLOTS_AT..layout::WRITTEN_AT],
         c,
         node.quorum,
-        leader,
+        node.bodega_conf.leader,
         area,
         0,
     );
-    Ok(Taken { node, count: count })
+    Ok(Taken { node, count })
 }
