@@ -5,36 +5,41 @@
 
 mod scripts;
 
-ghost use Rattle.std.specs.Prelude.{◌≡◌, ◌+◌, ◌≤◌, length, IfOk};
+ghost use Rattle.std.specs.Prelude.{◌+◌, ◌≤◌, length, IfSome};
 ghost use Rattle.stream_events.specs.Fed.{Lent};
 
+use line_buffers::{GROUP_WORDS, ITEM_WORDS, LINE_BYTES, TEXT_BYTES, blank, read_full};
 use std::io;
-use std::io::{ErrorKind, Read, Stdin, Stdout};
+use std::io::Stdout;
+use node::Node;
+use roster_conf::RespondersConf;
 use stream_events::{LineState, Place};
 use stream_pieces::Carry;
 
+// Room for the file.
+const FILE_BYTES: usize = 262144;
+
+// Room for a script behind the start of a line, and for many answers.
+const PIECE_BYTES: usize = LINE_BYTES + FILE_BYTES;
+
+const ANSWERS_BYTES: usize = 3 * TEXT_BYTES;
+
 // ---- a script's event lines, answered from the fresh state
 
-// How many bytes of the recorded answers were met, and whether all that was written is those.
-#[derive(Clone, Copy)]
-struct Met {
-    at: usize,
-    same: bool,
-}
-
-// What goes from piece to piece.
+// What goes from piece to piece: what is kept, and how many bytes of the recorded answers were met; None once what is
+// written is not those.
 #[derive(Clone, Copy)]
 struct Progress {
     state: LineState,
     line: Carry,
-    met: Met,
+    met: Option<usize>,
 }
 
 // Where the lines of a piece end, and what was met.
 #[derive(Clone, Copy)]
 struct Drained {
     place: Place,
-    met: Met,
+    met: Option<usize>,
 }
 
 // Whether what is written is what was recorded, and how many lines were answered.
@@ -44,21 +49,13 @@ struct Outcome {
     lines: u64,
 }
 
-// The first n bytes of a text follow those that were met.
-fn meet(answers: &[u8], met: Met, text: &[u8], n: usize) -> Met
-    requires { (met.at ≤ length answers.now) × (n ≤ length text.now) }
-    ensures { result.at ≤ length answers.now }
+// The text follows those that were met.
+fn meet(answers: &[u8], met: Option<usize>, text: &[u8]) -> Option<usize>
+    ensures { IfSome result (λ at. at ≤ length answers.now) }
 {
-    let at = met.at;
-    if n > answers.len() - at {
-        return Met { at, same: false };
-    }
-    let end = at + n;
-    let same = answers[at..end] == text[0..n];
-    Met {
-        at: end,
-        same: met.same && same,
-    }
+    let at = met?;
+    let end = at.checked_add(text.len())?;
+    (answers.get(at..end)? == text).then_some(end)
 }
 
 // Answers the lines of a piece, and compares the answers.
@@ -66,40 +63,26 @@ fn drain(
     piece: &[u8],
     answers: &[u8],
     from: Place,
-    before: Met,
+    before: Option<usize>,
     mem: &mut [u64],
     rows: &mut [u64],
     area: &mut [u64],
     groups: &mut [u64],
     out: &mut [u8],
 ) -> Drained
-    requires { (from.at ≤ length piece.now) × (before.at ≤ length answers.now) × Lent from.state.host mem.old rows.old area.old groups.old × (65536 ≤ length out.old) }
-    ensures { (result.place.at ≤ length piece.now) × (result.met.at ≤ length answers.now) × Lent result.place.state.host mem.new rows.new area.new groups.new }
+    requires { (from.at ≤ length piece.now) × Lent from.state.host mem.old rows.old area.old groups.old × (65536 ≤ length out.old) }
+    ensures { (result.place.at ≤ length piece.now) × Lent result.place.state.host mem.new rows.new area.new groups.new }
 {
     let mut place = from;
     let mut met = before;
     loop {
         let fed = stream_events::feed(piece, place, mem, rows, area, groups, out);
-        met = meet(answers, met, out, fed.used);
-        let next = fed.place;
+        met = meet(answers, met, &out[..fed.used]);
+        place = fed.place;
         if !fed.more {
-            return Drained { place: next, met };
+            return Drained { place, met };
         }
-        place = next;
     }
-}
-
-// Puts bytes at an index, and returns where they end.
-fn put(buf: &mut [u8], at: usize, bytes: &[u8]) -> usize
-    requires { at + length bytes.now ≤ length buf.old }
-    ensures { result ≡ at + length bytes.now }
-{
-    let mut i = 0;
-    while i < bytes.len() {
-        buf[at + i] = bytes[i];
-        i += 1;
-    }
-    at + i
 }
 
 // Answers the lines that end in a piece, which goes behind the bytes that were kept.
@@ -114,23 +97,21 @@ fn hear(
     groups: &mut [u64],
     out: &mut [u8],
 ) -> Progress
-    requires { (p.line.have ≤ 1024) × (1024 + length bytes.now ≤ length buf.old) × (p.met.at ≤ length answers.now) × Lent p.state.host mem.old rows.old area.old groups.old × (65536 ≤ length out.old) }
-    ensures { (result.line.have ≤ 1024) × (result.met.at ≤ length answers.now) × Lent result.state.host mem.new rows.new area.new groups.new }
+    requires { (p.line.have ≤ 1024) × (1024 + length bytes.now ≤ length buf.old) × Lent p.state.host mem.old rows.old area.old groups.old × (65536 ≤ length out.old) }
+    ensures { (result.line.have ≤ 1024) × Lent result.state.host mem.new rows.new area.new groups.new }
 {
-    let line = p.line;
-    let state = p.state;
-    let before = p.met;
-    let end = put(buf, line.have, bytes);
+    let end = p.line.have + bytes.len();
+    buf[p.line.have..end].copy_from_slice(bytes);
     let from = Place {
         at: 0,
-        state,
-        long: line.long,
+        state: p.state,
+        long: p.line.long,
     };
     let drained = drain(
-        &buf[0..end],
+        &buf[..end],
         answers,
         from,
-        before,
+        p.met,
         mem,
         rows,
         area,
@@ -138,13 +119,10 @@ fn hear(
         out,
     );
     let place = drained.place;
-    let left = stream_pieces::keep(buf, place.at, end, place.long);
-    let next = place.state;
-    let met = drained.met;
     Progress {
-        state: next,
-        line: left,
-        met,
+        state: place.state,
+        line: stream_pieces::keep(buf, place.at, end, place.long),
+        met: drained.met,
     }
 }
 
@@ -159,9 +137,8 @@ fn finish(
     groups: &mut [u64],
     out: &mut [u8],
 ) -> Outcome
-    requires { (p.line.have ≤ length buf.now) × (p.met.at ≤ length answers.now) × Lent p.state.host mem.old rows.old area.old groups.old × (65536 ≤ length out.old) }
+    requires { (p.line.have ≤ length buf.now) × Lent p.state.host mem.old rows.old area.old groups.old × (65536 ≤ length out.old) }
 {
-    let have = p.line.have;
     let said = stream_events::last_line(
         p.state,
         mem,
@@ -169,46 +146,34 @@ fn finish(
         area,
         groups,
         p.line.long,
-        &buf[0..have],
+        &buf[..p.line.have],
         out,
     );
-    let met = meet(answers, p.met, out, said.end);
+    let met = meet(answers, p.met, &out[..said.end]);
     Outcome {
-        same: met.same && met.at == answers.len(),
+        same: met == Some(answers.len()),
         lines: said.state.number.wrapping_sub(1),
     }
-}
-
-// Room for a piece behind the start of a line, and for any answer.
-fn piece_space() -> [u8; 263168]
-    ensures { 263168 ≡ length result }
-{
-    [0; 263168]
-}
-
-fn text_space() -> [u8; 196608]
-    ensures { 196608 ≡ length result }
-{
-    [0; 196608]
 }
 
 // Answers the lines of two pieces.
 fn run(first: &[u8], second: &[u8], answers: &[u8]) -> Outcome
     requires { (length first.now ≤ 262144) × (length second.now ≤ 262144) }
 {
-    let mut buf = piece_space();
-    let mut mem = line_buffers::node_words();
-    let mut rows = line_buffers::draft_rows();
-    let mut area = line_buffers::item_area();
-    let mut groups = line_buffers::group_words();
-    let mut out = text_space();
-    let state = LineState::fresh();
-    let line = Carry {
-        have: 0,
-        long: false,
+    let mut buf: [u8; PIECE_BYTES] = blank();
+    let mut mem: [u64; Node::WORDS] = blank();
+    let mut rows: [u64; RespondersConf::WORDS] = blank();
+    let mut area: [u64; ITEM_WORDS] = blank();
+    let mut groups: [u64; GROUP_WORDS] = blank();
+    let mut out: [u8; ANSWERS_BYTES] = blank();
+    let p = Progress {
+        state: LineState::fresh(),
+        line: Carry {
+            have: 0,
+            long: false,
+        },
+        met: Some(0),
     };
-    let met = Met { at: 0, same: true };
-    let p = Progress { state, line, met };
     let q = hear(
         first,
         answers,
@@ -284,12 +249,9 @@ fn counted(t: Tally, lines: u64, same: bool) -> Tally {
 fn replay(output: Stdout, t: Tally, name: &[u8], input: &[u8], answers: &[u8]) -> io::Result<Tally>
     requires { length input.now ≤ 262144 }
 {
-    let none = &input[0..0];
     let middle = input.len() / 2;
-    let first = &input[0..middle];
-    let second = &input[middle..];
-    let whole = run(input, none, answers);
-    let cut = run(first, second, answers);
+    let whole = run(input, &[], answers);
+    let cut = run(&input[..middle], &input[middle..], answers);
     let same = whole.same && cut.same;
     if !same {
         differs(output, name)?;
@@ -308,56 +270,23 @@ fn replay_all(output: Stdout, file: &[u8]) -> io::Result<()>
     };
     let mut at = 0;
     while at < file.len() {
-        let s = scripts::script_at(file, at);
-        if !s.good {
+        let Some(s) = scripts::script_at(file, at) else {
             return malformed(output, at);
-        }
-        let name = s.name;
-        let name_end = s.name_end;
-        let input = s.input;
-        let answers = s.answers;
-        let end = s.end;
+        };
         t = replay(
             output,
             t,
-            &file[name..name_end],
-            &file[input..answers],
-            &file[answers..end],
+            &file[s.name..s.name_end],
+            &file[s.input..s.answers],
+            &file[s.answers..s.end],
         )?;
-        at = end;
+        at = s.end;
     }
     report(output, t)
 }
 
-// Room for the file.
-fn space() -> [u8; 262144]
-    ensures { 262144 ≡ length result }
-{
-    [0; 262144]
-}
-
-// Reads until the buffer is full or the input ends, and returns how many bytes it put at the buffer's start.
-// A proved loop has to end, and nothing says that a signal does not interrupt each read: so it counts them.
-fn read_full(mut input: Stdin, buf: &mut [u8]) -> io::Result<usize>
-    ensures { IfOk result (λ n. n ≤ length buf.new) }
-{
-    let mut done = 0;
-    for _ in 0..u64::MAX {
-        if done == buf.len() {
-            break;
-        }
-        match input.read(&mut buf[done..]) {
-            Ok(0) => break,
-            Ok(n) => done += n,
-            Err(e) if e.kind() == ErrorKind::Interrupted => {}
-            Err(e) => return Err(e),
-        }
-    }
-    Ok(done)
-}
-
 fn main(rt: HostRuntime) -> io::Result<()> {
-    let mut file = space();
-    let n = read_full(rt.stdin(), &mut file)?;
-    replay_all(rt.stdout(), &file[0..n])
+    let mut file: [u8; FILE_BYTES] = blank();
+    let n = read_full(&mut rt.stdin(), &mut file)?;
+    replay_all(rt.stdout(), &file[..n])
 }
