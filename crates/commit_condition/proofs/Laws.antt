@@ -1,23 +1,22 @@
 -- What a written key asks of the acks, and the requests of a batch one by one.
 use Rattle.std.specs.Prelude.{if◌then◌else◌}
-use mathlib.Core.Path.{◌≡◌, refl, sym, ap, ◌∙◌}
-use mathlib.Core.Logic.{◌⊎◌, ⊎_elim}
-use mathlib.Core.Bool.{Bool, true, false, not, ◌&&◌}
+use mathlib.Core.Path.{◌≡◌, ◌∙◌}
+use mathlib.Core.Bool.{Bool, true, false, ◌&&◌}
 use mathlib.Core.List.{List}
 use Rattle.std.specs.Prelude.{Option, None, Some}
-use Prim.Native.Nat.{ℕ, suc, ◌+◌, ◌-◌, ◌*◌, ◌≤◌, ◌<◌}
+use Prim.Native.Nat.{ℕ, suc, ◌+◌, ◌-◌, ◌≤◌, ◌<◌}
 use native.Mathlib.Nat.{sub-zero}
 use native.Mathlib.Omega.{arith}
-use borrow.Author.Tests.{lt-ltb, le-ltb, le-leb, eq-eqb, ne_eqb, not-true, not-false}
+use borrow.Author.Tests.{lt-ltb, le-ltb, le-leb}
 use lib.Dec.{leb}
-use lib.ListN.{length, get_or, take}
+use lib.ListN.{length, take}
 use Rattle.words.specs.Choice.{if_none◌then◌else◌}
 use Rattle.words.specs.Tab.{tab}
-use Rattle.layout.specs.Layout.{request_row, roster_words}
-use Rattle.key_words.specs.Key.{key_at, bytes_of, at_most_48, bytes_in, size_in}
+use Rattle.layout.specs.Layout.{roster_words}
+use Rattle.key_words.specs.Key.{bytes_of, at_most_48}
 use Rattle.key_words.specs.declared.Key.{Key}
 use Rattle.key_words.proofs.Laws.{foreign_unread}
-use Rattle.bitmap.specs.Bitmap.{count, is_superset}
+use Rattle.bitmap.specs.Bitmap.{count}
 use Rattle.inst_reqs.specs.Batch.{request_of, request_at, requests_of}
 use Rattle.inst_reqs.specs.declared.Command.TheVariants.{Get, Put}
 use Rattle.inst_reqs.specs.declared.Request.{Request}

@@ -1,16 +1,14 @@
 -- What every call shares: whether a node is ready, and what is due from the grounds that apply.
 use Rattle.std.specs.Prelude.{if◌then◌else◌}
 use mathlib.Core.Path.{◌≡◌, refl, sym, ap, ◌∙◌}
-use mathlib.Core.Bool.{Bool, true, false, not, ◌&&◌}
+use mathlib.Core.Bool.{Bool, true, false}
 use mathlib.Core.List.{List, [], ◌∷◌, ◌++◌}
 use Rattle.std.specs.Prelude.{None, Some, Result, Ok, Err, IsErrAnd}
 use Prim.Native.Nat.{ℕ, ◌+◌, ◌≤◌, ◌<◌}
 use native.Mathlib.Omega.{arith}
-use lib.Dec.{ltb, leb, eqb}
+use lib.Dec.{ltb, leb}
 use lib.ListN.{length}
-use borrow.Author.Tests.{lt-ltb, le-ltb, le-leb, lt-leb, ltb-true, leb-true, not-true, not-false}
-use Rattle.ids.specs.Leader.{leader_of}
-use Rattle.ids.specs.declared.Replica.{Replica}
+use borrow.Author.Tests.{lt-ltb, le-ltb, le-leb, ltb-true, leb-true}
 use Rattle.items.specs.Item.{Item, places, encode}
 use Rattle.words.specs.Writes.{writes}
 use Rattle.words.specs.Part.{Untouched}
@@ -26,8 +24,7 @@ use Rattle.ids.specs.Limits.{replicas, window}
 use Rattle.layout.specs.Layout.{node_words}
 use Rattle.node.specs.declared.Node.{Node}
 use Rattle.node.specs.declared.Taken.{Taken}
-use Rattle.node.specs.View.{size, view, in_range, bars_in_range, sound, ready, lowest, leads_it, given_of}
-use Rattle.std.specs.Prelude.{Option}
+use Rattle.node.specs.View.{size, view, in_range, ready, lowest, given_of}
 use Rattle.ids.specs.Refusal.{number_of}
 use Rattle.ids.specs.declared.Refusal.{Refusal}
 use Rattle.ids.specs.declared.Refusal.TheVariants.{Malformed, NotReady, NoSuchReplica, MaskTooWide, KeyTooLong, UnreadBound, RangeReversed, SlotTooLarge, BatchTooLarge, OwnGuard, BarsBroken, RosterMissing, BallotNotCurrent, SlotEnded, WindowFull, SlotNotHeld, TooManyRanges, TooManyKeys, TooManyReads, AreaTooSmall}

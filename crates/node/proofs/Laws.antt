@@ -1,15 +1,14 @@
 -- A fresh node: tests, words filled, and what the buffer then stands for.
 use mathlib.Core.Path.{◌≡◌, refl, sym, ap, ◌∙◌}
-use mathlib.Core.Bool.{Bool, true, false, not, ◌&&◌}
-use mathlib.Core.List.{List, [], ◌∷◌, ◌++◌}
+use mathlib.Core.Bool.{Bool, true, false, ◌&&◌}
+use mathlib.Core.List.{List, [], ◌∷◌}
 use Prim.Native.Nat.{ℕ, zero, suc, ◌+◌, ◌≤◌, ◌<◌}
 use native.Mathlib.Omega.{arith}
 use native.Mathlib.Nat.{zero-add}
-use native.Mathlib.Numerals.{add-one}
 use lib.Dec.{ltb, leb}
 use lib.ListN.{length, get_or, set, take, drop, replicate, get_or-replicate}
-use lib.Seq.{get_or-set_other, take-suc-set, take-length, length-take-le}
-use borrow.Author.Tests.{lt-ltb, le-ltb, le-leb, lt-leb, leb-true, not-true, not-false}
+use lib.Seq.{get_or-set_other, length-take-le}
+use borrow.Author.Tests.{le-leb, leb-true}
 use Rattle.words.specs.Part.{part, splice, part_here, part_before, length_splice, length_part, part_set_above, part_set_first, get_or_part, Untouched, splice_untouched}
 use Rattle.words.specs.Counted.{counted, counted_clear}
 use Rattle.ids.specs.Limits.{replicas}

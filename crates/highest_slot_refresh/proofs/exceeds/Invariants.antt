@@ -2,7 +2,6 @@ use Rattle.std.proofs.Common.{◌≡◌, ℕ, ◌≤◌, length}
 use Rattle.ids.specs.Limits.{keys}
 use Rattle.layout.specs.Layout.{request_places}
 use Rattle.highest_slot_refresh.specs.Refresh.{after}
-use Rattle.highest_slot_refresh.proofs.Laws as law
 use Rattle.highest_slot_refresh.proofs.exceeds.Given as goal
 
 abbrev pub invariant-loop-i : goal.invariant-loop-i
