@@ -2,7 +2,7 @@
 use Rattle.std.specs.Prelude.{◌≡◌, Bool, true, ◌&&◌, List, [], ◌∷◌, ◌++◌, ℕ, eqb}
 use Rattle.bodega.specs.Replica.{Replica, fresh, Call}
 use Rattle.bodega.specs.Answers.{Given, Answers}
-use Rattle.history.specs.Table.{Table, Fed, fresh_table, feed_all}
+use Rattle.history.specs.Table.{Fed, fresh_table, feed_all}
 use Rattle.history.specs.History.{SameGuards, quiet}
 
 module _ {Node : Type 0} (ready : Node → List ℕ → Bool) (view : Node → List ℕ → Replica) where
