@@ -13,6 +13,7 @@ use key_words::{Key, get_key, put_key};
 // Written keys at most.
 pub const KEYS: usize = layout::WRITTEN_PLACES;
 
+// As in inst_reqs, which says why each table has its own.
 #[tactic(auto, using(crate::proofs::Laws::how_many))]
 pub fn count(s: &[u64]) -> usize
     requires { written_words ≤ length s.now }

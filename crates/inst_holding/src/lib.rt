@@ -15,6 +15,7 @@ pub struct ReadReq {
     pub key: Key,
 }
 
+// As in inst_reqs, which says why each table has its own.
 #[tactic(auto, using(crate::proofs::Laws::how_many))]
 pub fn count(s: &[u64]) -> usize
     requires { held_words ≤ length s.now }

@@ -29,6 +29,8 @@ pub struct Request {
     pub key: Key,
 }
 
+// count, push and clear are alike here, in inst_holding and in highest_slot: one function over the three tables would
+// take a row's type, width and laws, and be no plainer than these lines.
 #[tactic(auto, using(crate::proofs::Laws::how_many))]
 pub fn count(s: &[u64]) -> usize
     requires { batch_words ≤ length s.now }
