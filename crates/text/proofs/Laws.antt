@@ -48,11 +48,13 @@ module _ (n : ℕ) where
       let z : n / 10 / 10 ≡ 0 = omega arith in
       more_digits n (λ (e : n / 10 ≡ 0). omega arith) ∙ rw (one_digit (n / 10) z)
 
-  more : 100 ≤ n → decimal n ≡ decimal (n / 100) ++ ((48 + n / 10 % 10) ∷ (48 + n % 10) ∷ [])
+  more : 100 ≤ n → decimal n ≡ decimal (n / 100) ++ ((48 + n % 100 / 10) ∷ (48 + n % 100 % 10) ∷ [])
   more h =
       let e : n / 10 / 10 ≡ n / 100 = omega arith in
-      more_digits n (λ (y : n / 10 ≡ 0). omega arith) ∙ rw (more_digits (n / 10) (λ (y : n / 10 / 10 ≡ 0). omega arith), e)
-      (append_assoc (decimal (n / 100)) ((48 + n / 10 % 10) ∷ []) ((48 + n % 10) ∷ []))
+      let t : n / 10 % 10 ≡ n % 100 / 10 = omega arith in
+      let o : n % 10 ≡ n % 100 % 10 = omega arith in
+      more_digits n (λ (y : n / 10 ≡ 0). omega arith) ∙ rw (more_digits (n / 10) (λ (y : n / 10 / 10 ≡ 0). omega arith), e, t, o)
+      (append_assoc (decimal (n / 100)) ((48 + n % 100 / 10) ∷ []) ((48 + n % 100 % 10) ∷ []))
 
 module _ (at n : ℕ) where
   module _ (h : n < 10) where
@@ -66,12 +68,15 @@ module _ (at n : ℕ) where
     pub pair_room : (m : ℕ) → at + length (decimal n) ≤ m → at + 2 ≤ m
     pair_room m p = omega (arith, ap length (pair n h k))
 
-    pub pair_put : (s s' : Bytes) (r : ℕ) → Wrote s at ((48 + n / 10 % 10) ∷ (48 + n % 10) ∷ []) 2 r s' → Wrote s at (decimal n) 20 r s'
-    pair_put s s' r w = rw (pair n h k) (at_most w (omega arith))
+    pub pair_put : (s s' : Bytes) (r : ℕ) → Wrote s at ((48 + n / 10) ∷ (48 + n % 10) ∷ []) 2 r s' → Wrote s at (decimal n) 20 r s'
+    pair_put s s' r w = rw (pair n h k, small) (at_most w (omega arith))
+      where
+        small : n / 10 % 10 ≡ n / 10
+        small = omega arith
 
   module _ (h : 100 ≤ n) where
     more_long : length (decimal n) ≡ length (decimal (n / 100)) + 2
-    more_long = ap length (more n h) ∙ length-append (decimal (n / 100)) ((48 + n / 10 % 10) ∷ (48 + n % 10) ∷ [])
+    more_long = ap length (more n h) ∙ length-append (decimal (n / 100)) ((48 + n % 100 / 10) ∷ (48 + n % 100 % 10) ∷ [])
 
     pub more_room : (m : ℕ) → at + length (decimal n) ≤ m → at + length (decimal (n / 100)) ≤ m
     more_room m p = omega (arith, more_long)
@@ -80,7 +85,7 @@ module _ (at n : ℕ) where
       pub tail_room : (m : ℕ) → at + length (decimal n) ≤ length s → m ≡ length s → i + 2 ≤ m
       tail_room m p e = omega (arith, more_long)
 
-      pub more_put : (s' : Bytes) (r : ℕ) → n < 2 ^ 64 → Wrote l i ((48 + n / 10 % 10) ∷ (48 + n % 10) ∷ []) 2 r s' → Wrote s at (decimal n) 20 r s'
+      pub more_put : (s' : Bytes) (r : ℕ) → n < 2 ^ 64 → Wrote l i ((48 + n % 100 / 10) ∷ (48 + n % 100 % 10) ∷ []) 2 r s' → Wrote s at (decimal n) 20 r s'
       more_put s' r f u =
           let all = same_text (then w u) (sym (more n h)) in
           record { end = all.end; bytes = all.bytes; short = short_64 n f }

@@ -1,7 +1,7 @@
 // Text in lent bytes: numbers, bytes, and fields that a comma begins. A writer returns where its text ends.
 #![tactic(auto)]
 
-ghost use Rattle.std.specs.Prelude.{◌≡◌, [], ◌∷◌, ◌+◌, ◌<◌, ◌≤◌, length};
+ghost use Rattle.std.specs.Prelude.{◌≡◌, [], ◌∷◌, ◌+◌, ◌/◌, ◌%◌, ◌<◌, ◌≤◌, length};
 ghost use Rattle.decimal.specs.Digits.{decimal};
 ghost use Rattle.inty.specs.Value.{value_of};
 ghost use Rattle.text.specs.Wrote.{Wrote};
@@ -10,7 +10,16 @@ use inty::Inty;
 
 // ---- numbers
 
-// Two digits a step, since a division a digit takes longer: the lines are mostly such numbers.
+fn put_pair(out: &mut [u8], at: usize, pair: u64) -> usize
+    requires { (at + 2 ≤ length out.old) × (pair < 100) }
+    ensures { Wrote out.old at ((48 + pair / 10) ∷ (48 + pair % 10) ∷ []) 2 result out.new }
+{
+    out[at] = b'0' + (pair / 10) as u8;
+    out[at + 1] = b'0' + (pair % 10) as u8;
+    at + 2
+}
+
+// Two digits a step: one a step divides twice as often, and such numbers are most of what a line writes.
 fn digits(out: &mut [u8], at: usize, n: u64) -> usize
     requires { at + length (decimal n) ≤ length out.old }
     ensures { Wrote out.old at (decimal n) 20 result out.new }
@@ -18,12 +27,11 @@ fn digits(out: &mut [u8], at: usize, n: u64) -> usize
     if n < 10 {
         return put_byte(out, at, b'0' + n as u8);
     }
-    let pair = [b'0' + (n / 10 % 10) as u8, b'0' + (n % 10) as u8];
     if n < 100 {
-        return put_bytes(out, at, &pair);
+        return put_pair(out, at, n);
     }
     let end = digits(out, at, n / 100);
-    put_bytes(out, end, &pair)
+    put_pair(out, end, n % 100)
 }
 
 pub fn put_u64(out: &mut [u8], at: usize, n: u64) -> usize

@@ -8,8 +8,8 @@ put_byte-requires t c = search (rules, law.few_room)
 pub returns-then-n-lt10 : goal.returns-then-n-lt10
 returns-then-n-lt10 t c = search (rules, law.few_put)
 
-pub put_bytes-requires : goal.put_bytes-requires
-put_bytes-requires t c = search (rules, law.pair_room)
+pub put_pair-requires : goal.put_pair-requires
+put_pair-requires t c = (search (rules, law.pair_room), omega arith)
 
 pub returns-then-n-lt100 : goal.returns-then-n-lt100
 returns-then-n-lt100 t c = search (rules, law.pair_put)
@@ -17,8 +17,8 @@ returns-then-n-lt100 t c = search (rules, law.pair_put)
 pub digits-end-requires : goal.digits-end-requires
 digits-end-requires t c = (omega arith, search (rules, law.more_room))
 
-pub put_bytes-requires-2 : goal.put_bytes-requires-2
-put_bytes-requires-2 t c = search (rules, law.tail_room)
+pub put_pair-requires-2 : goal.put_pair-requires-2
+put_pair-requires-2 t c = (search (rules, law.tail_room), omega arith)
 
 pub returns : goal.returns
 returns t c = search (rules, law.more_put)
