@@ -99,12 +99,6 @@ bytes_pack_of k b h =
     let p : is_packed (pack_of k) ≡ true = rw e (same_key_refl (pack_of k)) in
     rw (p, e)
 
-pub pack_key : (k : List ℕ) (r : Key) → length k ≤ 48 → bytes_of r ≡ k → ◌≡◌ {A = Option (List ℕ)} (Some (bytes_of r)) (at_most_48 k)
-pack_key k r h e = rw (e, le-leb (length k) 48 h)
-
-pub pack_long : (k : List ℕ) → 48 < length k → None ≡ at_most_48 k
-pack_long k h = rw (lt-leb (length k) 48 h)
-
 -- ---- keys are compared as their bytes are
 
 short : (k : Key) → length (unpack_of k) ≤ 48
