@@ -1,24 +1,22 @@
 -- The ack of a peer at its slot: whether it is taken, what it does, and the slot's words after it.
-use mathlib.Core.Path.{◌≡◌, refl, sym, ap, subst, ◌∙◌}
-use mathlib.Core.Bool.{Bool, true, false, not}
+use mathlib.Core.Path.{◌≡◌, refl, sym, subst, ◌∙◌}
+use mathlib.Core.Bool.{Bool, true, false}
 use mathlib.Core.List.{List}
 use Rattle.std.specs.Prelude.{None, Some}
-use Prim.Native.Nat.{ℕ, ◌+◌, ◌*◌, ◌≤◌, ◌<◌}
+use Prim.Native.Nat.{ℕ, ◌+◌, ◌*◌, ◌≤◌}
 use native.Mathlib.Omega.{arith}
 use lib.ListN.{take, drop}
-use borrow.Author.Tests.{lt-ltb, le-ltb, not-true, not-false}
 use Rattle.words.specs.Part.{part}
 use Rattle.words.specs.Writes.{writes}
 use Rattle.layout.specs.Layout.{batch_words}
-use Rattle.bitmap.specs.Bitmap.{get, set_to}
 use Rattle.items.specs.Item.{Commit, encode, places}
 use Rattle.items.specs.Area.{Put, put_item}
 use Rattle.roster_conf.specs.Conf.{Conf}
-use Rattle.bodega.specs.Replica.{Request, ReadReq, Committed, is_accepting}
+use Rattle.bodega.specs.Replica.{Request, ReadReq, Committed}
 use Rattle.bodega.specs.Localread.{commit_condition}
 use Rattle.inst_reqs.specs.Batch.{requests_of}
 use Rattle.inst_cell.specs.declared.Cell.{Cell}
-use Rattle.inst_cell.specs.Cell.{Short, status_of, cell_of, with_status}
+use Rattle.inst_cell.specs.Cell.{Short, cell_of, with_status}
 use Rattle.insts.specs.Slots.{batch_start, short_at, batch_at, reads_at, Puts}
 use Rattle.insts.proofs.Laws.{short_after}
 use Rattle.call_reply.specs.declared.Ack.{Ack}

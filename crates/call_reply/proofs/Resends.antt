@@ -1,25 +1,19 @@
 -- The Accepts that are sent again, slot by slot.
 use mathlib.Core.Path.{◌≡◌, refl, sym, ap, ◌∙◌}
-use mathlib.Core.Bool.{Bool, true, false, not}
-use mathlib.Core.List.{List, [], ◌∷◌, ◌++◌, append-nil}
+use mathlib.Core.Bool.{Bool}
+use mathlib.Core.List.{List, [], ◌∷◌, append-nil}
 use Prim.Native.Nat.{ℕ, suc, ◌+◌, ◌-◌, ◌*◌, ◌%◌, ◌≤◌, ◌<◌}
 use native.Mathlib.Omega.{arith}
-use lib.ListN.{length, length-append}
-use borrow.Author.Tests.{eq-eqb, ne_eqb, not-true, not-false}
+use lib.ListN.{length}
 use Rattle.words.specs.Writes.{writes, writes_append, length_writes}
 use Rattle.layout.specs.Layout.{slot_places}
-use Rattle.bitmap.specs.Bitmap.{get}
 use Rattle.items.specs.Item.{Item, Resend, item_words, encode, places, length_encode, encode_append}
 use Rattle.items.specs.Area.{Put, put_item}
 use Rattle.items.proofs.Laws.{put_area}
-use Rattle.bodega.specs.Replica.{is_accepting}
-use Rattle.inst_cell.specs.declared.Cell.{Cell}
-use Rattle.inst_cell.specs.Cell.{Short, status_of, cell_of}
 use Rattle.insts.specs.Slots.{short_at}
 use Rattle.call_reply.specs.declared.Missed.{Missed}
 use Rattle.call_reply.specs.declared.Missed.TheVariants.{Skip, Stop, Send}
 use Rattle.call_reply.specs.Resends.{missed_of, and_more, resends_of}
-use Rattle.std.specs.Prelude.{Some, None}
 
 -- ---- items written
 
