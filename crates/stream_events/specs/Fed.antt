@@ -1,5 +1,5 @@
 -- Trusted: what the functions of a stream's lines answer and leave.
-use Rattle.std.specs.Prelude.{◌≡◌, Bool, true, false, List, [], ℕ, ◌-◌, ◌≤◌, ◌<◌, length, take, drop}
+use Rattle.std.specs.Prelude.{◌≡◌, true, false, List, [], ℕ, ◌-◌, ◌≤◌, ◌<◌, length, take, drop}
 use Rattle.words.specs.Text.{Bytes}
 use Rattle.ids.specs.Limits.{items}
 use Rattle.items.specs.Item.{places}

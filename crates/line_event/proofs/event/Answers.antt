@@ -1,6 +1,5 @@
 use Rattle.line_event.proofs.Laws as law
 use Rattle.std.specs.Prelude.{Ok, Err}
-use native.Mathlib.Omega.{arith}
 use Rattle.line_event.proofs.event.Goals as goal
 
 pub returns-then-out-lt-TEXT_BYTES : goal.returns-then-out-lt-TEXT_BYTES

@@ -1,7 +1,6 @@
 use Rattle.line_event.proofs.Laws as law
 use Rattle.std.specs.Prelude.{Err}
 use Rattle.ids.specs.declared.Refusal.TheVariants.{Malformed, NotReady}
-use native.Mathlib.Omega.{arith}
 use Rattle.line_event.proofs.hear.Goals as goal
 
 pub returns-then-not-is_fit : goal.returns-then-not-is_fit
