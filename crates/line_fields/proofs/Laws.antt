@@ -8,7 +8,7 @@ use Prim.Native.Nat.{ℕ, zero, suc, ◌+◌, ◌-◌, ◌*◌, ◌^◌, ◌≤�
 use native.Mathlib.Nat.{le_refl, le_trans, sub_self, add-zero}
 use native.Mathlib.Numerals.{add-one}
 use native.Mathlib.Omega.{arith}
-use lib.ListN.{length, get_or, take, drop, set, drop_of_length-le, length-drop, length-take, length-set}
+use lib.ListN.{length, get_or, take, drop, set, drop_of_length-le, length-drop, length-set}
 use lib.Seq.{drop-cons, drop-drop, take-suc, take-length, get_or-drop, get_or-set_same, get_or-set_other}
 use Rattle.std.specs.Prelude.{◌==◌, position}
 use Rattle.std.specs.Option.{unwrap_or}
@@ -16,9 +16,9 @@ use Rattle.std.specs.List.{position_or_len}
 use Rattle.std.proofs.Common.{nat_lt}
 use Rattle.std.proofs.lemmas.List.{take-append-drop}
 use Rattle.std.proofs.lemmas.List.Sums.{fails_before_first, passes_at_first, prefix_len-le-length}
-use lib.Dec.{ltb, leb, eqb, lit<}
+use lib.Dec.{ltb, eqb, lit<}
 use native.Mathlib.Decide.{dec_lt}
-use borrow.Author.Tests.{lt-ltb, le-ltb, le-leb, lt-leb, eq-eqb, ne_eqb, eqb-true, ltb-true, ltb-false, leb-true}
+use borrow.Author.Tests.{lt-ltb, le-ltb, le-leb, lt-leb, eq-eqb, ne_eqb, eqb-true, ltb-true, ltb-false}
 use Rattle.words.specs.Text.{Bytes}
 use Rattle.line_fields.specs.declared.NumberAt.{NumberAt}
 use Rattle.line_fields.specs.Split.{on_first, fields_of, fields_from}
@@ -59,17 +59,6 @@ some_field (c ∷ s) = go (eqb c 44) (fields_of s)
 pub all_read : (l : List Bytes) → none_left l ≡ true → l ≡ []
 all_read [] e = refl
 all_read (f ∷ fs) e = absurd (differ (sym e))
-
--- one field more: the first, the others, how many
-module _ (fs gs : List Bytes) (f : Bytes) (e : fs ≡ f ∷ gs) where
-  pub first_is : get_or fs 0 [] ≡ f
-  first_is = ap (λ (l : List Bytes). get_or l 0 []) e
-
-  pub next_is : (i : ℕ) → get_or fs (i + 1) [] ≡ get_or gs i []
-  next_is i = rw (add-one i) (ap (λ (l : List Bytes). get_or l (suc i) []) e)
-
-  pub one_more : length fs ≡ length gs + 1
-  one_more = ap length e ∙ sym (add-one (length gs))
 
 pub some_left : (s : Bytes) (at : ℕ) → at ≤ length s → fields_from s at ≡ get_or (fields_from s at) 0 [] ∷ drop 1 (fields_from s at)
 some_left s at h = rw (from_in s at h) (some_field (drop at s))
@@ -117,9 +106,6 @@ between_more s at i l h =
     let k : i - at < length (drop at s) = rw length-drop (omega arith) in
     rw (e, add-one (i - at), take-suc (drop at s) (i - at) 0 k, get_or-drop at s (i - at) 0, f)
 
-pub length_between : (s : Bytes) (at i : ℕ) → i ≤ length s → length (between s at i) ≡ i - at
-length_between s at i h = simp (length-take, length-drop) (omega arith)
-
 -- bytes in front of the first field, where there is one
 abbrev pub onto : Bytes → List Bytes → List Bytes
 onto p [] = []
@@ -161,14 +147,6 @@ module _ (s : Bytes) (at i : ℕ) (p : Passed s at i) where
 
   pub at_end : i ≡ length s → fields_from s at ≡ between s at i ∷ fields_from s (i + 1)
   at_end e = closes (from_end s i e)
-
-  -- another byte is in it
-  pub at_other : i < length s → (get_or s i 0 ≡ 44 → ⊥) → get_or (fields_from s at) 0 [] ≡ between s at i ++ (get_or s i 0 ∷ get_or (fields_from s (i + 1)) 0 [])
-  at_other h n = ap (λ (l : List Bytes). get_or l 0 []) (p.fields ∙ ap (onto (between s at i)) (from_other s i h n)) ∙ go (fields_from s (i + 1))
-    where
-      go : (l : List Bytes) → get_or (onto (between s at i) (on_first (get_or s i 0) l)) 0 [] ≡ between s at i ++ (get_or s i 0 ∷ get_or l 0 [])
-      go [] = refl
-      go (f ∷ fs) = refl
 
 -- ---- what field_at says
 
@@ -221,20 +199,6 @@ module _ (s : Bytes) (at n : ℕ) (o : Option ℕ) (l : at ≤ length s) (c : o 
 
 -- ---- digits
 
-pub both_first : (a b : Bool) → (a && b) ≡ true → a ≡ true
-both_first true b e = refl
-both_first false b e = e
-
-pub both_second : (a b : Bool) → (a && b) ≡ true → b ≡ true
-both_second true b e = e
-both_second false b e = cc
-
-pub digit_from : (c : ℕ) → is_digit c ≡ true → 48 ≤ c
-digit_from c e = leb-true 48 c (both_first (leb 48 c) (leb c 57) e)
-
-pub digit_to : (c : ℕ) → is_digit c ≡ true → c ≤ 57
-digit_to c e = leb-true c 57 (both_second (leb 48 c) (leb c 57) e)
-
 -- digits after digits
 digits_append : (p q : Bytes) → all_digits (p ++ q) ≡ (all_digits p && all_digits q)
 unfolding all_digits
@@ -279,10 +243,6 @@ over_number p c q e =
     go : (a : Bool) → (a && false) ≡ false
     go true = refl
     go false = refl
-
-some_byte : (f : Bytes) → 0 < length f → has_byte f ≡ true
-some_byte [] h = absurd (omega arith)
-some_byte (c ∷ f) h = refl
 
 pub is_number_lem : (p : Bytes) → 0 < length p → all_digits p ≡ true → value_of p < 2 ^ 64 → is_number p ≡ true
 unfolding is_number
@@ -375,14 +335,6 @@ leading_none : (fs : List Bytes) → leading 0 fs ≡ 0
 unfolding leading
 leading_none fs = refl
 
-leading_by : (k : ℕ) (fs : List Bytes) (b : Bool) → is_number (get_or fs 0 []) ≡ b → leading k (drop 1 fs) ≤ k → leading (k + 1) fs ≤ k + 1
-leading_by k fs true e h = rw (leading_more k fs e) (omega arith)
-leading_by k fs false e h = rw (leading_other k fs e) (omega arith)
-
-pub leading_le : (k : ℕ) (fs : List Bytes) → leading k fs ≤ k
-leading_le zero fs = rw (leading_none fs) (omega arith)
-leading_le (suc k) fs = (rw (add-one k) at (leading_by k fs (is_number (get_or fs 0 [])) refl (leading_le k (drop 1 fs))))
-
 -- i of k numbers are read, and the others begin at next
 pub record ReadSoFar (s : Bytes) (at k : ℕ) (out₀ out : List ℕ) (next i : ℕ) : Type 0 where
   pub count : i ≤ k
@@ -393,11 +345,6 @@ pub record ReadSoFar (s : Bytes) (at k : ℕ) (out₀ out : List ℕ) (next i : 
   pub size : length out ≡ length out₀
   pub stands : i ≡ 0 → next ≡ at
   pub high : 0 < i → next ≤ length s + 1
-
-pub took_none : (s : Bytes) (at k : ℕ) (out : List ℕ) → ReadSoFar s at k out out at 0
-took_none s at k out =
-    let z : k - 0 ≡ k = omega arith in
-    record { count = omega arith; left = refl; lead = rw (z, add-zero (leading k (fields_from s at))); values = λ j h. absurd (omega arith); rest = λ j h. refl; size = refl; stands = λ _. refl; high = λ h. absurd (omega arith) }
 
 module _ (s : Bytes) (at k : ℕ) (out₀ out : List ℕ) (next i : ℕ) (p : ReadSoFar s at k out₀ out next i) where
   pub took_more : (r : NumberAt) → i < k → k ≤ length out₀ → FirstNumber s next r → ReadSoFar s at k out₀ (set out i r.value) r.next (i + 1)
