@@ -41,6 +41,7 @@ fn any_holds(s: &[u64], start: Slot, n: usize) -> bool
     requires { (start.0 ≤ top) × (n ≤ slot_places) × (slot_words ≤ length s.now) }
     ensures { result ≡ any holds (insts_of start.0 n s.now) }
 {
+    // By index: the proof of `any` over the range did not close.
     for i in 0..n {
         if insts::holds_reads(s, ((start.0 + i as u64) % layout::PLACES) as usize) {
             return true;

@@ -175,17 +175,20 @@ fn lacks_slot(node: Node, mem: &[u64], ballot: Ballot, conf: Option<RespondersCo
     requires { ready node mem.now ≡ true }
     ensures { (rows : List ℕ) → result ≡ appending (view node mem.now) ballot.0 (carried conf rows) && no_room (view node mem.now) }
 {
-    let Some(conf) = conf else {
-        return false;
-    };
-    node.bal_max_seen <= ballot
-        && node::leads(conf.leader, node.id)
-        && !insts::any_open(
-            &mem[layout::SLOTS_AT..layout::WRITTEN_AT],
-            node.start_slot,
-            node.slots,
-        )
-        && (Node::WINDOW <= node.slots || Slot::TOP.0 < node.start_slot.0 + node.slots as u64)
+    match conf {
+        Some(c) => {
+            node.bal_max_seen <= ballot
+                && node::leads(c.leader, node.id)
+                && !insts::any_open(
+                    &mem[layout::SLOTS_AT..layout::WRITTEN_AT],
+                    node.start_slot,
+                    node.slots,
+                )
+                && (Node::WINDOW <= node.slots
+                    || Slot::TOP.0 < node.start_slot.0 + node.slots as u64)
+        }
+        None => false,
+    }
 }
 
 // The first refusal before 15; what 2 says of buffers is not among them.

@@ -28,7 +28,7 @@ use roster_conf::RespondersConf;
 
 // ---- `resend_missed_accepts`
 
-// What it does at a slot: nothing, stop there, send its Accept.
+// What it does at a slot: nothing, stop there, send its Accept. Three ways, so no Option.
 #[derive(Clone, Copy)]
 enum Missed {
     Skip,
