@@ -1,13 +1,10 @@
 -- The node before the first line; what the lines' laws share.
-use mathlib.Core.Path.{◌≡◌, refl, sym, ◌∙◌}
+use mathlib.Core.Path.{◌≡◌, sym, ◌∙◌}
 use mathlib.Core.Bool.{Bool, true, false, and-false, true≢false}
-use mathlib.Core.List.{List, [], ◌∷◌}
+use mathlib.Core.List.{List}
 use Prim.Native.Nat.{ℕ}
-use native.Mathlib.Omega.{arith}
 use lib.Dec.{leb}
 use lib.ListN.{length}
-use Rattle.words.specs.Text.{Bytes}
-use Rattle.line_fields.specs.Reads.{none_left}
 use Rattle.node.specs.declared.Node.{Node}
 use Rattle.node.specs.View.{size, ready}
 
@@ -15,11 +12,7 @@ pub unready : (n : Node) (mem : List ℕ) → n.quorum ≡ 0 → ready n mem ≡
 unfolding ready
 unready n mem e = rw e (and-false (leb size (length mem)))
 
--- ---- for the lines: a test is not both; fields that are left are not none
+-- ---- for the lines: a test is not both
 
 pub not_both : {t : Bool} {A : Type 0} → t ≡ false → t ≡ true → A
 not_both f g = absurd (true≢false (sym g ∙ f))
-
-pub some_left : (l : List Bytes) → none_left l ≡ false → length l ≡ 0 → ⊥
-some_left [] n e = not_both n refl
-some_left (f ∷ l) n e = absurd (omega arith)

@@ -55,7 +55,8 @@ impl<'a> LineReader<'a> {
         Some(optional.value)
     }
 
-    // As many numbers as `out` has words, if so many fields that are left are numbers. The reader then moves on past them.
+    // As many numbers as `out` has words, if the first fields that are left are so many numbers. The reader then moves on
+    // past them.
     pub fn next_numbers(&mut self, out: &mut [u64]) -> Option<()>
         ensures { TakesNumbers self.old out.old result self.new out.new }
     {
