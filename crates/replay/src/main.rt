@@ -11,10 +11,10 @@ ghost use Rattle.layout.specs.Layout.{roster_words, node_words};
 ghost use Rattle.replay.specs.Reads.{answered, filled_as, Filling};
 ghost use Rattle.replay.specs.Steps.{Stands, Steps};
 
+use line_buffers::{GROUP_WORDS, ITEM_WORDS, LINE_BYTES, TEXT_BYTES, blank};
 use std::io::{ErrorKind, Read, Stdin, Stdout};
 use std::process::ExitCode;
 use std::{fmt, io};
-use line_buffers::{GROUP_WORDS, ITEM_WORDS, LINE_BYTES, TEXT_BYTES, blank};
 use stream_turns::Stream;
 
 // Room for a piece of 64 KB behind the start of a line.

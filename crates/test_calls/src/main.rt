@@ -5,7 +5,9 @@
 ghost use Rattle.std.specs.Prelude.{◌≡◌, ◌≤◌, length, IfOk};
 
 use ids::{Refusal, Slot};
-use line_buffers::{GROUP_WORDS, ITEM_PLACES, ITEM_WORDS, LINE_BYTES, TEXT_BYTES, blank, read_full};
+use line_buffers::{
+    GROUP_WORDS, ITEM_PLACES, ITEM_WORDS, LINE_BYTES, TEXT_BYTES, blank, read_full,
+};
 use line_host::Host;
 use line_kind::{CallKind, EditKind, Kind};
 use node::{Node, Taken};

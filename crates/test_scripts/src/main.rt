@@ -9,10 +9,10 @@ ghost use Rattle.std.specs.Prelude.{◌+◌, ◌≤◌, length, IfSome};
 ghost use Rattle.stream_events.specs.Fed.{Lent};
 
 use line_buffers::{GROUP_WORDS, ITEM_WORDS, LINE_BYTES, TEXT_BYTES, blank, read_full};
-use std::io;
-use std::io::Stdout;
 use node::Node;
 use roster_conf::RespondersConf;
+use std::io;
+use std::io::Stdout;
 use stream_events::{LineState, Place};
 use stream_pieces::Carry;
 
