@@ -33,6 +33,7 @@ pub struct Place {
 }
 
 // The next place, how much of the output is used, and whether the output was too full to go on.
+// A flag, since the place and the used length are there in both cases.
 #[derive(Clone, Copy)]
 pub struct Fed {
     pub place: Place,

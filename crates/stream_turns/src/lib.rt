@@ -10,6 +10,7 @@ use stream_events::{LineState, Place};
 
 // Where a stream stands: the bytes of the buffer from `place.at` up to `end` were read and are not answered. If `more`,
 // lines may end in them; if not, they are the line that has begun, at the buffer's start.
+// A flag, since both kinds have a place and an end.
 #[derive(Clone, Copy)]
 pub struct Stream {
     pub place: Place,
