@@ -269,9 +269,6 @@ module _ (piece : Bytes) (p : Place) (mem₀ rows₀ : List ℕ) (out₀ : Bytes
   }
 
 -- ---- the last line
-pub not_long : (long : Bool) (n : ℕ) → long ≡ false → ltb 0 n ≡ (long || ltb 0 n)
-not_long long n e = rw e
-
 module _ (c : LineState) (mem rows area groups : List ℕ) (long : Bool) (line out : Bytes) (t : Bool) (b : t ≡ (long || ltb 0 (length line))) where
   pub last_none : t ≡ false → Lent c.host mem rows area groups → WritesLastLine c mem rows (record { long = long; line = line }) out (record { state = c; end = 0 }) mem rows area groups out
   unfolding last_line last_state
