@@ -1,5 +1,5 @@
 -- The fields that are left, by a byte and by a field.
-use Rattle.std.specs.Prelude.{if◌then◌else◌, Option, None, Some}
+use Rattle.std.specs.Prelude.{if◌then◌else◌, Option, None, Some, Ok, Err}
 use mathlib.Core.Path.{◌≡◌, refl, sym, ap, ◌∙◌}
 use mathlib.Core.Bool.{Bool, true, false, not, cond, ◌&&◌}
 use mathlib.Core.List.{List, [], ◌∷◌, ◌++◌, append_assoc, append-nil}
@@ -23,7 +23,7 @@ use Rattle.words.specs.Text.{Bytes}
 use Rattle.line_fields.specs.declared.NumberAt.{NumberAt}
 use Rattle.line_fields.specs.Split.{on_first, fields_of, fields_from}
 use Rattle.line_fields.specs.Number.{is_digit, all_digits, value_from, value_of, has_byte, is_number, all_numbers, numbers, number_at}
-use Rattle.line_fields.specs.Reads.{none_left, between, ReadsField, number_in, FirstNumber, leading, PutsNumbers, ReadsNumbersAt}
+use Rattle.line_fields.specs.Reads.{none_left, between, ReadsField, number_in, FirstNumber, leading, PutsNumbers, Stops, ReadsNumbersAt}
 
 differ : true ≡ false → ⊥
 differ h = let z : ◌≡◌ {A = ℕ} 0 1 = cc in omega arith
@@ -369,20 +369,23 @@ module _ (s : Bytes) (at k : ℕ) (out₀ out : List ℕ) (next i : ℕ) (p : Re
   puts : leading k (fields_from s at) ≡ i → PutsNumbers s at k out₀ out
   puts e = record { values = rw e p.values; rest = rw e p.rest; size = p.size }
 
-  pub took_bad : i < k → is_number (get_or (fields_from s next) 0 []) ≡ false → ReadsNumbersAt s at k out₀ None out
+  stops : (n : ℕ) → n ≡ i → Stops s at n next
+  stops n e = rw e (record { left = p.left; stands = p.stands; high = p.high })
+
+  pub took_bad : i < k → is_number (get_or (fields_from s next) 0 []) ≡ false → ReadsNumbersAt s at k out₀ (Err next) out
   took_bad h g =
       let e : k - i ≡ k - (i + 1) + 1 = omega arith in
       let n : leading (k - i) (fields_from s next) ≡ 0 = rw e (leading_other (k - (i + 1)) (fields_from s next) g) in
       let m : leading k (fields_from s at) ≡ i = omega (arith, n, p.lead) in
-      (omega arith, puts m)
+      ((omega arith, stops _ m), puts m)
 
-  pub took_all : k ≤ i → ReadsNumbersAt s at k out₀ (Some next) out
+  pub took_all : k ≤ i → ReadsNumbersAt s at k out₀ (Ok next) out
   took_all h =
       let q : i ≡ k = omega (arith, p.count) in
       let z : k - i ≡ 0 = omega arith in
       let n : leading (k - i) (fields_from s next) ≡ 0 = rw z (leading_none (fields_from s next)) in
       let m : leading k (fields_from s at) ≡ i = omega (arith, n, p.lead) in
-      (record { good = m ∙ q; left = p.left ∙ ap (λ (j : ℕ). drop j (fields_from s at)) q; stands = λ y. p.stands (omega arith); high = λ y. p.high (omega arith) }, puts m)
+      ((m ∙ q, stops _ (sym q)), puts m)
 
 -- all fields that are left are k numbers
 eqb_suc : (a b : ℕ) → eqb (suc a) (suc b) ≡ eqb a b

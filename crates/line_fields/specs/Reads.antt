@@ -1,5 +1,5 @@
 -- Bridge: what is read at a position of a line; tied to `fields_of` by proofs/Laws.
-use Rattle.std.specs.Prelude.{ℕ, zero, suc, ◌+◌, ◌-◌, ◌≤◌, ◌<◌, Bool, true, false, ◌&&◌, ◌||◌, not, List, [], ◌∷◌, ◌≡◌, Option, None, Some, length, get_or, take, drop, if◌then◌else◌}
+use Rattle.std.specs.Prelude.{ℕ, zero, suc, ◌+◌, ◌-◌, ◌≤◌, ◌<◌, Bool, true, false, ◌&&◌, ◌||◌, not, List, [], ◌∷◌, ◌≡◌, Option, None, Some, Result, Ok, Err, length, get_or, take, drop, if◌then◌else◌}
 use Rattle.words.specs.Text.{Bytes}
 use Rattle.line_fields.specs.declared.Field.{Field}
 use Rattle.line_fields.specs.declared.NumberAt.{NumberAt}
@@ -59,19 +59,18 @@ pub record PutsNumbers (s : Bytes) (at k : ℕ) (out out' : List ℕ) : Type 0 w
   pub rest : (i : ℕ) → leading k (fields_from s at) ≤ i → get_or out' i 0 ≡ get_or out i 0
   pub size : length out' ≡ length out
 
--- where the fields after k numbers begin
-pub record AfterNumbers (s : Bytes) (at k next : ℕ) : Type 0 where
-  pub good : leading k (fields_from s at) ≡ k
-  pub left : fields_from s next ≡ drop k (fields_from s at)
-  pub stands : k ≡ 0 → next ≡ at
-  pub high : 0 < k → next ≤ length s + 1
+-- where the fields after n fields begin
+pub record Stops (s : Bytes) (at n next : ℕ) : Type 0 where
+  pub left : fields_from s next ≡ drop n (fields_from s at)
+  pub stands : n ≡ 0 → next ≡ at
+  pub high : 0 < n → next ≤ length s + 1
 
--- whether the first k fields are numbers
-abbrev pub Reaches : Bytes → ℕ → ℕ → Option ℕ → Type 0
-Reaches s at k None = leading k (fields_from s at) < k
-Reaches s at k (Some next) = AfterNumbers s at k next
+-- whether the first k fields are numbers, and where the fields after them begin, or the first that is none
+abbrev pub Reaches : Bytes → ℕ → ℕ → Result ℕ ℕ → Type 0
+Reaches s at k (Ok next) = (leading k (fields_from s at) ≡ k) × Stops s at k next
+Reaches s at k (Err stop) = (leading k (fields_from s at) < k) × Stops s at (leading k (fields_from s at)) stop
 
-abbrev pub ReadsNumbersAt : Bytes → ℕ → ℕ → List ℕ → Option ℕ → List ℕ → Type 0
+abbrev pub ReadsNumbersAt : Bytes → ℕ → ℕ → List ℕ → Result ℕ ℕ → List ℕ → Type 0
 ReadsNumbersAt s at k out o out' = Reaches s at k o × PutsNumbers s at k out out'
 
 -- whether exactly k fields are left, each a number, and which

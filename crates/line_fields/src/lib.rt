@@ -92,17 +92,17 @@ pub fn number_at(line: &[u8], at: usize) -> Option<NumberAt>
 }
 
 // As many numbers as `out` has words, from a position on, put there up to the first field that is none. Where the field
-// after the last one begins.
-pub fn numbers_at(line: &[u8], at: usize, out: &mut [u64]) -> Option<usize>
+// after the last one begins, or, as an error, the one that is none.
+pub fn numbers_at(line: &[u8], at: usize, out: &mut [u64]) -> Result<usize, usize>
     ensures { ReadsNumbersAt line.now at (length out.old) out.old result out.new }
 {
     let mut next = at;
     for word in out.iter_mut() {
-        let number = number_at(line, next)?;
+        let number = number_at(line, next).ok_or(next)?;
         *word = number.value;
         next = number.next;
     }
-    Some(next)
+    Ok(next)
 }
 
 // The number or the empty field that begins at a position.

@@ -1,5 +1,5 @@
 -- Whether all fields that are left are numbers.
-use Rattle.std.specs.Prelude.{None, Some}
+use Rattle.std.specs.Prelude.{None, Ok, Err}
 use mathlib.Core.Path.{◌≡◌, sym, ap, ◌∙◌}
 use mathlib.Core.Bool.{Bool, true, false}
 use mathlib.Core.List.{List}
@@ -18,18 +18,18 @@ use Rattle.line_reader.specs.Takes.{moved_to}
 
 -- by what a reader of the line, begun at that position, took
 module _ (line : Bor (List ℕ)) (at k : ℕ) (h : LineReader) (e : h ≡ record { line = line; at = at }) (out out' : List ℕ) (n : ℕ) (q : n ≡ k) where
-  pub too_few : Reaches h.line.now h.at n None → ReadsNumbers line.now at k None
-  too_few l =
-      let m : leading k (fields_from line.now at) < k = rw (e, q) at l in
+  pub too_few : (stop : ℕ) → Reaches h.line.now h.at n (Err stop) → ReadsNumbers line.now at k None
+  too_few stop l =
+      let m : leading k (fields_from line.now at) < k = rw (e, q) at l.0 in
       numbers_exact k (fields_from line.now at) ∙ rw (ne_eqb (leading k (fields_from line.now at)) k (omega arith))
 
-  pub all_read : (r : LineReader) → ReadsNumbersAt h.line.now h.at n out (Some r.at) out' × (r ≡ moved_to h r.at) → (t : Bool) → t ≡ none_left (fields_from r.line.now r.at) → ReadsNumbers line.now at k (then_some t out')
+  pub all_read : (r : LineReader) → ReadsNumbersAt h.line.now h.at n out (Ok r.at) out' × (r ≡ moved_to h r.at) → (t : Bool) → t ≡ none_left (fields_from r.line.now r.at) → ReadsNumbers line.now at k (then_some t out')
   all_read r a t f =
-      let p : ReadsNumbersAt line.now at k out (Some r.at) out' = rw (e, q) at a.0 in
+      let p : ReadsNumbersAt line.now at k out (Ok r.at) out' = rw (e, q) at a.0 in
       let w : r.line.now ≡ line.now = ap (λ (x : LineReader). x.line.now) a.1 ∙ ap (λ (x : LineReader). x.line.now) e in
-      let m : numbers k (fields_from line.now at) ≡ none_left (fields_from line.now r.at) = numbers_exact k (fields_from line.now at) ∙ rw (eq-eqb (leading k (fields_from line.now at)) k p.0.good, p.0.left) in
+      let m : numbers k (fields_from line.now at) ≡ none_left (fields_from line.now r.at) = numbers_exact k (fields_from line.now at) ∙ rw (eq-eqb (leading k (fields_from line.now at)) k p.0.0, p.0.1.left) in
       go t (m ∙ ap (λ (x : Bytes). none_left (fields_from x r.at)) (sym w) ∙ sym f) p
     where
-      go : (t : Bool) → numbers k (fields_from line.now at) ≡ t → ReadsNumbersAt line.now at k out (Some r.at) out' → ReadsNumbers line.now at k (then_some t out')
-      go true m p = (m, λ i l. p.1.values i (omega (arith, p.0.good)))
+      go : (t : Bool) → numbers k (fields_from line.now at) ≡ t → ReadsNumbersAt line.now at k out (Ok r.at) out' → ReadsNumbers line.now at k (then_some t out')
+      go true m p = (m, λ i l. p.1.values i (omega (arith, p.0.0)))
       go false m p = m

@@ -1,5 +1,5 @@
 -- Trusted: document 01, "The line reader keeps its line and its position": what a reader leaves.
-use Rattle.std.specs.Prelude.{ℕ, ◌≡◌, List, Option, None, Some, length}
+use Rattle.std.specs.Prelude.{ℕ, ◌≡◌, List, Option, None, Some, Ok, Err, length}
 use Rattle.line_fields.specs.declared.Field.{Field}
 use Rattle.line_fields.specs.Reads.{ReadsField, ReadsNumberAt, ReadsNumbersAt, ReadsOptionalAt}
 use Rattle.line_reader.specs.declared.LineReader.{LineReader}
@@ -8,7 +8,8 @@ use Rattle.line_reader.specs.declared.LineReader.{LineReader}
 abbrev pub moved_to : LineReader → ℕ → LineReader
 moved_to r n = record { line = r.line; at = n }
 
--- what is read at the reader's position, and the reader then: at the field after it; a read that fails leaves it
+-- what is read at the reader's position, and the reader then: at the field after it, or, where it is no field of that
+-- kind, still at it
 abbrev pub TakesField : LineReader → Field → LineReader → Type 0
 TakesField r f r' = ReadsField r.line.now r.at f × (r' ≡ moved_to r f.next)
 
@@ -20,7 +21,8 @@ abbrev pub TakesOptional : LineReader → Option (Option ℕ) → LineReader →
 TakesOptional r None r' = ReadsOptionalAt r.line.now r.at None × (r' ≡ r)
 TakesOptional r (Some o) r' = ReadsOptionalAt r.line.now r.at (Some (record { value = o; next = r'.at })) × (r' ≡ moved_to r r'.at)
 
--- as many numbers as `out` has words
+-- as many numbers as `out` has words, and the reader then: at the field after the last of them, or at the first that is
+-- none
 abbrev pub TakesNumbers : LineReader → List ℕ → Option (Unit {0}) → LineReader → List ℕ → Type 0
-TakesNumbers r out None r' out' = ReadsNumbersAt r.line.now r.at (length out) out None out' × (r' ≡ r)
-TakesNumbers r out (Some u) r' out' = ReadsNumbersAt r.line.now r.at (length out) out (Some r'.at) out' × (r' ≡ moved_to r r'.at)
+TakesNumbers r out None r' out' = ReadsNumbersAt r.line.now r.at (length out) out (Err r'.at) out' × (r' ≡ moved_to r r'.at)
+TakesNumbers r out (Some u) r' out' = ReadsNumbersAt r.line.now r.at (length out) out (Ok r'.at) out' × (r' ≡ moved_to r r'.at)

@@ -55,13 +55,21 @@ impl<'a> LineReader<'a> {
         Some(optional.value)
     }
 
-    // As many numbers as `out` has words, if the first fields that are left are so many numbers. The reader then moves on
-    // past them.
+    // As many numbers as `out` has words, if the first fields that are left are so many numbers. The reader moves on past
+    // those that are, and stands at the first that is none.
     pub fn next_numbers(&mut self, out: &mut [u64]) -> Option<()>
         ensures { TakesNumbers self.old out.old result self.new out.new }
     {
-        self.at = line_fields::numbers_at(self.line, self.at, out)?;
-        Some(())
+        match line_fields::numbers_at(self.line, self.at, out) {
+            Ok(next) => {
+                self.at = next;
+                Some(())
+            }
+            Err(stop) => {
+                self.at = stop;
+                None
+            }
+        }
     }
 }
 

@@ -5,7 +5,7 @@ use Rattle.line_reader.proofs.numbers.Goals as goal
 
 pub returns-in_err-next_numbers : goal.returns-in_err-next_numbers
 returns-in_err-next_numbers g c =
-    rw c.from_residual.ensures (law.too_few _ _ _ _ c.new-reader.ensures [] [] _ (length-replicate _ _) c.in_err-next_numbers.ensures.0.0)
+    rw c.from_residual.ensures (law.too_few _ _ _ _ c.new-reader.ensures [] [] _ (length-replicate _ _) _ c.in_err-next_numbers.ensures.0.0)
 
 pub returns : goal.returns
 returns g c = rw c.then_some.ensures (law.all_read _ _ _ _ c.new-reader.ensures _ _ _ (length-replicate _ _) _ c.in_ok-next_numbers.ensures _ c.is_ended.ensures)
