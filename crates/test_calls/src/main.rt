@@ -8,6 +8,7 @@ use ids::{Refusal, Slot};
 use line_buffers::{
     GROUP_WORDS, ITEM_PLACES, ITEM_WORDS, LINE_BYTES, TEXT_BYTES, blank, read_full,
 };
+use line_fields::NumberAt;
 use line_host::Host;
 use line_kind::{CallKind, EditKind, Kind};
 use node::{Node, Taken};
@@ -181,20 +182,20 @@ fn jumped(from: State, bar: Slot) -> State {
     }
 }
 
+// The number that begins at a position; where there is none it is 0, and the position stands.
+fn number_or_0(line: &[u8], at: usize) -> NumberAt {
+    line_fields::number_at(line, at).unwrap_or(NumberAt { value: 0, next: at })
+}
+
 // A line that has no answer: `lend`, `draft`, `jump`, or the name of a script.
 fn prepare(from: State, line: &[u8]) -> State {
     let name = line_fields::field_at(line, 0);
-    let Some(a) = line_fields::number_at(line, name.next) else {
-        return from;
-    };
+    let a = number_or_0(line, name.next);
     match line.first() {
-        Some(b'l') => match line_fields::number_at(line, a.next) {
-            Some(b) => State {
-                words: a.value as usize,
-                rows: b.value as usize,
-                ..from
-            },
-            None => from,
+        Some(b'l') => State {
+            words: a.value as usize,
+            rows: number_or_0(line, a.next).value as usize,
+            ..from
         },
         Some(b'd') => drafted(from, a.value),
         Some(b'j') => jumped(from, Slot(a.value)),
