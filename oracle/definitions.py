@@ -20,7 +20,7 @@ PER_FILE = 60
 
 HEAD = """use Rattle.std.specs.Prelude.{◌≡◌, ℕ, true, false, List, [], ◌∷◌, map}
 use Rattle.std.proofs.Common.{refl}
-use Rattle.std.proofs.Math.Option.{none, some}
+use Rattle.std.specs.Prelude.{None, Some}
 use Rattle.items.specs.Item.{Item, Value, Absent, Store, Pass, Hold, Retry, Resend, Commit, Lead, Prelog, Prepare}
 use Rattle.roster_conf.specs.Conf.{empty, set_leader, set_full, into_filtered, reset_full}
 use Rattle.roster_conf.specs.Edit.{edit, SetResponders}
@@ -70,7 +70,7 @@ def numbers(fields):
 def item(text):
     f = text.split(",")
     if f[0] == "retry":
-        return f"Retry {f[1]} {f[2]} " + ("none" if f[3] == "-" else f"(some {f[3]})")
+        return f"Retry {f[1]} {f[2]} " + ("None" if f[3] == "-" else f"(Some {f[3]})")
     if f[0] == "lead":
         return "Lead " + ("true" if f[1] == "1" else "false")
     return f"{f[0].capitalize()} {numbers(f[1:])}"
@@ -98,7 +98,7 @@ def request(g):
 def call(f, roster):
     kind = f[0]
     if kind == "heard":
-        brought = f"(some ({roster}))" if int(f[3]) == 1 else "none"
+        brought = f"(Some ({roster}))" if int(f[3]) == 1 else "None"
         return f"Heartbeat {numbers(f[1:3])} {brought} {numbers(f[4:])}"
     if kind == "record":
         groups = [request(f[i : i + 4]) for i in range(3, len(f), 4)]
