@@ -1,5 +1,5 @@
 -- The slots from the k-th on, as a loop comes to them one by one.
-use mathlib.Core.Path.{◌≡◌, refl, ap, ◌∙◌}
+use mathlib.Core.Path.{◌≡◌, refl, sym, ap, ◌∙◌}
 use mathlib.Core.List.{List, [], ◌∷◌, ◌++◌}
 use Prim.Native.Nat.{ℕ, suc, ◌+◌, ◌-◌, ◌%◌, ◌≤◌, ◌<◌}
 use native.Mathlib.Nat.{zero-add}
@@ -10,6 +10,10 @@ use Rattle.layout.specs.Layout.{slot_places}
 use Rattle.bodega.specs.Replica as machine
 use Rattle.inst_cell.specs.Cell.{Short}
 use Rattle.insts.specs.Slots.{short_at, batch_at, reads_at, inst_in, insts_of, Puts}
+use Rattle.std.specs.Prelude.{Option, None, Some, Bool, true, false, ◌||◌, cond}
+use Rattle.std.specs.List.{position_from}
+use Rattle.std.specs.Option.{is_some}
+use Rattle.bodega.specs.Grounds.{any}
 use Rattle.insts.proofs.Laws.{there_is, apart, place}
 
 -- those from the k-th of n on
@@ -48,3 +52,27 @@ rest_after {s = s} {t = t} start n k p h g =
 -- no change at all
 pub puts_same : (s : List ℕ) (c : ℕ) → Puts s c (short_at s c) (batch_at s c) (reads_at s c) s
 puts_same s c = record { short = refl; batch = refl; held = refl; others = λ d g f. record { short = refl; batch = refl; reads = refl }; size = refl }
+
+-- ---- the first that passes
+
+any_from : {A : Type 0} (f : A → Bool) (k : ℕ) (l : List A) → is_some (position_from f k l) ≡ any f l
+any_from f k [] = refl
+any_from f k (x ∷ l) = go (f x) (any_from f (k + 1) l)
+  where
+    go : (b : Bool) → is_some (position_from f (k + 1) l) ≡ any f l → is_some (cond b (Some k) (position_from f (k + 1) l)) ≡ b || any f l
+    go true e = refl
+    go false e = e
+
+pub any_is : {A : Type 0} (f : A → Bool) (l : List A) (r : Option ℕ) → r ≡ position_from f 0 l → is_some r ≡ any f l
+any_is f l r e = ap is_some e ∙ any_from f 0 l
+
+module _ (f : machine.Instance → Bool) (start n : ℕ) (s : List ℕ) where
+  pub found_none : (k : ℕ) → n ≤ k → position_from f k (rest_of start n k s) ≡ None
+  found_none k h = rw (rest_none start n k s h)
+
+  module _ (k : ℕ) (h : k < n) (t : Bool) (e : t ≡ f (inst_in s ((start + k) % slot_places))) where
+    pub found_here : t ≡ true → position_from f k (rest_of start n k s) ≡ Some k
+    found_here g = rw (rest_more start n k s h, sym e ∙ g)
+
+    pub found_next : t ≡ false → position_from f k (rest_of start n k s) ≡ position_from f (k + 1) (rest_of start n (k + 1) s)
+    found_next g = rw (rest_more start n k s h, sym e ∙ g)

@@ -11,6 +11,10 @@ use Rattle.inst_cell.specs.Cell.{Notices, Short, cell_at}
 use Rattle.inst_reqs.specs.Batch.{requests_of}
 use Rattle.inst_holding.specs.Held.{reads_of}
 
+-- the place of a slot
+abbrev pub place_of : ℕ → ℕ
+place_of slot = slot % slot_places
+
 -- where the batch and the held reads of place c stand
 abbrev pub batch_start : ℕ → ℕ
 batch_start c = batches_from + c * batch_words
@@ -65,3 +69,13 @@ pub record Puts (s : List ℕ) (c : ℕ) (x : Short) (reqs : List machine.Reques
   pub held : reads_at t c ≡ reads
   pub others : (d : ℕ) → d < slot_places → d ≢ c → SamePlace s t d
   pub size : length t ≡ length s
+
+-- one of the three is changed
+abbrev pub PutsShort : List ℕ → ℕ → Short → List ℕ → Type 0
+PutsShort s c x t = Puts s c x (batch_at s c) (reads_at s c) t
+
+abbrev pub PutsBatch : List ℕ → ℕ → List machine.Request → List ℕ → Type 0
+PutsBatch s c reqs t = Puts s c (short_at s c) reqs (reads_at s c) t
+
+abbrev pub PutsReads : List ℕ → ℕ → List machine.ReadReq → List ℕ → Type 0
+PutsReads s c reads t = Puts s c (short_at s c) (batch_at s c) reads t

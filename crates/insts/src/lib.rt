@@ -1,177 +1,255 @@
 // The slots that a replica holds, in lent words: cells, batches and held reads. Slot s has place s % PLACES.
 #![tactic(auto)]
 
-ghost use Rattle.std.specs.Prelude.{◌≡◌, [], ◌∷◌, ◌++◌, ◌-◌, ◌≤◌, ◌<◌, length, replicate};
+ghost use Rattle.std.specs.Prelude.{◌≡◌, Bool, [], ◌∷◌, ◌++◌, ◌+◌, ◌-◌, ◌%◌, ◌≤◌, ◌<◌, length, replicate};
+ghost use Rattle.std.specs.List.{position_from};
 ghost use Rattle.bodega.specs.Replica.{null_instance, Instance, is_open};
 ghost use Rattle.bodega.specs.Localread.{last_put};
-ghost use Rattle.ids.specs.Limits.{top};
-ghost use Rattle.layout.specs.Layout.{batch_words, held_places, slot_places, slot_words};
-ghost use Rattle.key_words.specs.Key.{bytes_of};
-ghost use Rattle.inst_cell.specs.Cell.{cell_of, status_of, with_status};
-ghost use Rattle.inst_reqs.specs.Batch.{requests_of};
-ghost use Rattle.inst_holding.specs.Held.{read_of};
-ghost use Rattle.insts.specs.Slots.{batch_start, reads_start, short_at, batch_at, reads_at, seen_reads, insts_of, null_short, Puts, inst_in};
 ghost use Rattle.bodega.specs.Grounds.{any, holds};
+ghost use Rattle.ids.specs.Limits.{top};
+ghost use Rattle.layout.specs.Layout.{batch_words, held_words, held_places, slot_places, slot_words};
+ghost use Rattle.key_words.specs.Key.{bytes_of};
+ghost use Rattle.inst_cell.specs.Cell.{cell_of, status_of, with_status, has_book};
+ghost use Rattle.inst_reqs.specs.Batch.{requests_of};
+ghost use Rattle.inst_holding.specs.Held.{reads_of, read_of};
+ghost use Rattle.insts.specs.Slots.{short_at, batch_at, reads_at, seen_reads, insts_of, null_short, Puts, PutsShort, PutsBatch, PutsReads, inst_in, batch_start, reads_start, place_of};
 
 use ids::{Ballot, Slot};
 use inst_cell::{Cell, Status};
 use inst_holding::ReadReq;
 use key_words::Key;
 
+// Which slots are held: `held` of them from `start` on.
+#[derive(Clone, Copy)]
+pub struct Window {
+    pub start: Slot,
+    pub held: usize,
+    ghost low: { start.0 ≤ top },
+    ghost few: { held ≤ slot_places },
+}
+
+impl Window {
+    // The k-th slot.
+    pub fn slot(self, k: usize) -> Slot
+        requires { k ≤ slot_places }
+        ensures { result.0 ≡ self.start.0 + k }
+    {
+        Slot(self.start.0 + k as u64)
+    }
+}
+
+// The slots' words, lent to be read.
+#[derive(Clone, Copy)]
+pub struct Insts<'a> {
+    pub words: &'a [u64],
+    ghost whole: { slot_words ≤ length words.now },
+}
+
+// The slots' words, lent to be changed.
+#[derive(Drop)]
+pub struct InstsMut<'a> {
+    pub words: &'a mut [u64],
+    ghost whole: { slot_words ≤ length words.now },
+}
+
+fn place(slot: Slot) -> usize
+    ensures { (result ≡ place_of slot.0) × (result < slot_places) }
+{
+    (slot.0 % layout::PLACES) as usize
+}
+
 // Where the batch and the held reads of place c stand.
-pub fn batch_at(c: usize) -> usize
+fn batch_at(c: usize) -> usize
     requires { c < slot_places }
     ensures { result ≡ batch_start c }
 {
     layout::BATCHES_FROM + c * layout::BATCH_WORDS
 }
 
-pub fn reads_at(c: usize) -> usize
+fn reads_at(c: usize) -> usize
     requires { c < slot_places }
     ensures { result ≡ reads_start c }
 {
     layout::READS_FROM + c * layout::HELD_WORDS
 }
 
-// The short part of the slot at place c.
-#[tactic(auto, unfolding(crate::specs::Slots::short_at))]
-pub fn load(s: &[u64], c: usize) -> Cell
-    requires { (c < slot_places) × (slot_words ≤ length s.now) }
-    ensures { cell_of result ≡ short_at s.now c }
-{
-    inst_cell::load(s, c)
-}
+impl<'a> Insts<'a> {
+    // The short part of a slot.
+    #[tactic(auto, unfolding(crate::specs::Slots::short_at))]
+    pub fn load(self, slot: Slot) -> Cell
+        ensures { cell_of result ≡ short_at self.entry.words.now (place_of slot.0) }
+    {
+        inst_cell::load(self.words, place(slot))
+    }
 
-pub fn store(s: &mut [u64], c: usize, cell: Cell)
-    requires { (c < slot_places) × (slot_words ≤ length s.old) }
-    ensures { Puts s.old c (cell_of cell) (batch_at s.old c) (reads_at s.old c) s.new }
-{
-    inst_cell::store(s, c, cell);
-}
+    // A slot's batch, as words of crate inst_reqs.
+    pub fn batch(self, slot: Slot) -> &'a [u64]
+        ensures { (requests_of result.now ≡ batch_at self.entry.words.now (place_of slot.0)) × (length result.now ≡ batch_words) }
+    {
+        let a = batch_at(place(slot));
+        &self.words[a..a + layout::BATCH_WORDS]
+    }
 
-// The batch, as words of crate inst_reqs.
-pub fn put_batch(s: &mut [u64], c: usize, words: &[u64])
-    requires { (c < slot_places) × (slot_words ≤ length s.old) × (length words.now ≡ batch_words) }
-    ensures { Puts s.old c (short_at s.old c) (requests_of words.now) (reads_at s.old c) s.new }
-{
-    let a = batch_at(c);
-    s[a..a + layout::BATCH_WORDS].copy_from_slice(words);
-}
+    // The reads that a slot holds, as words of crate inst_holding.
+    pub fn reads(self, slot: Slot) -> &'a [u64]
+        ensures { (reads_of result.now ≡ reads_at self.entry.words.now (place_of slot.0)) × (length result.now ≡ held_words) }
+    {
+        let a = reads_at(place(slot));
+        &self.words[a..a + layout::HELD_WORDS]
+    }
 
-pub fn clear_batch(s: &mut [u64], c: usize)
-    requires { (c < slot_places) × (slot_words ≤ length s.old) }
-    ensures { Puts s.old c (short_at s.old c) [] (reads_at s.old c) s.new }
-{
-    let a = batch_at(c);
-    inst_reqs::clear(&mut s[a..a + layout::BATCH_WORDS]);
-}
+    pub fn count_reads(self, slot: Slot) -> usize
+        ensures { (result ≡ length (reads_at self.entry.words.now (place_of slot.0))) × (result ≤ held_places) }
+    {
+        inst_holding::count(self.reads(slot))
+    }
 
-pub fn clear_reads(s: &mut [u64], c: usize)
-    requires { (c < slot_places) × (slot_words ≤ length s.old) }
-    ensures { Puts s.old c (short_at s.old c) (batch_at s.old c) [] s.new }
-{
-    let a = reads_at(c);
-    inst_holding::clear(&mut s[a..a + layout::HELD_WORDS]);
-}
+    // The value of the last Put of a key in a slot's batch.
+    pub fn last_put(self, slot: Slot, key: Key) -> Option<u64>
+        ensures { result ≡ last_put (bytes_of key) (batch_at self.entry.words.now (place_of slot.0)) }
+    {
+        inst_reqs::last_put(self.batch(slot), key)
+    }
 
-// No reads wait where there is no notice book.
-pub fn clear_unseen(s: &mut [u64], c: usize)
-    requires { (c < slot_places) × (slot_words ≤ length s.old) }
-    ensures { Puts s.old c (short_at s.old c) (batch_at s.old c) (seen_reads (short_at s.old c).replica_bk (reads_at s.old c)) s.new }
-{
-    if !inst_cell::has_book(s, c) {
-        clear_reads(s, c);
+    // `status < Committed`.
+    #[tactic(auto, unfolding(crate::specs::Slots::short_at, crate::specs::Slots::inst_in))]
+    pub fn is_open(self, slot: Slot) -> bool
+        ensures { result ≡ is_open (inst_in self.entry.words.now (place_of slot.0)).status }
+    {
+        inst_cell::is_open(self.words, place(slot))
+    }
+
+    #[tactic(auto, unfolding(crate::specs::Slots::short_at))]
+    fn has_book(self, slot: Slot) -> bool
+        ensures { result ≡ has_book (short_at self.entry.words.now (place_of slot.0)) }
+    {
+        inst_cell::has_book(self.words, place(slot))
+    }
+
+    // Whether reads wait in the slot's notice book.
+    #[tactic(auto, using(crate::proofs::Laws::reads_wait, crate::proofs::Laws::no_book))]
+    pub fn holds_reads(self, slot: Slot) -> bool
+        ensures { result ≡ holds (inst_in self.entry.words.now (place_of slot.0)) }
+    {
+        self.has_book(slot) && 0 < self.count_reads(slot)
+    }
+
+    // The number of the window's first slot that passes.
+    pub fn position<F: Fn(Slot) -> bool>(self, window: Window, passes: F) -> Option<usize>
+        ghost test: { Instance → Bool }
+        requires { F.IsAlwaysCallable passes × ((slot : Slot) (b : Bool) → F.post passes slot b → b ≡ test (inst_in self.words.now (place_of slot.0))) }
+        ensures { result ≡ position_from test 0 (insts_of window.start.0 window.held self.entry.words.now) }
+    {
+        for k in 0..window.held {
+            if passes(window.slot(k)) {
+                return Some(k);
+            }
+        }
+        None
+    }
+
+    // Whether a slot of the window is below Committed.
+    #[tactic(auto, using(crate::proofs::Rest::any_is))]
+    pub fn any_open(self, window: Window) -> bool
+        ensures { result ≡ any (λ (i : Instance). is_open i.status) (insts_of window.start.0 window.held self.entry.words.now) }
+    {
+        self.position(window, |slot| self.is_open(slot)).is_some()
+    }
+
+    // Whether a slot of the window holds reads.
+    #[tactic(auto, using(crate::proofs::Rest::any_is))]
+    pub fn any_holds(self, window: Window) -> bool
+        ensures { result ≡ any holds (insts_of window.start.0 window.held self.entry.words.now) }
+    {
+        self.position(window, |slot| self.holds_reads(slot)).is_some()
     }
 }
 
-// How many reads the slot at place c holds.
-#[tactic(auto, using(crate::proofs::Laws::reads_counted))]
-pub fn count_reads(s: &[u64], c: usize) -> usize
-    requires { (c < slot_places) × (slot_words ≤ length s.now) }
-    ensures { (result ≡ length (reads_at s.now c)) × (result ≤ held_places) }
-{
-    let a = reads_at(c);
-    inst_holding::count(&s[a..a + layout::HELD_WORDS])
-}
-
-// A read after the others that the slot at place c holds.
-pub fn push_read(s: &mut [u64], c: usize, x: ReadReq)
-    requires { (c < slot_places) × (slot_words ≤ length s.old) × (length (reads_at s.old c) < held_places) }
-    ensures { Puts s.old c (short_at s.old c) (batch_at s.old c) (reads_at s.old c ++ (read_of x ∷ [])) s.new }
-{
-    let a = reads_at(c);
-    inst_holding::push(&mut s[a..a + layout::HELD_WORDS], x);
-}
-
-// The value of the last Put of a key in the batch at place c.
-#[tactic(auto, using(crate::proofs::Laws::last_put_at))]
-pub fn last_put(s: &[u64], c: usize, key: Key) -> Option<u64>
-    requires { (c < slot_places) × (slot_words ≤ length s.now) }
-    ensures { result ≡ last_put (bytes_of key) (batch_at s.now c) }
-{
-    let a = batch_at(c);
-    inst_reqs::last_put(&s[a..a + layout::BATCH_WORDS], key)
-}
-
-// A null slot at place c; the reads held there are not seen without a notice book.
-#[tactic(auto, using(crate::proofs::Laws::batch_after))]
-fn null_slot(s: &mut [u64], c: usize)
-    requires { (c < slot_places) × (slot_words ≤ length s.old) }
-    ensures { Puts s.old c null_short [] (reads_at s.old c) s.new }
-{
-    let cell = Cell {
-        bal: Ballot(0),
-        status: Status::Null,
-        leader_bk: None,
-        replica_bk: None,
-    };
-    store(s, c, cell);
-    clear_batch(s, c);
-}
-
-// Null slots after the n that are held, so that there are `to`.
-pub fn pad(s: &mut [u64], start: Slot, n: usize, to: usize)
-    requires { (start.0 ≤ top) × (n ≤ to) × (to ≤ slot_places) × (slot_words ≤ length s.old) }
-    ensures { (insts_of start.0 to s.new ≡ insts_of start.0 n s.old ++ replicate (to - n) null_instance) × (length s.new ≡ length s.old) }
-{
-    for i in n..to {
-        null_slot(s, ((start.0 + i as u64) % layout::PLACES) as usize);
-    }
-}
-
-// `status < Committed`.
-#[tactic(auto, unfolding(crate::specs::Slots::short_at, crate::specs::Slots::inst_in))]
-pub fn is_open(s: &[u64], c: usize) -> bool
-    requires { (c < slot_places) × (slot_words ≤ length s.now) }
-    ensures { result ≡ is_open (inst_in s.now c).status }
-{
-    inst_cell::is_open(s, c)
-}
-
-// Whether reads wait in the slot's notice book.
-pub fn holds_reads(s: &[u64], c: usize) -> bool
-    requires { (c < slot_places) × (slot_words ≤ length s.now) }
-    ensures { result ≡ holds (inst_in s.now c) }
-{
-    inst_cell::has_book(s, c) && 0 < count_reads(s, c)
-}
-
-pub fn set_status(s: &mut [u64], c: usize, status: Status)
-    requires { (c < slot_places) × (slot_words ≤ length s.old) }
-    ensures { Puts s.old c (with_status (status_of status) (short_at s.old c)) (batch_at s.old c) (reads_at s.old c) s.new }
-{
-    inst_cell::set_status(s, c, status);
-}
-
-// Whether one of n slots from start on is below Committed.
-pub fn any_open(s: &[u64], start: Slot, n: usize) -> bool
-    requires { (start.0 ≤ top) × (n ≤ slot_places) × (slot_words ≤ length s.now) }
-    ensures { result ≡ any (λ (i : Instance). is_open i.status) (insts_of start.0 n s.now) }
-{
-    for i in 0..n {
-        if is_open(s, ((start.0 + i as u64) % layout::PLACES) as usize) {
-            return true;
+impl<'a> InstsMut<'a> {
+    pub fn as_ref(&self) -> Insts<'_>
+        ensures { result.words.now ≡ self.now.words.now }
+    {
+        Insts {
+            words: &*self.words,
         }
     }
-    false
+
+    pub fn store(&mut self, slot: Slot, cell: Cell)
+        ensures { PutsShort self.old.words.now (place_of slot.0) (cell_of cell) self.new.words.now }
+    {
+        inst_cell::store(self.words, place(slot), cell);
+    }
+
+    // The batch, as words of crate inst_reqs.
+    pub fn put_batch(&mut self, slot: Slot, words: &[u64])
+        requires { length words.now ≡ batch_words }
+        ensures { PutsBatch self.old.words.now (place_of slot.0) (requests_of words.now) self.new.words.now }
+    {
+        let a = batch_at(place(slot));
+        self.words[a..a + layout::BATCH_WORDS].copy_from_slice(words);
+    }
+
+    fn clear_batch(&mut self, slot: Slot)
+        ensures { PutsBatch self.old.words.now (place_of slot.0) [] self.new.words.now }
+    {
+        let a = batch_at(place(slot));
+        inst_reqs::clear(&mut self.words[a..a + layout::BATCH_WORDS]);
+    }
+
+    pub fn clear_reads(&mut self, slot: Slot)
+        ensures { PutsReads self.old.words.now (place_of slot.0) [] self.new.words.now }
+    {
+        let a = reads_at(place(slot));
+        inst_holding::clear(&mut self.words[a..a + layout::HELD_WORDS]);
+    }
+
+    // No reads wait where there is no notice book.
+    #[tactic(auto, using(crate::proofs::Laws::book_missing, crate::proofs::Laws::book_there))]
+    pub fn clear_unseen(&mut self, slot: Slot)
+        ensures { PutsReads self.old.words.now (place_of slot.0) (seen_reads (short_at self.old.words.now (place_of slot.0)).replica_bk (reads_at self.old.words.now (place_of slot.0))) self.new.words.now }
+    {
+        if !self.as_ref().has_book(slot) {
+            self.clear_reads(slot);
+        }
+    }
+
+    // A read after the others that a slot holds.
+    pub fn push_read(&mut self, slot: Slot, x: ReadReq)
+        requires { length (reads_at self.old.words.now (place_of slot.0)) < held_places }
+        ensures { PutsReads self.old.words.now (place_of slot.0) (reads_at self.old.words.now (place_of slot.0) ++ (read_of x ∷ [])) self.new.words.now }
+    {
+        let a = reads_at(place(slot));
+        inst_holding::push(&mut self.words[a..a + layout::HELD_WORDS], x);
+    }
+
+    // A null slot; the reads held there are not seen without a notice book.
+    #[tactic(auto, using(crate::proofs::Laws::batch_after))]
+    fn null_slot(&mut self, slot: Slot)
+        ensures { Puts self.old.words.now (place_of slot.0) null_short [] (reads_at self.old.words.now (place_of slot.0)) self.new.words.now }
+    {
+        let cell = Cell {
+            bal: Ballot(0),
+            status: Status::Null,
+            leader_bk: None,
+            replica_bk: None,
+        };
+        self.store(slot, cell);
+        self.clear_batch(slot);
+    }
+
+    // Null slots after those of the window, so that there are `to`.
+    pub fn pad(&mut self, window: Window, to: usize)
+        requires { (window.held ≤ to) × (to ≤ slot_places) }
+        ensures { (insts_of window.start.0 to self.new.words.now ≡ insts_of window.start.0 window.held self.old.words.now ++ replicate (to - window.held) null_instance) × (length self.new.words.now ≡ length self.old.words.now) }
+    {
+        for k in window.held..to {
+            self.null_slot(window.slot(k));
+        }
+    }
+
+    pub fn set_status(&mut self, slot: Slot, status: Status)
+        ensures { PutsShort self.old.words.now (place_of slot.0) (with_status (status_of status) (short_at self.old.words.now (place_of slot.0))) self.new.words.now }
+    {
+        inst_cell::set_status(self.words, place(slot), status);
+    }
 }

@@ -1,7 +1,7 @@
 // The items of a call, in a lent answer area: six words each, the kind first.
 #![tactic(auto)]
 
-ghost use Rattle.std.specs.Prelude.{◌≡◌, ◌*◌, ◌+◌, ◌%◌, ◌≤◌, length, option_map, slice_index};
+ghost use Rattle.std.specs.Prelude.{◌≡◌, ◌*◌, ◌+◌, ◌%◌, ◌≤◌, length, option_map, slice_index, if◌then◌else◌};
 ghost use Rattle.items.specs.Item.{item_of, item_words};
 ghost use Rattle.items.specs.Area.{Put, put_item, item_at, named, decode};
 ghost use Rattle.words.specs.Tab.{words_from};
@@ -191,6 +191,29 @@ pub fn put_item(area: &mut [u64], place: usize, item: Item) -> bool
     }
     area[place * 6..place * 6 + 6].copy_from_slice(&words_of(item));
     true
+}
+
+// Items put into a lent area one after the other, from its first place on or after those that stand there.
+#[derive(Drop)]
+pub struct Items<'a> {
+    pub area: &'a mut [u64],
+    // Places that are taken.
+    pub count: usize,
+}
+
+impl<'a> Items<'a> {
+    // False, and nothing changed, where no place is left.
+    #[tactic(auto, unfolding(crate::specs::Area::put_item))]
+    pub fn push(&mut self, item: Item) -> bool
+        ensures put { ◌≡◌ {A = Put} (record { taken = result; area = self.new.area.now }) (put_item self.old.area.now self.old.count (item_of item)) }
+        ensures counted { self.new.count ≡ self.old.count + (if result then 1 else 0) }
+    {
+        let taken = put_item(self.area, self.count, item);
+        if taken {
+            self.count += 1;
+        }
+        taken
+    }
 }
 
 // Nothing where the area has no such place, or its words are no item's.

@@ -1,0 +1,5 @@
+use Rattle.bodega.specs.Replica.{Instance, is_open}
+use Rattle.insts.proofs.Insts.any_open.Given as goal
+
+abbrev pub ghost-position : goal.ghost-position
+ghost-position a = λ (i : Instance). is_open i.status

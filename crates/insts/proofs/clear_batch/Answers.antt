@@ -1,5 +1,0 @@
-use Rattle.insts.proofs.Laws as law
-use Rattle.insts.proofs.clear_batch.Goals as goal
-
-pub returns : goal.returns
-returns c = let a = c.args in law.batch_cleared a.s.now a.c c.requires.1 c.requires.0 _ c.batch_at-a.ensures _ c.clear.ensures
