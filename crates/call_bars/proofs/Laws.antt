@@ -16,13 +16,13 @@ use Rattle.ids.specs.declared.Refusal.{Refusal}
 use Rattle.ids.specs.Refusal.{number_of}
 use Rattle.ids.specs.declared.Slot.{Slot}
 use Rattle.inst_cell.specs.Cell.{with_status as short_with}
-use Rattle.bodega.specs.Replica.{Instance, Bars, Executed, is_open, with_status, with_insts}
+use Rattle.bodega.specs.Replica.{Instance, Bars, Executed, with_status, with_insts}
 use Rattle.bodega.specs.Events.{executed, bars}
-use Rattle.bodega.specs.Grounds.{any, far, holds, grounds}
+use Rattle.bodega.specs.Grounds.{far, grounds}
 use Rattle.bodega.specs.Step.{effect}
 use Rattle.bodega.specs.Answers.{Answers}
 use Rattle.insts.specs.Slots.{short_at, batch_at, reads_at, inst_in, insts_of, Puts}
-use Rattle.insts.proofs.Laws.{moved, dropped, first, inst_at_lem, length_insts}
+use Rattle.insts.proofs.Laws.{moved, dropped, inst_at_lem, length_insts}
 use Rattle.node.specs.declared.Node.{Node}
 use Rattle.node.specs.declared.Taken.{Taken}
 use Rattle.node.specs.View.{view, ready, given_of}
@@ -30,7 +30,7 @@ use Rattle.words.proofs.Tests.{and_both, or_both}
 use Rattle.layout.specs.Layout.{slot_places, slot_words, slots_at, node_words}
 use Rattle.node.proofs.Calls.{Ready, is_ready, made_ready, refused_by, taken_by, none_applies}
 use Rattle.node.proofs.Frames.{slots_back, slots_size, slots_beyond}
-use Rattle.call_bars.specs.Moves.{lowered, in_order, open_below, holds_below, broken, bars_refusal, Executes}
+use Rattle.call_bars.specs.Moves.{lowered, in_order, open_below, holds_below, bars_refusal, Executes}
 
 -- ---- a test after another
 
@@ -138,6 +138,7 @@ module _ (n : Node) (m area : List ℕ) (start accept commit exec : Slot) (y : r
     module _ (s' : List ℕ) (executes : Executes n.start_slot.0 (min (exec.0 - n.start_slot.0) n.slots) words s') where
       x : Executes n.start_slot.0 (exec.0 - n.start_slot.0) words s'
       x = let w = kept_bars in let e : min (exec.0 - n.start_slot.0) n.slots ≡ exec.0 - n.start_slot.0 = omega (arith, w) in rw e at executes
+
       abbrev d : Node
       d = next n start accept commit exec
 

@@ -2,7 +2,8 @@
 // dropped.
 #![tactic(auto)]
 
-ghost use Rattle.std.specs.Prelude.{◌≡◌};
+ghost use Rattle.std.specs.Prelude.{◌≡◌, ◌≤◌, length};
+ghost use Rattle.layout.specs.Layout.{slot_words};
 ghost use Rattle.bodega.specs.Replica.{Bars};
 ghost use Rattle.bodega.specs.Answers.{Answers};
 ghost use Rattle.insts.specs.Slots.{insts_of};
@@ -75,10 +76,13 @@ fn bars_refusal(
     Ok(())
 }
 
-// The slots of a window become Executed.
-fn execute(insts: &mut InstsMut<'_>, window: Window)
-    ensures { Executes window.start.0 window.held insts.old.words.now insts.new.words.now }
+// The slots of a window become Executed. The words come whole: a struct made of a part of the buffer would lose what
+// became of the part.
+fn execute(words: &mut [u64], window: Window)
+    requires { slot_words ≤ length words.old }
+    ensures { Executes window.start.0 window.held words.old words.new }
 {
+    let mut insts = InstsMut { words };
     for k in 0..window.held {
         insts.set_status(window.slot(k), Status::Executed);
     }
@@ -106,10 +110,10 @@ pub fn bars(
         exec,
     };
     bars_refusal(node::insts(mem), window, node.commit_bar, node.exec_bar, to)?;
-    let mut insts = InstsMut {
-        words: &mut mem[layout::SLOTS_AT..layout::WRITTEN_AT],
-    };
-    execute(&mut insts, window.first((exec.0 - window.start.0) as usize));
+    execute(
+        &mut mem[layout::SLOTS_AT..layout::WRITTEN_AT],
+        window.first((exec.0 - window.start.0) as usize),
+    );
     Ok(Taken {
         node: Node {
             start_slot: start,

@@ -1,5 +1,4 @@
 use mathlib.Core.Path.{sym, refl}
-use native.Mathlib.Omega.{arith}
 use Rattle.words.specs.Part.{part}
 use Rattle.bodega.specs.Replica.{Bars}
 use Rattle.node.proofs.Calls.{not_ready}
@@ -21,16 +20,16 @@ returns-in_err-bars_refusal c =
     law.bars_refused a.node a.mem.now a.area.now a.start a.accept a.commit a.exec (sym c.if-not-is_ready.ensures) _ _
     (rw (c.window-window.ensures.0, c.window-window.ensures.1, c.insts.ensures) at c.in_err-bars_refusal.ensures) c.from_residual.ensures.1
 
-pub slice_bounds-insts-end : goal.slice_bounds-insts-end
-slice_bounds-insts-end c =
-    let a = c.args in law.long a.node a.mem.now a.area.now a.start a.accept a.commit a.exec (sym c.if-not-is_ready.ensures)
-
 pub overflow_sub-result-2 : goal.overflow_sub-result-2
 unfolding part
 overflow_sub-result-2 c =
     let a = c.args in
     law.slots_left a.node a.mem.now a.area.now a.start a.accept a.commit a.exec (sym c.if-not-is_ready.ensures)
     (rw (c.window-window.ensures.0, c.window-window.ensures.1, c.insts.ensures) at c.in_ok-bars_refusal.ensures)
+
+pub slice_bounds-execute-end : goal.slice_bounds-execute-end
+slice_bounds-execute-end c =
+    let a = c.args in law.long a.node a.mem.now a.area.now a.start a.accept a.commit a.exec (sym c.if-not-is_ready.ensures)
 
 pub returns : goal.returns
 unfolding part
