@@ -17,7 +17,7 @@ use Rattle.std.specs.Int.{bit_not}
 use Rattle.std.proofs.lemmas.Nat.Bits.{bit_at_clear_same, bit_at_clear_other}
 use mir.Syntax.{w64}
 use lib.Bits.{and_le_l, bit_and, bit_or, and_step, or_step, and_shr, or_shr, or_add_and, and_high, and_lt, or_lt}
-use lib.Count.{ones, ones_cat, ones-le}
+use lib.Count.{ones, ones_cat}
 use Rattle.bitmap.specs.Bitmap.{tally, every, get, mark, unmark, set_to, count, is_superset, fits}
 
 -- ---- bits
@@ -279,9 +279,6 @@ pub count_ones : (m : ℕ) → m < 2 ^ 64 → ones m ≡ count m
 unfolding count
 count_ones m h = ap ones (sym (mod-eq_of_lt h)) ∙ ones_tally 64 m
 
-pub ones_fits : (m : ℕ) → m < 2 ^ 64 → ones m < 2 ^ 64
-ones_fits m h = omega (arith, ones-le 64 m h)
-
 -- ---- the same members, the same set
 
 ext_low : (k a b : ℕ) → ((r : ℕ) → r < k → get a r ≡ get b r) → a % 2 ^ k ≡ b % 2 ^ k
@@ -401,13 +398,6 @@ pub mark_fits : (m r p : ℕ) → r < p → fits m p ≡ true → fits (mark m r
 mark_fits m r p l e = elim (dec_lt r 64) [
   | yes h ↦ rw (mark_or m r h) (lt_fits (bit_or m (2 ^ r)) p (or_lt p m (2 ^ r) (fits_lt m p e) (pow-lt l)))
   | no h ↦ rw (mark_out m r (omega arith)) e
-]
-
--- 64 bits hold the result
-pub mark_lt : (m r : ℕ) → m < 2 ^ 64 → mark m r < 2 ^ 64
-mark_lt m r h = elim (dec_lt r 64) [
-  | yes l ↦ rw (mark_or m r l) (or_lt 64 m (2 ^ r) h (pow-lt l))
-  | no l ↦ rw (mark_out m r (omega arith)) h
 ]
 
 pub unmark_lt : (m r : ℕ) → m < 2 ^ 64 → unmark m r < 2 ^ 64

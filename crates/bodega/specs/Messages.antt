@@ -7,7 +7,8 @@ use Rattle.bodega.specs.Replica.{Book, new_book, Committed, Replica, Done, done,
 use Rattle.bodega.specs.Localread.{commit_condition, release_held_read_reqs}
 use Rattle.bodega.specs.Heartbeat.{check_ballot}
 
--- ---- `resend_missed_accepts`, adjacent: n slots from the commit bar on, the last of them first, up to the first Accepting one that the peer has acked
+-- ---- `resend_missed_accepts`, adjacent: n slots from the commit bar on, the last of them first, up to the first
+-- Accepting one that the peer has acked
 
 unfoldable pub resend_missed_accepts : Replica → ℕ → ℕ → List Item
 resend_missed_accepts r peer zero = []

@@ -2,16 +2,20 @@
 use mathlib.Core.Path.{◌≡◌, refl, sym, ap, ◌∙◌}
 use mathlib.Core.Bool.{Bool, true, false}
 use mathlib.Core.List.{List, [], ◌∷◌, ◌++◌}
-use Prim.Native.Nat.{ℕ, zero, suc, ◌+◌, ◌*◌, ◌/◌, ◌%◌, ◌^◌, ◌≤◌, ◌<◌}
+use Prim.Native.Nat.{ℕ, zero, suc, ◌+◌, ◌-◌, ◌*◌, ◌/◌, ◌%◌, ◌^◌, ◌≤◌, ◌<◌}
 use native.Mathlib.Nat.{le_of_eq, div-eq_of_lt, div-lt_iff_lt-mul, lt_of_lt_of_le, pow-suc}
 use native.Mathlib.Omega.{arith}
-use lib.ListN.{length, set, length-append}
+use lib.ListN.{length, set, take, drop, length-append, length-drop}
 use lib.Dec.{ltb, eqb, lit<, lit≤}
+use Rattle.std.proofs.Common.{zero-add}
 use mir.Syntax.{w64}
 use mir.Val.{Fits}
 use borrow.Author.Tests.{lt-ltb, le-ltb, le-leb, ltb-false, eqb-true, eqb-false}
 use Rattle.inty.proofs.Laws.{below_top, low_only}
+use borrow.Rule.Slice.PartMut.{put_mid}
+use Rattle.std.proofs.lemmas.List.{take_all, drop_all, append-nil, drop-drop}
 use Rattle.words.specs.Writes.{writes, writes_snoc}
+use Rattle.words.proofs.Laws.{writes_is}
 use Rattle.decimal.specs.Digits.{decimal_in, decimal}
 use Rattle.decimal.specs.Placed.{Placed, placed}
 use Rattle.std.specs.Prelude.{Option, Some}
@@ -76,11 +80,11 @@ count_fits h l r f g e =
     small r b = omega arith
 
 -- what is written before the last digit of n, and where it ends
-pub record Heads (s : List ℕ) (at n end : ℕ) (l : List ℕ) : Type 0 where
+pub record Heads (s : List ℕ) (n end : ℕ) (l : List ℕ) : Type 0 where
   pub heads : List ℕ
   pub all : decimal n ≡ heads ++ ((48 + n % 10) ∷ [])
-  pub end_is : end ≡ at + length heads
-  pub bytes : l ≡ writes s at heads
+  pub end_is : end ≡ length heads
+  pub bytes : l ≡ writes s 0 heads
 
 -- n is the number, q its tenth, t the test whether that is 0
 module _ (n q : ℕ) (t : Bool) (e : q ≡ n / 10) (f : t ≡ eqb q 0) where
@@ -91,8 +95,8 @@ module _ (n q : ℕ) (t : Bool) (e : q ≡ n / 10) (f : t ≡ eqb q 0) where
     pub count_one : 1 ≡ length (decimal n)
     count_one = sym (length_one n tenth_none)
 
-    pub no_heads : (s : List ℕ) (at end : ℕ) (l : List ℕ) → end ≡ at → l ≡ s → Heads s at n end l
-    no_heads s at end l p k =
+    pub no_heads : (s : List ℕ) (end : ℕ) (l : List ℕ) → end ≡ 0 → l ≡ s → Heads s n end l
+    no_heads s end l p k =
         record { heads = []; all = one_digit n tenth_none; end_is = omega arith; bytes = k }
 
   module _ (g : t ≡ false) where
@@ -111,32 +115,46 @@ module _ (n q : ℕ) (t : Bool) (e : q ≡ n / 10) (f : t ≡ eqb q 0) where
         less : (n q : ℕ) → q ≡ n / 10 → (n / 10 ≡ 0 → ⊥) → q < n
         less n q e z = omega arith
 
-    pub more_room : (at m : ℕ) → at + length (decimal n) ≤ m → at + length (decimal q) ≤ m
-    more_room at m p = omega (arith, length_next)
+    pub more_room : (m : ℕ) → length (decimal n) ≤ m → length (decimal q) ≤ m
+    more_room m p = omega (arith, length_next)
 
-    pub more_heads : (s : List ℕ) (at end r : ℕ) (l l' : List ℕ) → end ≡ r → l ≡ l' → r ≡ at + length (decimal q) → l' ≡ writes s at (decimal q) → Heads s at n end l
-    more_heads s at end r l l' p k h b =
+    pub more_heads : (s : List ℕ) (end r : ℕ) (l l' : List ℕ) → end ≡ r → l ≡ l' → r ≡ length (decimal q) → l' ≡ writes s 0 (decimal q) → Heads s n end l
+    more_heads s end r l l' p k h b =
         record { heads = decimal q; all = rw e (more_digits n tenth_some); end_is = p ∙ h; bytes = k ∙ b }
 
 -- the last digit
-module _ {s : List ℕ} {at n end : ℕ} {l : List ℕ} (w : Heads s at n end l) where
+module _ {s : List ℕ} {n end : ℕ} {l : List ℕ} (w : Heads s n end l) where
   long : length (decimal n) ≡ length w.heads + 1
   long = ap length w.all ∙ length-append w.heads ((48 + n % 10) ∷ [])
 
-  pub last_room : (j : ℕ) → at + length (decimal n) ≤ length s → j ≡ length s → end < j
+  pub last_room : (j : ℕ) → length (decimal n) ≤ length s → j ≡ length s → end < j
   last_room j p h = let z = w.end_is in omega (arith, long)
 
-  pub last_fits : at + length (decimal n) ≤ length s → length s < 2 ^ 64 → Fits w64 (end + 1)
+  pub last_fits : length (decimal n) ≤ length s → length s < 2 ^ 64 → Fits w64 (end + 1)
   last_fits p h = record { fits = let i = last_room (length s) p refl in omega arith }
 
-  pub last_end : end + 1 ≡ at + length (decimal n)
+  pub last_end : end + 1 ≡ length (decimal n)
   last_end = let z = w.end_is in omega (arith, long)
 
-  pub last_put : (b r : ℕ) → b ≡ 48 + r → r ≡ n % 10 → set l end b ≡ writes s at (decimal n)
-  last_put b r p h = rw (w.bytes, w.end_is, p, h, w.all, writes_snoc s at w.heads (48 + n % 10))
+  pub last_put : (b r : ℕ) → b ≡ 48 + r → r ≡ n % 10 → set l end b ≡ writes s 0 (decimal n)
+  last_put b r p h = rw (w.bytes, w.end_is, p, h, w.all, writes_snoc s 0 w.heads (48 + n % 10), zero-add)
 
 pub low_half : (n : ℕ) (p : Placed) (out : List ℕ) (at : ℕ) → p ≡ placed out at (decimal (0 * 18446744073709551616 + n)) → p ≡ placed out at (decimal n)
 low_half n p out at e = e ∙ ap (λ (k : ℕ). placed out at (decimal k)) (low_only n)
+
+-- the part from `at` on with vs at its start, put back
+part_back : (s vs : List ℕ) (at : ℕ) → at + length vs ≤ length s → put_mid at (length s - at) s (writes (take (length s - at) (drop at s)) 0 vs) ≡ writes s at vs
+part_back s vs at h =
+    let k : length (drop at s) ≡ length s - at = length-drop at s in
+    let all : take (length s - at) (drop at s) ≡ drop at s = take_all (length s - at) (drop at s) (omega (arith, k)) in
+    let none : drop (length s - at) (drop at s) ≡ [] = drop_all (length s - at) (drop at s) (omega (arith, k)) in
+    let w : writes (drop at s) 0 vs ≡ vs ++ drop (0 + length vs) (drop at s) = writes_is (drop at s) 0 vs (omega (arith, k)) in
+    let z : 0 + length vs ≡ length vs = omega arith in
+    rw (all, none, w, z, append-nil, drop-drop, writes_is s at vs h)
+
+pub put_there : (out : List ℕ) (at : ℕ) (text l : List ℕ) (r : ℕ) → at + length text ≤ length out → r ≡ length text → l ≡ writes (take (length out - at) (drop at out)) 0 text
+    → record { answer = Some (at + r); bytes = put_mid at (length out - at) out l } ≡ placed out at text
+put_there out at text l r h e f = rw (le-leb (at + length text) (length out) h, e, f, part_back out text at h)
 
 -- for a caller that has room: the answer is where the text ends
 pub has_room : (out : List ℕ) (at : ℕ) (text : List ℕ) (w : Option ℕ) (l : List ℕ) → at + length text ≤ length out → record { answer = w; bytes = l } ≡ placed out at text

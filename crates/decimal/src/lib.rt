@@ -20,19 +20,19 @@ fn digit_count(x: Inty) -> usize
     }
 }
 
-// Writes x at `at`, and returns where the digits end.
-fn put(out: &mut [u8], at: usize, x: Inty) -> usize
-    requires { at + length (decimal (value_of x)) ≤ length out.old }
-    ensures { (result ≡ at + length (decimal (value_of x))) × (out.new ≡ writes out.old at (decimal (value_of x))) }
+// Writes x to the start of out, and returns how many digits it has.
+fn put(out: &mut [u8], x: Inty) -> usize
+    requires { length (decimal (value_of x)) ≤ length out.old }
+    ensures { (result ≡ length (decimal (value_of x))) × (out.new ≡ writes out.old 0 (decimal (value_of x))) }
 {
     let Tenth {
         quotient,
         remainder,
     } = x.div_ten();
     let last = if quotient.is_zero() {
-        at
+        0
     } else {
-        put(out, at, quotient)
+        put(out, quotient)
     };
     out[last] = b'0' + remainder as u8;
     last + 1
@@ -45,7 +45,7 @@ pub fn write(out: &mut [u8], at: usize, x: Inty) -> Option<usize>
     if room < digit_count(x) {
         return None;
     }
-    Some(put(out, at, x))
+    Some(at + put(&mut out[at..], x))
 }
 
 pub fn write_u64(out: &mut [u8], at: usize, n: u64) -> Option<usize>

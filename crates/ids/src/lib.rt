@@ -1,5 +1,5 @@
-// Ballot, slot and replica number are counted apart, as the source's aliases name them; why a call, an edit or a line is
-// turned away.
+// Ballot, slot and replica number are counted apart, as the source's aliases name them; why a call, an edit or a line
+// is turned away.
 #![tactic(auto)]
 
 ghost use Rattle.std.specs.Prelude.{◌≡◌};

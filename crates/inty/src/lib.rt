@@ -17,6 +17,7 @@ pub struct Tenth {
     pub remainder: u64,
 }
 
+// The derived order and equality are of halves; `lt` and `eq` say them of the numbers, as callers' clauses do.
 pub fn lt(a: Inty, b: Inty) -> bool
     ensures { result ≡ ltb (value_of a) (value_of b) }
 {
@@ -37,6 +38,7 @@ impl Inty {
         lo: u64::MAX,
     };
 
+    // By the derived equality, said of the number.
     pub fn is_zero(self) -> bool
         ensures { result ≡ eqb (value_of self) 0 }
     {

@@ -18,7 +18,7 @@ pub struct Key {
     pub w5: u64,
 }
 
-// Whether two keys are the same bytes.
+// Whether two keys are the same bytes: the derived equality of the words, said of what they stand for.
 pub fn same(a: Key, b: Key) -> bool
     ensures { result ≡ same_bytes (bytes_of a) (bytes_of b) }
 {
@@ -114,7 +114,7 @@ pub fn pack(bytes: &[u8]) -> Option<Key>
     Some(pack_short(bytes))
 }
 
-// The eight bytes of a word, the lowest first.
+// The eight bytes of a word, the lowest first, by the library's conversion and copy.
 fn put_word(out: &mut [u8], at: usize, v: u64)
     requires { at + 8 ≤ length out.old }
     ensures { out.new ≡ writes out.old at (le_bytes 8 v) }

@@ -1,6 +1,6 @@
 -- A number past 128 bits stays so; where all digits are read; the four steps together.
-use Rattle.std.proofs.Common.{◌≡◌, ℕ, suc, ◌+◌, ◌-◌, ◌*◌, ◌^◌, ◌≤◌, ◌<◌, Bool, true, false, List, [], ◌∷◌, Option, None, Some, option_map, length, get_or, drop, eqb, refl, sym, ap, ◌∙◌, arith, add-one, drop-cons, le_trans, drop_of_length-le}
-use borrow.Author.Tests.{lt-ltb, le-ltb, eqb-true}
+use Rattle.std.proofs.Common.{◌≡◌, ℕ, suc, ◌+◌, ◌-◌, ◌*◌, ◌^◌, ◌≤◌, ◌<◌, Bool, true, false, List, [], ◌∷◌, Option, None, option_map, length, get_or, drop, eqb, refl, sym, ap, ◌∙◌, arith, add-one, drop-cons, le_trans}
+use borrow.Author.Tests.{le-ltb, eqb-true}
 use Rattle.inty.proofs.Laws.{was_out}
 use Rattle.inty.specs.Value.{value_of, bounded}
 use Rattle.inty.specs.declared.Inty.{Inty}
@@ -29,9 +29,6 @@ module _ (s : List ℕ) (i a : ℕ) (k : Option ℕ) (g : overflow (number a (dr
   digit_over t r h e f p q =
       let on : overflow (number (10 * a + (get_or s i 0 - 48)) (drop (i + 1) s)) ≡ k = sym (ap (λ (l : List ℕ). overflow (number a l)) (uncons s i h) ∙ simp (sym e ∙ f)) ∙ g in
       sym (past _ (drop (i + 1) s) (was_out _ (ap (option_map value_of) (sym q) ∙ p))) ∙ on
-
-  pub all_read : length s ≤ i → a < 2 ^ 128 → Some a ≡ k
-  all_read h f = sym (ap (λ (l : List ℕ). overflow (number a l)) (drop_of_length-le s h) ∙ simp (lt-ltb a (2 ^ 128) f)) ∙ g
 
 -- ---- the four steps together
 module _ (s j d : List ℕ) (e : j ≡ strip s) (f : d ≡ sign j) where

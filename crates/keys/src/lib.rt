@@ -3,20 +3,15 @@
 
 ghost use Rattle.std.specs.Prelude.{◌≡◌, option_map};
 ghost use Rattle.inty.specs.Value.{value_of};
-ghost use Rattle.keys.specs.Read.{is_k, is_digit, strip, sign, number, overflow, read_key};
+ghost use Rattle.keys.specs.Read.{strip, sign, number, overflow, read_key};
 
 use inty::Inty;
 
 // The bytes of a key at most, wherever one is kept or stands in a call.
 pub const KEY_BYTES: usize = 48;
 
-fn is_digit(c: u8) -> bool
-    ensures { result ≡ is_digit c }
-{
-    matches!(c, b'0'..=b'9')
-}
-
-// The key after its leading k and K.
+// The key after its leading k and K. Slices have no `trim_start_matches`, and to find the first other byte and cut there
+// is no plainer.
 fn skip_ks(key: &[u8]) -> &[u8]
     ensures { result.now ≡ strip key.now }
 {
@@ -43,7 +38,7 @@ fn read_long(digits: &[u8], acc: u64) -> Option<Inty>
 {
     let mut x = Inty { hi: 0, lo: acc };
     for c in digits {
-        if !is_digit(*c) {
+        if !c.is_ascii_digit() {
             return None;
         }
         x = x.ten_step(*c - b'0')?;
@@ -60,7 +55,7 @@ fn read_digits(digits: &[u8]) -> Option<Inty>
         if acc > (u64::MAX - 9) / 10 {
             return read_long(&digits[i..], acc);
         }
-        if !is_digit(*c) {
+        if !c.is_ascii_digit() {
             return None;
         }
         acc = 10 * acc + u64::from(*c - b'0');

@@ -3,25 +3,29 @@ use mathlib.Core.Path.{◌≡◌, refl, sym, ap, ◌∙◌}
 use mathlib.Core.Bool.{true, false}
 use mathlib.Core.List.{List, [], ◌∷◌, ◌++◌, append_assoc, append-nil}
 use Rattle.std.specs.Prelude.{None, Some}
-use Prim.Native.Nat.{ℕ, suc, ◌+◌, ◌*◌, ◌≤◌, ◌<◌}
+use Prim.Native.Nat.{ℕ, zero, suc, ◌+◌, ◌*◌, ◌/◌, ◌≤◌, ◌<◌}
 use native.Mathlib.Omega.{arith}
 use lib.ListN.{length, get_or, take, drop}
-use lib.Seq.{take-suc, take_all, take-add, take_at, drop_at, length-take-le}
+use lib.Seq.{take-suc, take_all, take-add, take_at, drop_at, drop-drop, get_or-take, length-take-le}
+use Rattle.std.specs.Simd.{first_chunks}
 use lib.Pow.{split}
 use Rattle.words.specs.Text.{Bytes, bytes}
-use Rattle.words.specs.Tab.{words_from, run_part}
+use Rattle.words.specs.Tab.{run_part}
 use Rattle.words.specs.Writes.{writes, length_writes, run_writes}
 use Rattle.decimal.specs.Digits.{decimal, decimal_in}
-use Rattle.items.specs.Item.{Item, Value, Absent, Store, Pass, Hold, Retry, Resend, Commit, Lead, Prelog, Prepare, Span, Rest, six, item_words, encode, length_encode, encode_snoc}
+use Rattle.items.specs.Item.{Item, Value, Absent, Store, Pass, Hold, Retry, Resend, Commit, Lead, Prelog, Prepare, Span, Rest, item_words, encode, length_encode, encode_snoc}
 use Rattle.line_answer.specs.Text.{line, item_text, items_text, refused_text, taken_text}
 use Rattle.line_answer.specs.Six.{six_text}
 use Rattle.text.specs.Wrote.{Wrote}
-use Rattle.line_answer.specs.Wrote.{Printed, Holds, Listed, Answered}
+use Rattle.text.specs.Puts.{Puts}
+use Rattle.text.specs.declared.TextMut.{TextMut}
+use Rattle.line_answer.specs.Wrote.{Holds, Listed, Answered}
 use Rattle.text.proofs.Laws.{then, at_most, same_text}
 
 -- ---- an item
 
-abbrev six_in : List ℕ → Bytes
+-- the line of six words
+abbrev pub six_in : List ℕ → Bytes
 six_in ws = six_text (get_or ws 0 0) (get_or ws 1 0) (get_or ws 2 0) (get_or ws 3 0) (get_or ws 4 0) (get_or ws 5 0)
 
 pub six_item : (x : Item) → six_in (item_words x) ≡ item_text x
@@ -42,9 +46,6 @@ six_item (Prepare s b) = refl
 six_item (Span f t m) = rw (split f 64, split t 64)
 six_item (Rest m) = refl
 
-pub printed : {s s' : Bytes} {at r k a b c d e : ℕ} (ws : List ℕ) → ws ≡ six k a b c d e → Wrote s at (six_text k a b c d e) 106 r s' → Printed s at ws r s'
-printed ws q w = record { within = omega arith; item = λ x h. same_text w (ap six_in (sym q ∙ h) ∙ six_item x) }
-
 -- ---- a list
 
 items_snoc : (l : List Item) (x : Item) → items_text (l ++ (x ∷ [])) ≡ items_text l ++ item_text x
@@ -52,13 +53,28 @@ unfolding items_text
 items_snoc [] x = append-nil (item_text x)
 items_snoc (y ∷ l) x = rw (items_snoc l x) (sym (append_assoc (item_text y) (items_text l) (item_text x)))
 
-pub listed_none : (s : Bytes) (at : ℕ) (area : List ℕ) → Listed s at area 0 at s
+pub listed_none : (t : TextMut) (area : List ℕ) → Listed t area 0 t
 unfolding items_text
-listed_none s at area = record { within = omega arith; items = go }
+listed_none t area = record { held = refl; size = refl; within = omega arith; items = go }
   where
-    go : (l : List Item) → Holds area 0 l → Wrote s at (items_text l) 0 at s
-    go [] h = record { end = omega arith; bytes = refl; short = omega arith }
+    go : (l : List Item) → Holds area 0 l → Puts t (items_text l) 0 t
+    go [] h = record { held = refl; size = refl; wrote = record { end = omega arith; bytes = refl; short = omega arith } }
     go (x ∷ l) h = absurd (omega (arith, h.0))
+
+-- six words out of an area
+chunk_at : (k : ℕ) (area : List ℕ) (i : ℕ) → i < k → get_or (first_chunks 6 k area) i [] ≡ take 6 (drop (i * 6) area)
+chunk_at zero area i h = absurd (omega arith)
+chunk_at (suc k) area zero h =
+    let e : 0 ≡ 0 * 6 = omega arith in
+    ap (λ (n : ℕ). take 6 (drop n area)) e
+chunk_at (suc k) area (suc i) h =
+    let e : 6 + i * 6 ≡ suc i * 6 = omega arith in
+    chunk_at k (drop 6 area) i (omega arith) ∙ ap (take 6) (drop-drop (i * 6) 6 area ∙ ap (λ (n : ℕ). drop n area) e)
+
+pub place_words : (area : List ℕ) (chunks : List (List ℕ)) (count i : ℕ) → chunks ≡ first_chunks 6 (length area / 6) area → count * 6 ≤ length area → i < count
+    → get_or (take count chunks) i [] ≡ take 6 (drop (i * 6) area)
+place_words area chunks count i e r h =
+    get_or-take count chunks i [] h ∙ ap (λ (l : List (List ℕ)). get_or l i []) e ∙ chunk_at (length area / 6) area i (omega arith)
 
 -- the last of the items that an area holds
 module _ (area : List ℕ) (i : ℕ) (room : i * 6 + 6 ≤ length area) (l : List Item) (h : Holds area (i + 1) l) where
@@ -90,37 +106,45 @@ module _ (area : List ℕ) (i : ℕ) (room : i * 6 + 6 ≤ length area) (l : Lis
   pub held_front : Holds area i front
   held_front = (sym front_long, sym (take_at (take (i * 6) area) (take 6 (drop (i * 6) area)) (i * 6) long) ∙ ap (take (i * 6)) words ∙ take_at (encode front) (item_words last) (i * 6) code_long)
 
-  pub held_last : words_from 6 area (i * 6) ≡ item_words last
+  pub held_last : take 6 (drop (i * 6) area) ≡ item_words last
   held_last =
-      sym (run_part 6 area (i * 6) room) ∙ sym (drop_at (take (i * 6) area) (take 6 (drop (i * 6) area)) (i * 6) long) ∙ ap (drop (i * 6)) words
+      sym (drop_at (take (i * 6) area) (take 6 (drop (i * 6) area)) (i * 6) long) ∙ ap (drop (i * 6)) words
       ∙ drop_at (encode front) (item_words last) (i * 6) code_long
 
-pub listed_more : {s o o' : Bytes} {at e e' i : ℕ} (area : List ℕ) → i * 6 + 6 ≤ length area → Listed s at area i e o → Printed o e (words_from 6 area (i * 6)) e' o'
-    → Listed s at area (i + 1) e' o'
-listed_more {s} {o} {o'} {at} {e} {e'} {i} area room f g = record { within = omega arith; items = go }
+pub listed_more : {t u v : TextMut} {i : ℕ} (area ws : List ℕ) → i * 6 + 6 ≤ length area → ws ≡ take 6 (drop (i * 6) area) → Listed t area i u → Puts u (six_in ws) 106 v
+    → Listed t area (i + 1) v
+listed_more {t} {u} {v} {i} area ws room e f p = record { held = p.held ∙ f.held; size = p.size ∙ f.size; within = let w = p.wrote in let b = f.within in omega arith; items = go }
   where
-    go : (l : List Item) → Holds area (i + 1) l → Wrote s at (items_text l) ((i + 1) * 106) e' o'
+    go : (l : List Item) → Holds area (i + 1) l → Puts t (items_text l) ((i + 1) * 106) v
     go l h =
-        let w = then (f.items (front area i room l h) (held_front area i room l h)) (g.item (last area i room l h) (held_last area i room l h)) in
-        let t : items_text (front area i room l h) ++ item_text (last area i room l h) ≡ items_text l =
-        sym (items_snoc (front area i room l h) (last area i room l h)) ∙ ap items_text (sym (whole area i room l h)) in
-        at_most (same_text w t) (omega arith)
+        let x = last area i room l h in
+        let one : six_in ws ≡ item_text x = ap six_in (e ∙ held_last area i room l h) ∙ six_item x in
+        let w = then (f.items (front area i room l h) (held_front area i room l h)) (same_text p one) in
+        let s : items_text (front area i room l h) ++ item_text x ≡ items_text l =
+        sym (items_snoc (front area i room l h) x) ∙ ap items_text (sym (whole area i room l h)) in
+        at_most (same_text w s) (omega arith)
 
 -- ---- an answer
 
-module _ {s : Bytes} {n number count r : ℕ} (area : List ℕ) where
-  pub answer_refused : {s' : Bytes} → 65536 ≤ length s → (number ≡ 0 → ⊥) → Wrote s 0 (line (decimal n ∷ bytes "refused" ∷ decimal number ∷ [])) 64 r s' → Answered s n number count area r s'
+-- `out` is what the lent bytes are in the end
+module _ {t u : TextMut} {n number count : ℕ} {out : Bytes} (area : List ℕ) (start : t.at ≡ 0) (room : 65536 ≤ length t.out.now) where
+  pub answer_refused : (number ≡ 0 → ⊥) → Puts t (line (decimal n ∷ bytes "refused" ∷ decimal number ∷ [])) 64 u → out ≡ u.out.now → Answered t.out.now n number count area u.at out
   unfolding refused_text
-  answer_refused h z w = record { within = omega arith; refused = λ _. w; taken = λ l e _. absurd (z e) }
+  answer_refused z p e =
+      let w = rw (start, ← e) at p.wrote in
+      record { within = omega arith; refused = λ _. w; taken = λ l f _. absurd (z f) }
 
-  pub answer_taken : {s₁ s₂ : Bytes} {i : ℕ} → 65536 ≤ length s → count ≤ 546 → number ≡ 0 → Wrote s 0 (line (decimal n ∷ bytes "taken" ∷ decimal count ∷ [])) 64 i s₁
-      → Listed s₁ i area count r s₂ → Answered s n number count area r s₂
+  pub answer_taken : {v : TextMut} → count ≤ 546 → number ≡ 0 → Puts t (line (decimal n ∷ bytes "taken" ∷ decimal count ∷ [])) 64 u → Listed u area count v → out ≡ v.out.now
+      → Answered t.out.now n number count area v.at out
   unfolding taken_text
-  answer_taken h m z w f = record {
-    within = omega arith;
-    refused = λ e. absurd (e z);
-    taken = λ l _ k. then (rw k.0 at w) (f.items l k);
-  }
+  answer_taken m z p f e =
+      let w = p.wrote in
+      let b = f.within in
+      record {
+        within = omega arith;
+        refused = λ g. absurd (g z);
+        taken = λ l _ k. rw (start, ← e) at ((then (rw k.0 at p) (f.items l k)).wrote);
+      }
 
 -- ---- for callers
 

@@ -3,22 +3,21 @@
 use Rattle.std.specs.Prelude.{◌≡◌, List, ℕ, ◌+◌, ◌*◌, ◌≤◌, length, take}
 use Rattle.words.specs.Text.{Bytes}
 use Rattle.text.specs.Wrote.{Wrote}
-use Rattle.items.specs.Item.{Item, item_words, encode}
-use Rattle.line_answer.specs.Text.{item_text, items_text, refused_text, taken_text}
-
--- the line of the item whose words these are; whatever they are, it ends where there is room
-pub record Printed (out : Bytes) (at : ℕ) (words : List ℕ) (r : ℕ) (out' : Bytes) : Type 0 where
-  pub within : r ≤ at + 106
-  pub item : (x : Item) → words ≡ item_words x → Wrote out at (item_text x) 106 r out'
+use Rattle.text.specs.Puts.{Puts}
+use Rattle.text.specs.declared.TextMut.{TextMut}
+use Rattle.items.specs.Item.{Item, encode}
+use Rattle.line_answer.specs.Text.{items_text, refused_text, taken_text}
 
 -- the items of the first places of an area
 abbrev pub Holds : List ℕ → ℕ → List Item → Type 0
 Holds area count l = (count ≡ length l) × (take (count * 6) area ≡ encode l)
 
 -- the lines of those items
-pub record Listed (out : Bytes) (at : ℕ) (area : List ℕ) (count r : ℕ) (out' : Bytes) : Type 0 where
-  pub within : r ≤ at + count * 106
-  pub items : (l : List Item) → Holds area count l → Wrote out at (items_text l) (count * 106) r out'
+pub record Listed (t : TextMut) (area : List ℕ) (count : ℕ) (t' : TextMut) : Type 0 where
+  pub held : t'.out.ghost_name ≡ t.out.ghost_name
+  pub size : length t'.out.now ≡ length t.out.now
+  pub within : t'.at ≤ t.at + count * 106
+  pub items : (l : List Item) → Holds area count l → Puts t (items_text l) (count * 106) t'
 
 -- a number other than 0 is a refusal's; else the line is taken, with the items that the area holds
 pub record Answered (out : Bytes) (n number count : ℕ) (area : List ℕ) (r : ℕ) (out' : Bytes) : Type 0 where

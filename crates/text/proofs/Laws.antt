@@ -15,24 +15,34 @@ use Rattle.inty.specs.Value.{value_of}
 use Rattle.inty.specs.declared.Inty.{Inty}
 use Rattle.inty.proofs.Laws.{below_top}
 use Rattle.text.specs.Wrote.{Wrote}
+use Rattle.text.specs.Puts.{Puts}
+use Rattle.text.specs.declared.TextMut.{TextMut}
 use Rattle.std.specs.Prelude.{Option, Some, IsSome}
 
 -- ---- text after text
 
-pub then : {s s₁ s₂ x y : Bytes} {at m i k j : ℕ} → Wrote s at x m i s₁ → Wrote s₁ i y k j s₂ → Wrote s at (x ++ y) (m + k) j s₂
-then {s} {s₁} {s₂} {x} {y} {at} {m} {i} {k} {j} f g =
+pub then : {t t₁ t₂ : TextMut} {x y : Bytes} {m k : ℕ} → Puts t x m t₁ → Puts t₁ y k t₂ → Puts t (x ++ y) (m + k) t₂
+then {t} {t₁} {t₂} {x} {y} {m} {k} f g =
     let long : length (x ++ y) ≡ length x + length y = length-append x y in
+    let a = f.wrote in
+    let b = g.wrote in
     record {
-      end = omega arith;
-      bytes = g.bytes ∙ rw (f.bytes, f.end) (writes_append s at x y);
-      short = omega arith;
+      held = g.held ∙ f.held;
+      size = g.size ∙ f.size;
+      wrote = record {
+        end = omega arith;
+        bytes = b.bytes ∙ rw (a.bytes, a.end) (writes_append t.out.now t.at x y);
+        short = omega arith;
+      };
     }
 
-pub at_most : {s s' x : Bytes} {at m k r : ℕ} → Wrote s at x m r s' → m ≤ k → Wrote s at x k r s'
-at_most w h = record { end = w.end; bytes = w.bytes; short = omega arith }
+pub at_most : {t t' : TextMut} {x : Bytes} {m k : ℕ} → Puts t x m t' → m ≤ k → Puts t x k t'
+at_most p h =
+    let w = p.wrote in
+    record { held = p.held; size = p.size; wrote = record { end = w.end; bytes = w.bytes; short = omega arith } }
 
-pub same_text : {s s' x y : Bytes} {at m r : ℕ} → Wrote s at x m r s' → x ≡ y → Wrote s at y m r s'
-same_text {s} {s'} {x} {y} {at} {m} {r} w e = rw e at w
+pub same_text : {t t' : TextMut} {x y : Bytes} {m : ℕ} → Puts t x m t' → x ≡ y → Puts t y m t'
+same_text {t} {t'} {x} {y} {m} p e = rw e at p
 
 -- ---- digits
 
@@ -56,42 +66,31 @@ module _ (n : ℕ) where
       more_digits n (λ (y : n / 10 ≡ 0). omega arith) ∙ rw (more_digits (n / 10) (λ (y : n / 10 / 10 ≡ 0). omega arith), e, t, o)
       (append_assoc (decimal (n / 100)) ((48 + n % 100 / 10) ∷ []) ((48 + n % 100 % 10) ∷ []))
 
-module _ (at n : ℕ) where
-  module _ (h : n < 10) where
-    pub few_room : (m : ℕ) → at + length (decimal n) ≤ m → at < m
-    few_room m p = omega (arith, ap length (few n h))
+more_long : (n : ℕ) → 100 ≤ n → length (decimal n) ≡ length (decimal (n / 100)) + 2
+more_long n h = ap length (more n h) ∙ length-append (decimal (n / 100)) ((48 + n % 100 / 10) ∷ (48 + n % 100 % 10) ∷ [])
 
-    pub few_put : (s s' : Bytes) (r : ℕ) → Wrote s at ((48 + n) ∷ []) 1 r s' → Wrote s at (decimal n) 20 r s'
-    few_put s s' r w = rw (few n h) (at_most w (omega arith))
+module _ (n : ℕ) {t t' : TextMut} where
+  pub few_put : n < 10 → Puts t ((48 + n) ∷ []) 1 t' → Puts t (decimal n) 20 t'
+  few_put h p = rw (few n h) (at_most p (omega arith))
 
-  module _ (h : 10 ≤ n) (k : n < 100) where
-    pub pair_room : (m : ℕ) → at + length (decimal n) ≤ m → at + 2 ≤ m
-    pair_room m p = omega (arith, ap length (pair n h k))
+  pub pair_put : 10 ≤ n → n < 100 → Puts t ((48 + n / 10) ∷ (48 + n % 10) ∷ []) 2 t' → Puts t (decimal n) 20 t'
+  pair_put h k p = rw (pair n h k, small) (at_most p (omega arith))
+    where
+      small : n / 10 % 10 ≡ n / 10
+      small = omega arith
 
-    pub pair_put : (s s' : Bytes) (r : ℕ) → Wrote s at ((48 + n / 10) ∷ (48 + n % 10) ∷ []) 2 r s' → Wrote s at (decimal n) 20 r s'
-    pair_put s s' r w = rw (pair n h k, small) (at_most w (omega arith))
-      where
-        small : n / 10 % 10 ≡ n / 10
-        small = omega arith
+module _ (n : ℕ) {t t₁ : TextMut} (h : 100 ≤ n) (f : n < 2 ^ 64) (p : Puts t (decimal (n / 100)) 20 t₁) where
+  pub tail_room : t.at + 20 ≤ length t.out.now → t₁.at + 2 ≤ length t₁.out.now
+  tail_room r =
+      let w = p.wrote in
+      let s = p.size in
+      omega (arith, more_long n h, short_64 n f)
 
-  module _ (h : 100 ≤ n) where
-    more_long : length (decimal n) ≡ length (decimal (n / 100)) + 2
-    more_long = ap length (more n h) ∙ length-append (decimal (n / 100)) ((48 + n % 100 / 10) ∷ (48 + n % 100 % 10) ∷ [])
-
-    pub more_room : (m : ℕ) → at + length (decimal n) ≤ m → at + length (decimal (n / 100)) ≤ m
-    more_room m p = omega (arith, more_long)
-
-    module _ (s l : Bytes) (i : ℕ) (w : Wrote s at (decimal (n / 100)) 20 i l) where
-      pub tail_room : (m : ℕ) → at + length (decimal n) ≤ length s → m ≡ length s → i + 2 ≤ m
-      tail_room m p e = omega (arith, more_long)
-
-      pub more_put : (s' : Bytes) (r : ℕ) → n < 2 ^ 64 → Wrote l i ((48 + n % 100 / 10) ∷ (48 + n % 100 % 10) ∷ []) 2 r s' → Wrote s at (decimal n) 20 r s'
-      more_put s' r f u =
-          let all = same_text (then w u) (sym (more n h)) in
-          record { end = all.end; bytes = all.bytes; short = short_64 n f }
-
-pub u64_room : (at n m : ℕ) → n < 2 ^ 64 → at + 20 ≤ m → at + length (decimal n) ≤ m
-u64_room at n m h p = omega (arith, short_64 n h)
+  pub more_put : {t' : TextMut} → Puts t₁ ((48 + n % 100 / 10) ∷ (48 + n % 100 % 10) ∷ []) 2 t' → Puts t (decimal n) 20 t'
+  more_put u =
+      let all = same_text (then p u) (sym (more n h)) in
+      let w = all.wrote in
+      record { held = all.held; size = all.size; wrote = record { end = w.end; bytes = w.bytes; short = short_64 n f } }
 
 -- ---- bytes
 
@@ -117,8 +116,3 @@ module _ (s l : Bytes) (at : ℕ) (x : Inty) (w : Option ℕ) (h : x.hi < 2 ^ 64
 
   pub wide_put : (n : ℕ) → w ≡ Some n → Wrote s at (decimal (value_of x)) 39 n l
   wide_put n e = record { end = let f = wide.0 in cc; bytes = wide.1; short = brief }
-
--- ---- a comma and a field
-
-pub field : {s s₁ s₂ x : Bytes} {at i j m : ℕ} → Wrote s at (44 ∷ []) 1 i s₁ → Wrote s₁ i x m j s₂ → Wrote s at (44 ∷ x) (1 + m) j s₂
-field f g = then f g

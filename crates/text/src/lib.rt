@@ -1,85 +1,88 @@
-// Text in lent bytes: numbers, bytes, and fields that a comma begins. A writer returns where its text ends.
+// Text in lent bytes: numbers, bytes, and fields that a comma begins.
 #![tactic(auto)]
 
 ghost use Rattle.std.specs.Prelude.{◌≡◌, [], ◌∷◌, ◌+◌, ◌/◌, ◌%◌, ◌<◌, ◌≤◌, length};
 ghost use Rattle.decimal.specs.Digits.{decimal};
 ghost use Rattle.inty.specs.Value.{value_of};
-ghost use Rattle.text.specs.Wrote.{Wrote};
+ghost use Rattle.text.specs.Puts.{Puts};
 
 use inty::Inty;
 
-// ---- numbers
-
-fn put_pair(out: &mut [u8], at: usize, pair: u64) -> usize
-    requires { (at + 2 ≤ length out.old) × (pair < 100) }
-    ensures { Wrote out.old at ((48 + pair / 10) ∷ (48 + pair % 10) ∷ []) 2 result out.new }
-{
-    out[at] = b'0' + (pair / 10) as u8;
-    out[at + 1] = b'0' + (pair % 10) as u8;
-    at + 2
+// A writer into lent bytes, and where its text ends.
+#[derive(Drop)]
+pub struct TextMut<'a> {
+    pub out: &'a mut [u8],
+    pub at: usize,
 }
 
-// Two digits a step: one a step divides twice as often, and such numbers are most of what a line writes.
-fn digits(out: &mut [u8], at: usize, n: u64) -> usize
-    requires { at + length (decimal n) ≤ length out.old }
-    ensures { Wrote out.old at (decimal n) 20 result out.new }
-{
-    if n < 10 {
-        return put_byte(out, at, b'0' + n as u8);
+impl<'a> TextMut<'a> {
+    // ---- numbers
+
+    fn put_pair(&mut self, pair: u64)
+        requires { (self.old.at + 2 ≤ length self.old.out.now) × (pair < 100) }
+        ensures { Puts self.old ((48 + pair / 10) ∷ (48 + pair % 10) ∷ []) 2 self.new }
+    {
+        self.out[self.at] = b'0' + (pair / 10) as u8;
+        self.out[self.at + 1] = b'0' + (pair % 10) as u8;
+        self.at += 2;
     }
-    if n < 100 {
-        return put_pair(out, at, n);
+
+    // Two digits a step: one a step divides twice as often, and such numbers are most of what a line writes.
+    pub fn put_u64(&mut self, n: u64)
+        requires { self.old.at + 20 ≤ length self.old.out.now }
+        ensures { Puts self.old (decimal n) 20 self.new }
+    {
+        if n < 10 {
+            return self.put_byte(b'0' + n as u8);
+        }
+        if n < 100 {
+            return self.put_pair(n);
+        }
+        self.put_u64(n / 100);
+        self.put_pair(n % 100);
     }
-    let end = digits(out, at, n / 100);
-    put_pair(out, end, n % 100)
-}
 
-pub fn put_u64(out: &mut [u8], at: usize, n: u64) -> usize
-    requires { at + 20 ≤ length out.old }
-    ensures { Wrote out.old at (decimal n) 20 result out.new }
-{
-    digits(out, at, n)
-}
+    pub fn put_wide(&mut self, x: Inty)
+        requires { self.old.at + 39 ≤ length self.old.out.now }
+        ensures { Puts self.old (decimal (value_of x)) 39 self.new }
+    {
+        self.at = decimal::write(self.out, self.at, x).unwrap();
+    }
 
-// ---- fields
+    // ---- bytes
 
-pub fn put_byte(out: &mut [u8], at: usize, b: u8) -> usize
-    requires { at < length out.old }
-    ensures { Wrote out.old at (b ∷ []) 1 result out.new }
-{
-    out[at] = b;
-    at + 1
-}
+    pub fn put_byte(&mut self, b: u8)
+        requires { self.old.at < length self.old.out.now }
+        ensures { Puts self.old (b ∷ []) 1 self.new }
+    {
+        self.out[self.at] = b;
+        self.at += 1;
+    }
 
-pub fn put_bytes(out: &mut [u8], at: usize, src: &[u8]) -> usize
-    requires { at + length src.now ≤ length out.old }
-    ensures { Wrote out.old at src.now (length src.now) result out.new }
-{
-    let end = at + src.len();
-    out[at..end].copy_from_slice(src);
-    end
-}
+    pub fn put_bytes(&mut self, src: &[u8])
+        requires { self.old.at + length src.now ≤ length self.old.out.now }
+        ensures { Puts self.old src.now (length src.now) self.new }
+    {
+        let end = self.at + src.len();
+        self.out[self.at..end].copy_from_slice(src);
+        self.at = end;
+    }
 
-// A comma and a number.
-pub fn put_field(out: &mut [u8], at: usize, n: u64) -> usize
-    requires { at + 21 ≤ length out.old }
-    ensures { Wrote out.old at (44 ∷ decimal n) 21 result out.new }
-{
-    let at = put_byte(out, at, b',');
-    put_u64(out, at, n)
-}
+    // ---- fields: a comma and a number
 
-pub fn put_wide(out: &mut [u8], at: usize, x: Inty) -> usize
-    requires { at + 39 ≤ length out.old }
-    ensures { Wrote out.old at (decimal (value_of x)) 39 result out.new }
-{
-    decimal::write(out, at, x).unwrap()
-}
+    pub fn put_field(&mut self, n: u64)
+        requires { self.old.at + 21 ≤ length self.old.out.now }
+        ensures { Puts self.old (44 ∷ decimal n) 21 self.new }
+    {
+        self.put_byte(b',');
+        self.put_u64(n);
+    }
 
-pub fn put_wide_field(out: &mut [u8], at: usize, x: Inty) -> usize
-    requires { at + 40 ≤ length out.old }
-    ensures { Wrote out.old at (44 ∷ decimal (value_of x)) 40 result out.new }
-{
-    let at = put_byte(out, at, b',');
-    put_wide(out, at, x)
+    pub fn put_wide_field(&mut self, x: Inty)
+        requires { self.old.at + 40 ≤ length self.old.out.now }
+        ensures { Puts self.old (44 ∷ decimal (value_of x)) 40 self.new }
+    {
+        self.put_byte(b',');
+        self.put_wide(x);
+    }
 }

@@ -1,5 +1,5 @@
 use Rattle.line_answer.specs.Wrote.{Listed}
 use Rattle.line_answer.proofs.put_items.Given as goal
 
-abbrev pub invariant-loop-place : goal.invariant-loop-place
-invariant-loop-place l = Listed l.initial.out l.at l.area l.place l.end l.out
+abbrev pub invariant-loop-words : goal.invariant-loop-words
+invariant-loop-words l = Listed l.initial.text l.area l.words-index l.text

@@ -4,4 +4,4 @@ use Rattle.line_answer.proofs.put_span.Goals as goal
 
 pub returns : goal.returns
 returns c =
-    law.line_4 c.put_bytes-at1.ensures c.put_wide_field-at2.ensures c.put_wide_field-at3.ensures c.put_field-at4.ensures c.put_byte.ensures _ (omega arith)
+    law.line_4 c.put_bytes.ensures c.put_wide_field.ensures c.put_wide_field-2.ensures c.put_field.ensures c.put_byte.ensures _ (omega arith)
