@@ -37,6 +37,7 @@ pub struct Mask {
     pub mask: u64,
 }
 
+// How many rows stand is a number beside them here: the C interface has slices and plain structs only.
 fn conf(count: usize, default: u64) -> RespondersConf
     ensures { result ≡ plain count default }
 {
@@ -62,6 +63,7 @@ fn counted(edited: Result<RespondersConf, Refusal>, count: usize) -> Count
     }
 }
 
+#[tactic(auto, using(crate::proofs::Laws::key_unread))]
 pub fn key_to_inty(key: &[u8]) -> Key
     ensures { result ≡ key_of (read_key key.now) }
 {
@@ -80,6 +82,7 @@ pub fn key_to_inty(key: &[u8]) -> Key
 }
 
 // `set_responders` of a roster with no leader and default 0.
+#[tactic(auto, using(crate::proofs::Laws::range_counts))]
 pub fn set_responders(
     rows: &mut [u64],
     count: usize,
@@ -95,6 +98,7 @@ pub fn set_responders(
 }
 
 // `set_full` of such a roster.
+#[tactic(auto, using(crate::proofs::Laws::whole_counts))]
 pub fn set_full(rows: &mut [u64], count: usize, population: u8, mask: u64) -> Count
     ensures { Counts (SetFull mask) population count rows.old result rows.new }
 {
@@ -102,6 +106,7 @@ pub fn set_full(rows: &mut [u64], count: usize, population: u8, mask: u64) -> Co
 }
 
 // `into_filtered` of such a roster.
+#[tactic(auto, using(crate::proofs::Laws::drop_counts))]
 pub fn into_filtered(rows: &mut [u64], count: usize, population: u8, id: u8) -> Count
     ensures { Counts (IntoFiltered id) population count rows.old result rows.new }
 {

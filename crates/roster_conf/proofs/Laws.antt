@@ -5,23 +5,25 @@ use mathlib.Core.Path.{◌≡◌, refl, sym, ap, ◌∙◌}
 use mathlib.Core.Bool.{Bool, true, false, not, ◌&&◌}
 use mathlib.Core.List.{List}
 use Rattle.std.specs.Prelude.{Option, None, Some}
-use Prim.Native.Nat.{ℕ, ◌≤◌, ◌<◌}
+use Prim.Native.Nat.{ℕ, ◌*◌, ◌≤◌, ◌<◌}
 use native.Mathlib.Omega.{arith}
 use lib.Dec.{ltb, leb}
 use lib.ListN.{length}
-use borrow.Author.Tests.{lt-ltb, le-ltb, le-leb, lt-leb, leb-true, leb-false, not-true, not-false}
+use borrow.Author.Tests.{lt-ltb, le-ltb, le-leb, lt-leb, leb-true, not-true, not-false}
 use Rattle.words.specs.Choice.{if_none◌then◌else◌}
 use Rattle.words.proofs.Tests.{and_both}
 use Rattle.ids.specs.declared.Replica.{Replica}
 use Rattle.ids.specs.Leader.{leader_of}
-use Rattle.layout.specs.Layout.{roster_words}
+use Rattle.words.specs.Part.{Untouched}
+use Rattle.layout.specs.Layout.{roster_row, roster_words}
 use Rattle.inty.specs.declared.Inty.{Inty}
 use Rattle.inty.specs.Value.{value_of}
 use Rattle.bitmap.specs.Bitmap.{fits, set_to}
 use Rattle.keys.specs.Read.{read_key}
 use Rattle.roster_ranges.specs.Range.{Range, mask_at, overwrite, remasked}
 use Rattle.roster_map.specs.declared.Row.{Row}
-use Rattle.roster_map.specs.Rows.{range_of, ranges_of, capped, Stores}
+use Rattle.roster_map.specs.Rows.{range_of, ranges_of, Stores}
+use Rattle.roster_map.proofs.Laws.{length_ranges}
 use Rattle.roster_conf.specs.declared.RespondersConf.{RespondersConf}
 use Rattle.roster_conf.specs.Conf.{Conf, get_responders_by_key, leader_without, set_responders, into_filtered}
 use Rattle.roster_conf.specs.Ground.{refusal}
@@ -30,7 +32,7 @@ use Rattle.roster_conf.specs.Edits.{view, holds_rows, in_range, due, Leaves, Giv
 use Rattle.roster_conf.specs.Asks.{ready, stored, storing, Asks}
 use Rattle.std.specs.Prelude.{Result, Ok, Err, ok_or}
 use Rattle.ids.specs.declared.Refusal.{Refusal}
-use Rattle.ids.specs.declared.Refusal.TheVariants.{NotReady, NoSuchReplica, MaskTooWide, KeyTooLong, UnreadBound, RangeReversed, TooManyRanges}
+use Rattle.ids.specs.declared.Refusal.TheVariants.{NotReady, NoSuchReplica, MaskTooWide, KeyTooLong, UnreadBound, RangeReversed}
 use Rattle.ids.specs.Refusal.{number_of}
 
 -- ---- whether the edit can begin
@@ -99,58 +101,24 @@ module _ (p : ℕ) (c : RespondersConf) (s : List ℕ) (v : Unit {0}) (r : Ok v 
   unfolding grounds edit view ranges_of
   reset = takes p c s ResetFull v r _ s refl (record { roster = refl; few = omega arith; beyond = λ j k. refl })
 
--- ---- what is stored
-
-capped_none : (l : List Range) → None ≡ capped l → ltb 64 (length l) ≡ true
-capped_none l e = go (leb (length l) 64) refl
-  where
-    go : (b : Bool) → leb (length l) 64 ≡ b → ltb 64 (length l) ≡ true
-    go true h = let k : None ≡ Some l = e ∙ simp h in let z : ◌≡◌ {A = ℕ} 0 1 = cc in absurd (omega arith)
-    go false h = lt-ltb 64 (length l) (leb-false (length l) 64 h)
-
-capped_some : (l x : List Range) → Some x ≡ capped l → (ltb 64 (length l) ≡ false) × (x ≡ l)
-capped_some l x e = go (leb (length l) 64) refl
-  where
-    go : (b : Bool) → leb (length l) 64 ≡ b → (ltb 64 (length l) ≡ false) × (x ≡ l)
-    go true h = let k : Some x ≡ Some l = e ∙ simp h in (le-ltb 64 (length l) (leb-true (length l) 64 h), cc)
-    go false h = let k : Some x ≡ None = e ∙ simp h in let z : ◌≡◌ {A = ℕ} 0 1 = cc in absurd (omega arith)
-
-module _ (l : List Range) (s after : List ℕ) (r : Option ℕ) (w : Stores l s after r) where
-  stored_none : r ≡ None → (ltb 64 (length l) ≡ true) × (after ≡ s)
-  stored_none e = (capped_none l (rw e at w.outcome), w.refused e)
-
-  stored_some : (n : ℕ) → r ≡ Some n → (ltb 64 (length l) ≡ false) × (ranges_of after n ≡ l) × (n ≤ 64)
-  stored_some n e =
-      let k = capped_some l (ranges_of after n) (rw e at w.outcome) in
-      (k.0, k.1, rw e at w.few)
-
--- a roster whose ranges are the l that was stored
-module _ (p : ℕ) (c : RespondersConf) (s : List ℕ) (e : Edit) (v : Unit {0}) (r : Ok v ≡ ready c.count (length s) p)
-    (l : List Range) (after : List ℕ) (st : Option ℕ) (w : Stores l s after st) where
-  rows : (n : ℕ) (d : Option Replica) (m : ℕ) → st ≡ Some n → (ltb 64 (length l) ≡ false → refusal (grounds p (view c s) e) ≡ None)
-      → edit (view c s) e ≡ record { leader = leader_of d; ranges = l; default = m } → Gives (due p c s e) (Ok (record { leader = d; count = n; default = m })) s after
-  unfolding view
-  rows n d m g h k =
-      let q = stored_some l s after st w n g in
-      takes p c s e v r _ after (h q.0)
-      (record { roster = ap (λ (x : List Range). record { leader = leader_of d; ranges = x; default = m }) q.1 ∙ sym k; few = q.2; beyond = w.beyond })
-
 -- ---- a range: what is asked for, and what is stored
 
-module _ (c : RespondersConf) (s : List ℕ) (w : Row) (after : List ℕ) (st : Option ℕ) (x : Stores (overwrite (ranges_of s c.count) (range_of w)) s after st) where
-  pub store_17 : (y : Refusal) → Err y ≡ ok_or st TooManyRanges → Gives (storing (stored (view c s) w)) (Err y) s after
-  unfolding set_responders view
-  store_17 y e =
-      let q = none_or st TooManyRanges y e in
-      let k = stored_none _ s after st x q.0 in
-      rw (k.0, q.1) (refl, k.1)
+module _ (c : RespondersConf) (s : List ℕ) (w : Row) (after : List ℕ) (n : ℕ) where
+  abbrev over : List Range
+  over = overwrite (ranges_of s c.count) (range_of w)
 
-  pub store_taken : (n : ℕ) → st ≡ Some n → Gives (storing (stored (view c s) w)) (Ok (record { leader = c.leader; count = n; default = c.default })) s after
+  pub store_17 : (o : Result (Unit {0}) Refusal) (y : Refusal) → Stores over s o after n → o ≡ Err y → Gives (storing (stored (view c s) w)) (Err y) s after
   unfolding set_responders view
-  store_taken n e =
-      let k = stored_some _ s after st x n e in
-      rw k.0
-      (record { roster = ap (λ (l : List Range). record { leader = leader_of c.leader; ranges = l; default = c.default }) k.1; few = k.2; beyond = x.beyond })
+  store_17 o y x e =
+      let k : Stores over s (Err y) after n = rw e at x in
+      rw (lt-ltb 64 (length over) k.0, k.1) (refl, k.2)
+
+  pub store_taken : (o : Result (Unit {0}) Refusal) (u : Unit {0}) → Stores over s o after n → o ≡ Ok u → Gives (storing (stored (view c s) w)) (Ok (record { leader = c.leader; count = n; default = c.default })) s after
+  unfolding set_responders view
+  store_taken o u x e =
+      let k : Stores over s (Ok u) after n = rw e at x in
+      rw (le-ltb 64 (length over) k.0)
+      (record { roster = ap (λ (l : List Range). record { leader = leader_of c.leader; ranges = l; default = c.default }) k.1; few = omega (arith, length_ranges after n, ap length k.1); beyond = k.2 })
 
 -- an answer that no roster changes, or the row stored
 module _ (p : ℕ) (c : RespondersConf) (s : List ℕ) (e : Edit) (v : Unit {0}) (r : Ok v ≡ ready c.count (length s) p) where
@@ -253,14 +221,14 @@ module _ (p : ℕ) (c : RespondersConf) (s : List ℕ) (v : Unit {0}) (r : Ok v 
   unfolding grounds
   filter_3 h = refuses p c s (IntoFiltered id.0) v r NoSuchReplica (simp (le-leb p id.0 h))
 
-  pub filter_set : (n m : ℕ) (d : Option Replica) (after : List ℕ) → id.0 < p → Stores (remasked (λ k. set_to k id.0 false) (ranges_of s c.count)) s after (Some n)
-      → leader_of d ≡ leader_without id.0 (leader_of c.leader) → m ≡ set_to c.default id.0 false
+  pub filter_set : (n m : ℕ) (d : Option Replica) (after : List ℕ) → id.0 < p → ranges_of after n ≡ remasked (λ k. set_to k id.0 false) (ranges_of s c.count) → n ≤ c.count
+      → Untouched (c.count * roster_row) s after → leader_of d ≡ leader_without id.0 (leader_of c.leader) → m ≡ set_to c.default id.0 false
       → Gives (due p c s (IntoFiltered id.0)) (Ok (record { leader = d; count = n; default = m })) s after
   unfolding grounds edit into_filtered view
-  filter_set n m d after h w e g =
-      let l = remasked (λ k. set_to k id.0 false) (ranges_of s c.count) in
-      rows p c s (IntoFiltered id.0) v r l after (Some n) w n d m refl (λ k. simp (lt-leb p id.0 h))
-      (λ i. record { leader = sym e i; ranges = l; default = sym g i })
+  filter_set n m d after h w k u e g =
+      let few : c.count ≤ 64 = (ready_rows (length s) c.count p v r).0 in
+      takes p c s (IntoFiltered id.0) v r _ after (simp (lt-leb p id.0 h))
+      (record { roster = λ i. record { leader = e i; ranges = w i; default = g i }; few = omega arith; beyond = λ j b. u j (omega arith) })
 
 -- ---- lookup
 

@@ -11,7 +11,7 @@ ghost use Rattle.roster_conf.specs.Asks.{ready, stored, storing, Asks};
 
 use ids::{Refusal, Replica};
 use inty::Inty;
-use roster_map::Row;
+use roster_map::{RangeMap, RangeMapMut, Row};
 
 #[derive(Clone, Copy)]
 pub struct RespondersConf {
@@ -28,6 +28,7 @@ pub fn is_whole(len: usize, count: usize) -> bool
 }
 
 // 4, 5, 6, 7: a range that can be stored in some roster.
+#[tactic(auto, using(crate::proofs::Laws::range_4, crate::proofs::Laws::range_5, crate::proofs::Laws::range_5_end, crate::proofs::Laws::range_6, crate::proofs::Laws::range_6_end, crate::proofs::Laws::range_7, crate::proofs::Laws::range_asked))]
 fn ask(population: u8, start: &[u8], end: &[u8], mask: u64) -> Result<Row, Refusal>
     ensures { Asks population start.now end.now mask result }
 {
@@ -46,12 +47,20 @@ fn ask(population: u8, start: &[u8], end: &[u8], mask: u64) -> Result<Row, Refus
 }
 
 // 17: the row over those of a roster, where they stay 64 or fewer.
+#[tactic(auto, using(crate::proofs::Laws::store_17, crate::proofs::Laws::store_taken))]
 fn store(conf: RespondersConf, rows: &mut [u64], w: Row) -> Result<RespondersConf, Refusal>
     requires { (conf.count ≤ 64) × (roster_words ≤ length rows.old) }
     ensures { Gives (storing (stored (view conf rows.old) w)) result rows.old rows.new }
 {
-    let count = roster_map::set(rows, conf.count, w).ok_or(Refusal::TooManyRanges)?;
-    Ok(RespondersConf { count, ..conf })
+    let mut map = RangeMapMut {
+        rows,
+        count: conf.count,
+    };
+    map.set(w)?;
+    Ok(RespondersConf {
+        count: map.count,
+        ..conf
+    })
 }
 
 // No leader where id is it.
@@ -88,6 +97,7 @@ impl RespondersConf {
         }
     }
 
+    #[tactic(auto, using(crate::proofs::Laws::unready, crate::proofs::Laws::leader_3, crate::proofs::Laws::leader_set))]
     pub fn set_leader(
         self,
         rows: &[u64],
@@ -107,6 +117,7 @@ impl RespondersConf {
     }
 
     // For the keys from start to end.
+    #[tactic(auto, using(crate::proofs::Laws::unready, crate::proofs::Laws::range_refused, crate::proofs::Laws::range_stored))]
     pub fn set_responders(
         self,
         rows: &mut [u64],
@@ -123,6 +134,7 @@ impl RespondersConf {
     }
 
     // For all keys.
+    #[tactic(auto, using(crate::proofs::Laws::unready, crate::proofs::Laws::full_4, crate::proofs::Laws::full_stored))]
     pub fn set_full(
         self,
         rows: &mut [u64],
@@ -143,6 +155,7 @@ impl RespondersConf {
         store(self, rows, w)
     }
 
+    #[tactic(auto, using(crate::proofs::Laws::unready, crate::proofs::Laws::filter_3, crate::proofs::Laws::filter_set))]
     pub fn into_filtered(
         self,
         rows: &mut [u64],
@@ -155,14 +168,20 @@ impl RespondersConf {
         if id.0 >= population {
             return Err(Refusal::NoSuchReplica);
         }
+        let mut map = RangeMapMut {
+            rows,
+            count: self.count,
+        };
+        map.filter(id);
         Ok(RespondersConf {
             leader: leader_without(self.leader, id),
-            count: roster_map::filter(rows, self.count, id),
+            count: map.count,
             default: bitmap::set(self.default, id, false),
         })
     }
 
     // The default stays.
+    #[tactic(auto, using(crate::proofs::Laws::unready, crate::proofs::Laws::reset))]
     pub fn reset_full(self, rows: &[u64], population: u8) -> Result<RespondersConf, Refusal>
         ensures { Edits ResetFull population self rows.now result rows.now }
     {
@@ -174,6 +193,7 @@ impl RespondersConf {
         })
     }
 
+    #[tactic(auto, using(crate::proofs::Laws::lookup_2, crate::proofs::Laws::lookup_none, crate::proofs::Laws::lookup_mask))]
     pub fn get_responders_by_key(self, rows: &[u64], key: &[u8]) -> Result<Option<u64>, Refusal>
         ensures { result ≡ lookup self rows.now key.now }
     {
@@ -183,6 +203,10 @@ impl RespondersConf {
         let Some(n) = keys::key_to_inty(key) else {
             return Ok(None);
         };
-        Ok(Some(roster_map::get(rows, self.count, self.default, n)))
+        let map = RangeMap {
+            rows,
+            count: self.count,
+        };
+        Ok(Some(map.get(self.default, n)))
     }
 }

@@ -4,15 +4,18 @@ use mathlib.Core.Path.{◌≡◌, refl, sym, ap, ◌∙◌}
 use mathlib.Core.Bool.{Bool, true, false}
 use mathlib.Core.Logic.{inl, inr}
 use mathlib.Core.List.{List, ◌∷◌, ◌++◌, []}
-use Rattle.std.specs.Prelude.{Option, None, Some}
+use Rattle.std.specs.Prelude.{Option, None, Some, Result, Ok, Err}
+use Rattle.ids.specs.declared.Refusal.{Refusal}
+use Rattle.ids.specs.declared.Refusal.TheVariants.{TooManyRanges}
 use Prim.Native.Nat.{ℕ, zero, suc, ◌+◌, ◌-◌, ◌*◌, ◌≤◌, ◌<◌}
 use native.Mathlib.Omega.{arith}
 use lib.ListN.{length, get_or, take}
 use lib.Seq.{get_or-take, length-take-le}
 use lib.Dec.{ltb}
-use borrow.Author.Tests.{le-leb, lt-leb, le-ltb}
+use borrow.Author.Tests.{le-ltb}
 use Rattle.words.specs.Choice.{if_none◌then◌else◌}
 use Rattle.words.specs.Tab.{tab, tab_snoc, tab_ext, length_tab}
+use Rattle.words.specs.Part.{Untouched}
 use Rattle.words.specs.Writes.{writes, writes_other, writes_same}
 use Rattle.layout.specs.Layout.{roster_row, roster_words}
 use Rattle.inty.specs.Value.{value_of}
@@ -88,6 +91,16 @@ module _ (s : List ℕ) (i : ℕ) (v : Row) (h : i * roster_row + roster_row ≤
       tab_snoc (λ j. range_at t (j * roster_row)) 0 i ∙ ap (λ (l : List Range). l ++ (range_at t ((0 + i) * roster_row) ∷ [])) rest
       ∙ ap (λ (k : ℕ). tab (λ j. range_at s (j * roster_row)) 0 i ++ (range_at t (k * roster_row) ∷ [])) z
       ∙ ap (λ (r : Range). tab (λ j. range_at s (j * roster_row)) 0 i ++ (r ∷ [])) row_same
+
+-- a row at word p, where words are as they were from p on
+pub range_kept : (s t : List ℕ) (p : ℕ) → Untouched p s t → range_at t p ≡ range_at s p
+unfolding range_at
+range_kept s t p h =
+    simp (h p (omega arith), h (p + 1) (omega arith), h (p + 2) (omega arith), h (p + 3) (omega arith), h (p + 4) (omega arith))
+
+-- a row stored at n or below it leaves the words past row n
+pub put_beyond : (s t : List ℕ) (i n : ℕ) (v : Row) → t ≡ writes s (i * roster_row) (row_words v) → i ≤ n → Untouched ((n + 1) * roster_row) s t
+put_beyond s t i n v e h j k = ap (λ (x : List ℕ). get_or x j 0) e ∙ writes_other s (i * roster_row) (row_words v) j (inr (omega arith))
 
 -- ---- lookup: t is whether row i holds v, g what is known of the rows from i on
 
@@ -184,10 +197,26 @@ overwrite_is s l x y z w e f g =
     g ∙ ap (λ (k : List Range). push_all k (each (above (value_of w.end)) l)) (f ∙ ap (λ (k : List Range). push k (range_of w)) e)
     ∙ sym (push_all_append [] (each (below (value_of w.start)) l) (range_of w ∷ each (above (value_of w.end)) l))
 
--- a replica out of each range, onto nothing
-pub filter_is : (s : List ℕ) (l x : List Range) (g : ℕ → ℕ) → x ≡ push_all (ranges_of s 0) (each (λ r. remask g r ∷ []) l) → x ≡ remasked g l
-unfolding ranges_of remasked
-filter_is s l x g e = e
+-- ---- masks changed in place: with the rows from i on, those that stand make what is due
+
+unfoldable pub FilterRest : (ℕ → ℕ) → List ℕ → ℕ → ℕ → List Range → Type 0
+FilterRest g s i n l = push_all l (each (λ r. remask g r ∷ []) (rows_from s i n)) ≡ remasked g (ranges_of s n)
+
+module _ (g : ℕ → ℕ) (s : List ℕ) where
+  pub filter_start : (n : ℕ) (t : List ℕ) → FilterRest g s 0 n (ranges_of t 0)
+  unfolding FilterRest remasked ranges_of
+  filter_start n t = pass_start (λ r. remask g r ∷ []) s n []
+
+  pub filter_on : (i n : ℕ) (l m : List Range) (x r : Range) (t : List ℕ) → i < n → r ≡ remask g x → x ≡ range_at t (i * roster_row) → Untouched (i * roster_row) s t → m ≡ push l r
+      → FilterRest g s i n l → FilterRest g s (i + 1) n m
+  unfolding FilterRest
+  filter_on i n l m x r t h e f u k w =
+      let y : r ≡ remask g (range_at s (i * roster_row)) = e ∙ ap (remask g) (f ∙ range_kept s t (i * roster_row) u) in
+      pass_on (λ z. remask g z ∷ []) s i n l (remasked g (ranges_of s n)) m (range_at s (i * roster_row)) h refl (k ∙ ap (push l) y) w
+
+  pub filter_end : (i n : ℕ) (l : List Range) → n ≤ i → FilterRest g s i n l → l ≡ remasked g (ranges_of s n)
+  unfolding FilterRest
+  filter_end i n l h w = sym (ap (λ (x : List Range). push_all l (each (λ r. remask g r ∷ []) x)) (from_none s i n h)) ∙ w
 
 -- ---- the rows stored
 
@@ -195,10 +224,8 @@ pub length_ranges : (s : List ℕ) (n : ℕ) → length (ranges_of s n) ≡ n
 unfolding ranges_of
 length_ranges s n = length_tab (λ i. range_at s (i * roster_row)) 0 n
 
-pub stores_full : (s out : List ℕ) (n : ℕ) → 64 < n → Stores (ranges_of out n) s s None
-stores_full s out n h =
-    let over : 64 < length (ranges_of out n) = rw length_ranges h in
-    record { outcome = sym (simp (lt-leb (length (ranges_of out n)) 64 over)); refused = λ e. refl; few = omega arith; beyond = λ j f. refl }
+pub stores_full : (s out : List ℕ) (n m : ℕ) → 64 < n → Stores (ranges_of out n) s (Err TooManyRanges) s m
+stores_full s out n m h = (rw length_ranges h, refl, refl)
 
 module _ (s out : List ℕ) (n : ℕ) (h : n ≤ 64) (k : n * roster_row ≤ length out) (m : roster_words ≤ length s) where
   abbrev written : List ℕ
@@ -225,22 +252,12 @@ module _ (s out : List ℕ) (n : ℕ) (h : n ≤ 64) (k : n * roster_row ≤ len
         word_same (j * roster_row + 4) (omega arith),
       ))
 
-  pub stores_rows : (t : List ℕ) → t ≡ written → Stores (ranges_of out n) s t (Some n)
+  pub stores_rows : (t : List ℕ) → t ≡ written → Stores (ranges_of out n) s (Ok tt) t n
   stores_rows t e =
-      let few : length (ranges_of out n) ≤ 64 = rw length_ranges h in
-      record {
-        outcome = ap Some (ap (λ (x : List ℕ). ranges_of x n) e ∙ rows_same) ∙ sym (simp (le-leb (length (ranges_of out n)) 64 few));
-        refused = λ f. never t f;
-        few = h;
-        beyond = λ j f. ap (λ (x : List ℕ). get_or x j 0) e ∙ writes_other s 0 (take (n * roster_row) out) j (inr (omega (arith, taken)));
-      }
-    where
-      never : (t : List ℕ) → Some n ≡ None → t ≡ s
-      never t f = let z : ◌≡◌ {A = ℕ} 0 1 = cc in absurd (omega arith)
+      (rw length_ranges h, ap (λ (x : List ℕ). ranges_of x n) e ∙ rows_same, λ j f. ap (λ (x : List ℕ). get_or x j 0) e ∙ writes_other s 0 (take (n * roster_row) out) j (inr (omega (arith, taken))))
 
-pub stores_of : (l m : List Range) (s t : List ℕ) (r : Option ℕ) → l ≡ m → Stores l s t r → Stores m s t r
-stores_of l m s t r e f = rw e at f
-
-pub stores_filtered : (m : List Range) (s out t : List ℕ) (n c : ℕ) → ranges_of out n ≡ m → n ≤ c → c ≤ 64 → length out ≡ roster_words → roster_words ≤ length s → t ≡ writes s 0 (take (n * roster_row) out)
-    → Stores m s t (Some n)
-stores_filtered m s out t n c e f g h k w = stores_of (ranges_of out n) m s t (Some n) e (stores_rows s out n (omega arith) (omega arith) k t w)
+-- w over l in the words s, of what was stored
+pub stores_over : (l : List Range) (s t : List ℕ) (r : Result (Unit {0}) Refusal) (n : ℕ) (out : List ℕ) (k : ℕ) (x y : List Range) (u : List ℕ) (w : Row)
+    → x ≡ push_all (ranges_of u 0) (each (below (value_of w.start)) l) → y ≡ push x (range_of w) → ranges_of out k ≡ push_all y (each (above (value_of w.end)) l)
+    → Stores (ranges_of out k) s r t n → Stores (overwrite l (range_of w)) s r t n
+stores_over l s t r n out k x y u w e f g h = rw (overwrite_is u l x y (ranges_of out k) w e f g) at h

@@ -1,10 +1,13 @@
 -- Trusted: the table of ranges that lent words stand for, five to a row: start high and low, end high and low, mask.
 -- What storing a list leaves is a bridge, tied by roster_conf/proofs/Laws.
-use Rattle.std.specs.Prelude.{ℕ, ◌+◌, ◌*◌, ◌^◌, ◌≤◌, Bool, false, List, ◌∷◌, [], ◌≡◌, get_or, length, leb, if◌then◌else◌}
-use Rattle.std.specs.Prelude.{Option, None, Some}
+use Rattle.std.specs.Prelude.{ℕ, ◌+◌, ◌*◌, ◌^◌, ◌≤◌, ◌<◌, Bool, false, List, ◌∷◌, [], ◌≡◌, get_or, length}
+use Rattle.std.specs.Prelude.{Option, None, Some, Result, Ok, Err}
+use Rattle.std.specs.Borrow.{MutBor}
 use Rattle.words.specs.Tab.{tab}
 use Rattle.words.specs.Part.{Untouched}
 use Rattle.ids.specs.Limits.{ranges}
+use Rattle.ids.specs.declared.Refusal.{Refusal}
+use Rattle.ids.specs.declared.Refusal.TheVariants.{TooManyRanges}
 use Rattle.layout.specs.Layout.{roster_row, roster_words}
 use Rattle.inty.specs.Value.{value_of}
 use Rattle.roster_ranges.specs.Range.{Range, goes_on}
@@ -40,20 +43,11 @@ abbrev pub range_list : Option Row → List Range
 range_list None = []
 range_list (Some r) = range_of r ∷ []
 
-abbrev pub capped : List Range → Option (List Range)
-capped l = if leb (length l) ranges then Some l else None
+-- the same words lent on, each as it was or written
+abbrev pub SameWords : MutBor (List ℕ) → MutBor (List ℕ) → Type 0
+SameWords s t = (t.ghost_name ≡ s.ghost_name) × (length t.now ≡ length s.now)
 
-abbrev pub shown : Option ℕ → List ℕ → Option (List Range)
-shown (Some n) s = Some (ranges_of s n)
-shown None s = None
-
-abbrev pub size : Option ℕ → ℕ
-size (Some n) = n
-size None = 0
-
--- what storing l in the words s leaves: the words t, and how many rows they are, where there are not too many
-pub record Stores (l : List Range) (s t : List ℕ) (r : Option ℕ) : Type 0 where
-  pub outcome : shown r t ≡ capped l
-  pub refused : r ≡ None → t ≡ s
-  pub few : size r ≤ ranges
-  pub beyond : Untouched roster_words s t
+-- what storing l in the words s leaves: it, as the first n rows of the words t, or a refusal where there are too many
+abbrev pub Stores : List Range → List ℕ → Result (Unit {0}) Refusal → List ℕ → ℕ → Type 0
+Stores l s (Ok u) t n = (length l ≤ ranges) × (ranges_of t n ≡ l) × Untouched roster_words s t
+Stores l s (Err r) t n = (ranges < length l) × (r ≡ TooManyRanges) × (t ≡ s)

@@ -7,9 +7,10 @@ ghost use Rattle.layout.specs.Layout.{roster_row, roster_words};
 ghost use Rattle.inty.specs.Value.{value_of};
 ghost use Rattle.roster_ranges.specs.Range.{Range, inside, at, mask_at, goes_on, push as pushed, push_all, below, above, each, overwrite, remask, remasked};
 ghost use Rattle.bitmap.specs.Bitmap.{set_to};
-ghost use Rattle.roster_map.specs.Rows.{range_of, row_words, range_at, ranges_of, extends_last, range_list, Stores};
+ghost use Rattle.words.specs.Part.{Untouched};
+ghost use Rattle.roster_map.specs.Rows.{range_of, row_words, range_at, ranges_of, extends_last, range_list, SameWords, Stores};
 
-use ids::Replica;
+use ids::{Refusal, Replica};
 use inty::Inty;
 
 #[derive(Clone, Copy, PartialEq, Eq)]
@@ -56,34 +57,6 @@ fn put_row(rows: &mut [u64], i: usize, row: Row)
     rows[p + 4] = row.mask;
 }
 
-fn holds(row: Row, n: Inty) -> bool
-    ensures { result ≡ inside (range_of row) (value_of n) }
-{
-    row.start <= n && n <= row.end
-}
-
-// The mask stored at n.
-pub fn at(rows: &[u64], count: usize, n: Inty) -> Option<u64>
-    requires { count * roster_row ≤ length rows.now }
-    ensures { result ≡ at (ranges_of rows.now count) (value_of n) }
-{
-    for i in 0..count {
-        let row = get_row(rows, i);
-        if holds(row, n) {
-            return Some(row.mask);
-        }
-    }
-    None
-}
-
-// The mask at n, the default where none is stored.
-pub fn get(rows: &[u64], count: usize, default: u64, n: Inty) -> u64
-    requires { count * roster_row ≤ length rows.now }
-    ensures { result ≡ mask_at default (ranges_of rows.now count) (value_of n) }
-{
-    at(rows, count, n).unwrap_or(default)
-}
-
 // Whether r goes on from x with the same mask.
 pub fn goes_on(x: Row, r: Row) -> bool
     ensures { result ≡ goes_on (range_of x) (range_of r) }
@@ -91,129 +64,198 @@ pub fn goes_on(x: Row, r: Row) -> bool
     x.mask == r.mask && x.end.is_next(r.start)
 }
 
-fn extends_last(rows: &[u64], n: usize, row: Row) -> bool
-    requires { n * roster_row ≤ length rows.now }
-    ensures { result ≡ extends_last (ranges_of rows.now n) (range_of row) }
-{
-    n > 0 && goes_on(get_row(rows, n - 1), row)
-}
-
-// A row after the last of n; how many there are then.
-fn push(rows: &mut [u64], n: usize, row: Row) -> usize
-    requires { n * roster_row + roster_row ≤ length rows.old }
-    ensures { (ranges_of rows.new result ≡ pushed (ranges_of rows.old n) (range_of row)) × (result ≤ n + 1) }
-{
-    if extends_last(rows, n, row) {
-        let last = n - 1;
-        let x = get_row(rows, last);
-        let joined = Row { end: row.end, ..x };
-        put_row(rows, last, joined);
-        return n;
+impl Row {
+    fn holds(self, n: Inty) -> bool
+        ensures { result ≡ inside (range_of self) (value_of n) }
+    {
+        self.start <= n && n <= self.end
     }
-    put_row(rows, n, row);
-    n + 1
-}
 
-// What of a row lies below a.
-fn below(row: Row, a: Inty) -> Option<Row>
-    ensures { range_list result ≡ below (value_of a) (range_of row) }
-{
-    let part = Row {
-        end: row.end.min(a.pred()),
-        ..row
-    };
-    (row.start < a).then_some(part)
-}
-
-// What of a row lies above b.
-fn above(row: Row, b: Inty) -> Option<Row>
-    ensures { range_list result ≡ above (value_of b) (range_of row) }
-{
-    let next = b.succ()?;
-    let part = Row {
-        start: row.start.max(next),
-        ..row
-    };
-    (b < row.end).then_some(part)
-}
-
-fn without(row: Row, id: Replica) -> Row
-    ensures { range_of result ≡ remask (λ m. set_to m id.0 false) (range_of row) }
-{
-    Row {
-        mask: bitmap::set(row.mask, id, false),
-        ..row
+    // What of it lies below a.
+    fn below(self, a: Inty) -> Option<Row>
+        ensures { range_list result ≡ below (value_of a) (range_of self) }
+    {
+        let part = Row {
+            end: self.end.min(a.pred()),
+            ..self
+        };
+        (self.start < a).then_some(part)
     }
-}
 
-// What `keep` keeps of each of `count` rows, after the n that stand in out.
-fn pass<F: Fn(Row) -> Option<Row>>(
-    out: &mut [u64],
-    n: usize,
-    rows: &[u64],
-    count: usize,
-    keep: F,
-) -> usize
-    ghost kept: { Range → List Range }
-    requires room { (count * roster_row ≤ length rows.now) × (n * roster_row + count * roster_row ≤ length out.old) }
-    requires keeps { F.IsAlwaysCallable keep × ((r : Row) (o : Option Row) → F.post keep r o → range_list o ≡ kept (range_of r)) }
-    ensures { (ranges_of out.new result ≡ push_all (ranges_of out.old n) (each kept (ranges_of rows.now count))) × (result ≤ n + count) }
-{
-    let mut m = n;
-    for i in 0..count {
-        if let Some(row) = keep(get_row(rows, i)) {
-            m = push(out, m, row);
+    // What of it lies above b.
+    fn above(self, b: Inty) -> Option<Row>
+        ensures { range_list result ≡ above (value_of b) (range_of self) }
+    {
+        let next = b.succ()?;
+        let part = Row {
+            start: self.start.max(next),
+            ..self
+        };
+        (b < self.end).then_some(part)
+    }
+
+    fn without(self, id: Replica) -> Row
+        ensures { range_of result ≡ remask (λ m. set_to m id.0 false) (range_of self) }
+    {
+        Row {
+            mask: bitmap::set(self.mask, id, false),
+            ..self
         }
     }
-    m
 }
 
-// w over the rows, into out.
-fn overwritten(out: &mut [u64], rows: &[u64], count: usize, w: Row) -> usize
-    requires { (count ≤ 64) × (count * roster_row ≤ length rows.now) × (CUT_WORDS ≤ length out.old) }
-    ensures { (ranges_of out.new result ≡ overwrite (ranges_of rows.now count) (range_of w)) × (result * roster_row ≤ CUT_WORDS) }
-{
-    let n = pass(out, 0, rows, count, |row| below(row, w.start));
-    let m = push(out, n, w);
-    pass(out, m, rows, count, |row| above(row, w.end))
+// The first `count` rows of lent words.
+#[derive(Clone, Copy)]
+pub struct RangeMap<'a> {
+    pub rows: &'a [u64],
+    pub count: usize,
+    ghost within: { count * roster_row ≤ length rows.now },
 }
 
-// The rows without a replica, into out.
-fn filtered(out: &mut [u64], rows: &[u64], count: usize, id: Replica) -> usize
-    requires { (count * roster_row ≤ length rows.now) × (count * roster_row ≤ length out.old) }
-    ensures { (ranges_of out.new result ≡ remasked (λ k. set_to k id.0 false) (ranges_of rows.now count)) × (result ≤ count) }
-{
-    pass(out, 0, rows, count, |row| Some(without(row, id)))
-}
-
-fn store(rows: &mut [u64], out: &[u64], n: usize) -> Option<usize>
-    requires { (n * roster_row ≤ length out.now) × (roster_words ≤ length rows.old) }
-    ensures { Stores (ranges_of out.now n) rows.old rows.new result }
-{
-    if n > RANGES {
-        return None;
+impl RangeMap<'_> {
+    // The mask stored at n.
+    #[tactic(auto, using(crate::proofs::Laws::from_start, crate::proofs::Laws::found, crate::proofs::Laws::passed, crate::proofs::Laws::lost))]
+    pub fn at(&self, n: Inty) -> Option<u64>
+        ensures { result ≡ at (ranges_of self.now.rows.now self.now.count) (value_of n) }
+    {
+        for i in 0..self.count {
+            let row = get_row(self.rows, i);
+            if row.holds(n) {
+                return Some(row.mask);
+            }
+        }
+        None
     }
-    words::copy_words(rows, out, n * layout::ROSTER_ROW);
-    Some(n)
+
+    // The mask at n, the default where none is stored.
+    pub fn get(&self, default: u64, n: Inty) -> u64
+        ensures { result ≡ mask_at default (ranges_of self.now.rows.now self.now.count) (value_of n) }
+    {
+        self.at(n).unwrap_or(default)
+    }
 }
 
-// `set`: w over the rows.
-pub fn set(rows: &mut [u64], count: usize, w: Row) -> Option<usize>
-    requires { (count ≤ 64) × (roster_words ≤ length rows.old) }
-    ensures { Stores (overwrite (ranges_of rows.old count) (range_of w)) rows.old rows.new result }
+// `RangeMap::at` of rows that come with their number.
+pub fn at(rows: &[u64], count: usize, n: Inty) -> Option<u64>
+    requires { count * roster_row ≤ length rows.now }
+    ensures { result ≡ at (ranges_of rows.now count) (value_of n) }
 {
-    let mut out = [0; CUT_WORDS];
-    let n = overwritten(&mut out, rows, count, w);
-    store(rows, &out, n)
+    RangeMap { rows, count }.at(n)
 }
 
-// A replica out of each row; how many there are then.
-pub fn filter(rows: &mut [u64], count: usize, id: Replica) -> usize
-    requires { (count ≤ 64) × (roster_words ≤ length rows.old) }
-    ensures { Stores (remasked (λ m. set_to m id.0 false) (ranges_of rows.old count)) rows.old rows.new (Some result) }
-{
-    let mut out = [0; layout::ROSTER_WORDS];
-    let n = filtered(&mut out, rows, count, id);
-    words::copy_words(rows, &out, n * layout::ROSTER_ROW);
-    n
+// `RangeMap` to change.
+#[derive(Drop)]
+pub struct RangeMapMut<'a> {
+    pub rows: &'a mut [u64],
+    pub count: usize,
+    ghost within: { count * roster_row ≤ length rows.now },
+}
+
+impl RangeMapMut<'_> {
+    fn as_ref(&self) -> RangeMap<'_>
+        ensures { (result.rows.now ≡ self.now.rows.now) × (result.count ≡ self.now.count) }
+    {
+        RangeMap {
+            rows: self.rows,
+            count: self.count,
+        }
+    }
+
+    fn row(&self, i: usize) -> Row
+        requires { i * roster_row + roster_row ≤ length self.now.rows.now }
+        ensures { range_of result ≡ range_at self.now.rows.now (i * roster_row) }
+    {
+        get_row(self.rows, i)
+    }
+
+    #[tactic(auto, using(crate::proofs::Laws::extends_some, crate::proofs::Laws::extends_none))]
+    fn extends_last(&self, row: Row) -> bool
+        ensures { result ≡ extends_last (ranges_of self.now.rows.now self.now.count) (range_of row) }
+    {
+        self.count > 0 && goes_on(self.row(self.count - 1), row)
+    }
+
+    // A row after the last.
+    #[tactic(auto, using(crate::proofs::Laws::extends_pos, crate::proofs::Laws::push_adds, crate::proofs::Laws::put_beyond))]
+    fn push(&mut self, row: Row)
+        requires { self.old.count * roster_row + roster_row ≤ length self.old.rows.now }
+        ensures words { SameWords self.old.rows self.new.rows }
+        ensures pushed { ranges_of self.new.rows.now self.new.count ≡ pushed (ranges_of self.old.rows.now self.old.count) (range_of row) }
+        ensures few { self.new.count ≤ self.old.count + 1 }
+        ensures beyond { Untouched ((self.old.count + 1) * roster_row) self.old.rows.now self.new.rows.now }
+    {
+        if self.extends_last(row) {
+            let last = self.count - 1;
+            let x = self.row(last);
+            let joined = Row { end: row.end, ..x };
+            put_row(self.rows, last, joined);
+        } else {
+            put_row(self.rows, self.count, row);
+            self.count += 1;
+        }
+    }
+
+    // What `keep` keeps of each row of `from`.
+    fn pass<F: Fn(Row) -> Option<Row>>(&mut self, from: RangeMap<'_>, keep: F)
+        ghost kept: { Range → List Range }
+        requires room { self.old.count * roster_row + from.count * roster_row ≤ length self.old.rows.now }
+        requires keeps { F.IsAlwaysCallable keep × ((r : Row) (o : Option Row) → F.post keep r o → range_list o ≡ kept (range_of r)) }
+        ensures words { SameWords self.old.rows self.new.rows }
+        ensures passed { ranges_of self.new.rows.now self.new.count ≡ push_all (ranges_of self.old.rows.now self.old.count) (each kept (ranges_of from.entry.rows.now from.entry.count)) }
+        ensures few { self.new.count ≤ self.old.count + from.entry.count }
+    {
+        for i in 0..from.count {
+            if let Some(row) = keep(get_row(from.rows, i)) {
+                self.push(row);
+            }
+        }
+    }
+
+    // The rows of out in place of these.
+    fn store(&mut self, out: RangeMap<'_>) -> Result<(), Refusal>
+        requires { roster_words ≤ length self.old.rows.now }
+        ensures words { SameWords self.old.rows self.new.rows }
+        ensures stored { Stores (ranges_of out.entry.rows.now out.entry.count) self.old.rows.now result self.new.rows.now self.new.count }
+    {
+        if out.count > RANGES {
+            return Err(Refusal::TooManyRanges);
+        }
+        words::copy_words(self.rows, out.rows, out.count * layout::ROSTER_ROW);
+        self.count = out.count;
+        Ok(())
+    }
+
+    // `set`: w over the rows.
+    pub fn set(&mut self, w: Row) -> Result<(), Refusal>
+        requires { (self.old.count ≤ 64) × (roster_words ≤ length self.old.rows.now) }
+        ensures words { SameWords self.old.rows self.new.rows }
+        ensures stored { Stores (overwrite (ranges_of self.old.rows.now self.old.count) (range_of w)) self.old.rows.now result self.new.rows.now self.new.count }
+    {
+        // A fixed array, since there is no heap.
+        let mut words = [0; CUT_WORDS];
+        let mut out = RangeMapMut {
+            rows: &mut words,
+            count: 0,
+        };
+        let rows = self.as_ref();
+        out.pass(rows, |row| row.below(w.start));
+        out.push(w);
+        out.pass(rows, |row| row.above(w.end));
+        self.store(out.as_ref())
+    }
+
+    // A replica out of each row. In place, since no more rows stand than were read.
+    pub fn filter(&mut self, id: Replica)
+        ensures words { SameWords self.old.rows self.new.rows }
+        ensures filtered { ranges_of self.new.rows.now self.new.count ≡ remasked (λ m. set_to m id.0 false) (ranges_of self.old.rows.now self.old.count) }
+        ensures few { self.new.count ≤ self.old.count }
+        ensures beyond { Untouched (self.old.count * roster_row) self.old.rows.now self.new.rows.now }
+    {
+        let count = self.count;
+        self.count = 0;
+        for i in 0..count {
+            let row = self.row(i);
+            self.push(row.without(id));
+        }
+    }
 }

@@ -1,22 +1,20 @@
 // `show`: a roster's ranges ascending, then its default, as items.
 #![tactic(auto)]
 
-ghost use Rattle.std.specs.Prelude.{◌≡◌, ◌+◌, ◌*◌, ◌≤◌, length};
+ghost use Rattle.std.specs.Prelude.{◌≡◌, ◌≤◌};
 ghost use Rattle.words.specs.Writes.{writes};
-ghost use Rattle.layout.specs.Layout.{roster_row};
 ghost use Rattle.items.specs.Item.{item_of, encode, places};
-ghost use Rattle.roster_map.specs.Rows.{range_at, ranges_of};
+ghost use Rattle.roster_map.specs.Rows.{range_of, ranges_of};
 ghost use Rattle.roster_show.specs.Show.{span_of, spans_of, Listing, listing};
 
 use ids::Refusal;
 use items::Item;
 use roster_conf::RespondersConf;
+use roster_map::{RangeMap, Row};
 
-fn span(rows: &[u64], i: usize) -> Item
-    requires { i * roster_row + roster_row ≤ length rows.now }
-    ensures { item_of result ≡ span_of (range_at rows.now (i * roster_row)) }
+fn span(row: Row) -> Item
+    ensures { item_of result ≡ span_of (range_of row) }
 {
-    let row = roster_map::get_row(rows, i);
     Item::Span {
         start: row.start,
         end: row.end,
@@ -24,16 +22,18 @@ fn span(rows: &[u64], i: usize) -> Item
     }
 }
 
-fn put_spans(rows: &[u64], count: usize, area: &mut [u64])
-    requires { (count * roster_row ≤ length rows.now) × (count ≤ places area.old) }
-    ensures { area.new ≡ writes area.old 0 (encode (spans_of (ranges_of rows.now count))) }
+#[tactic(auto, using(crate::proofs::Listing::no_span))]
+fn put_spans(map: RangeMap<'_>, area: &mut [u64])
+    requires { map.count ≤ places area.old }
+    ensures { area.new ≡ writes area.old 0 (encode (spans_of (ranges_of map.entry.rows.now map.entry.count))) }
 {
-    for i in 0..count {
-        items::put_item(area, i, span(rows, i));
+    for i in 0..map.count {
+        items::put_item(area, i, span(roster_map::get_row(map.rows, i)));
     }
 }
 
 // 2, 20, or the number of the items.
+#[tactic(auto, using(crate::proofs::Listing::show_2, crate::proofs::Listing::show_20))]
 pub fn show(conf: RespondersConf, rows: &[u64], area: &mut [u64]) -> Result<usize, Refusal>
     ensures { ◌≡◌ {A = Listing} (record { answer = result; area = area.new }) (listing conf rows.now area.old) }
 {
@@ -43,7 +43,11 @@ pub fn show(conf: RespondersConf, rows: &[u64], area: &mut [u64]) -> Result<usiz
     if area.len() / 6 <= conf.count {
         return Err(Refusal::AreaTooSmall);
     }
-    put_spans(rows, conf.count, area);
+    let map = RangeMap {
+        rows,
+        count: conf.count,
+    };
+    put_spans(map, area);
     items::put_item(area, conf.count, Item::Rest(conf.default));
     Ok(conf.count + 1)
 }

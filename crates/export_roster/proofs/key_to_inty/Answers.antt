@@ -4,6 +4,3 @@ use Rattle.export_roster.proofs.key_to_inty.Goals as goal
 
 pub returns-in-Some : goal.returns-in-Some
 returns-in-Some c = search (rules, law.key_read)
-
-pub returns-in-None : goal.returns-in-None
-returns-in-None c = search (rules, law.key_unread)

@@ -8,4 +8,4 @@ use Rattle.roster_show.proofs.put_spans.Given as goal
 
 abbrev pub invariant-loop-i : goal.invariant-loop-i
 invariant-loop-i l =
-    (length l.area ≡ length l.initial.area) × (l.area ≡ writes l.initial.area 0 (encode (spans_of (ranges_of l.rows l.i))))
+    (length l.area ≡ length l.initial.area) × (l.area ≡ writes l.initial.area 0 (encode (spans_of (ranges_of l.map.rows.now l.i))))

@@ -1,6 +1,6 @@
 use Rattle.inty.specs.Value.{value_of}
 use Rattle.roster_ranges.specs.Range.{below, above}
-use Rattle.roster_map.proofs.overwritten.Given as goal
+use Rattle.roster_map.proofs.RangeMapMut.set.Given as goal
 
 abbrev pub ghost-pass : goal.ghost-pass
 ghost-pass a = below (value_of a.keep.0.now)

@@ -1,6 +1,0 @@
-use Rattle.roster_map.proofs.Laws as law
-use borrow.Author.Rules.{rules}
-use Rattle.roster_map.proofs.filtered.Goals as goal
-
-pub returns : goal.returns
-returns c = search (rules, law.filter_is)
