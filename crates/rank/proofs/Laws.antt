@@ -11,7 +11,8 @@ use borrow.Author.Tests.{leb-true, leb-false, le-leb, lt-leb, ltb-true, ltb-fals
 use lib.Dec.{leb, ltb}
 use Rattle.std.specs.List.{count_by}
 use Rattle.std.proofs.lemmas.List.Recursion.{is_count_by}
-use lib.ListN.{length, get_or}
+use lib.ListN.{length, get_or, take}
+use Rattle.std.proofs.lemmas.List.{take_all}
 use Rattle.rank.specs.Sort.{insert, sort, count_le}
 
 -- P of each element
@@ -128,13 +129,16 @@ pub rank_count : (v : ℕ) (l : List ℕ) (k : ℕ) → k < length l → get_or 
 rank_count v l k h g = rw count_sort at (nth_count v (sort l) k (sorted_sort l) (rw length_sort h) g)
 
 -- what the code counts
-pub count_is : (v : ℕ) (l : List ℕ) → count_by (λ x. leb x v) l ≡ count_le v l
+count_is : (v : ℕ) (l : List ℕ) → count_by (λ x. leb x v) l ≡ count_le v l
 unfolding count_le
 count_is v l = sym (is_count_by (count_le v) (λ x. leb x v) refl (λ x xs. step (leb x v) (count_le v xs)) l)
   where
     step : (t : Bool) (n : ℕ) → (if t then 1 else 0) + n ≡ cond t (1 + n) n
     step true n = refl
     step false n = omega arith
+
+pub count_end : (v : ℕ) (l : List ℕ) (i n : ℕ) → length l ≤ i → n ≡ count_by (λ x. leb x v) (take i l) → n ≡ count_le v l
+count_end v l i n h e = e ∙ ap (count_by (λ x. leb x v)) (take_all i l h) ∙ count_is v l
 
 -- by cases on an order
 by_lt : {A : Type 0} (a b : ℕ) → (a < b → A) → (b ≤ a → A) → A

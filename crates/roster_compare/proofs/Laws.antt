@@ -4,11 +4,13 @@ use mathlib.Core.Path.{◌≡◌, refl, sym, ap, ◌∙◌}
 use mathlib.Core.Bool.{Bool, true, false, not, ◌&&◌, ◌||◌, and-false, and-true}
 use mathlib.Core.List.{List, ◌∷◌, []}
 use Rattle.std.specs.Prelude.{Some}
-use Prim.Native.Nat.{ℕ, suc, ◌+◌, ◌*◌, ◌≤◌, ◌<◌}
+use Prim.Native.Nat.{ℕ, zero, suc, ◌+◌, ◌-◌, ◌*◌, ◌≤◌}
 use native.Mathlib.Omega.{arith}
-use lib.Dec.{ltb, leb, eqb}
+use lib.Dec.{leb, eqb}
 use lib.ListN.{length, take}
-use borrow.Author.Tests.{ltb-true, ltb-false, le-leb}
+use Rattle.std.specs.List.{list_all, list_any, range_with_len}
+use Rattle.words.specs.Tab.{tab}
+use borrow.Author.Tests.{le-leb, ne_eqb}
 use Rattle.words.specs.Writes.{writes}
 use Rattle.ids.specs.declared.Replica.{Replica}
 use Rattle.ids.specs.Leader.{leader_of}
@@ -17,7 +19,7 @@ use Rattle.bitmap.specs.Bitmap.{fits}
 use Rattle.roster_ranges.specs.Range.{Range}
 use Rattle.roster_ranges.specs.Canon.{heads, is_canon}
 use Rattle.roster_map.specs.Rows.{range_at, ranges_of}
-use Rattle.roster_map.proofs.Laws.{rows_from, from_first, from_none, from_all, length_ranges, rows_same}
+use Rattle.roster_map.proofs.Laws.{rows_from, length_ranges, rows_same}
 use Rattle.roster_conf.specs.declared.RespondersConf.{RespondersConf}
 use Rattle.roster_conf.specs.Conf.{same, same_leader, same_range, same_ranges}
 use Rattle.roster_conf.specs.Edits.{view}
@@ -33,26 +35,20 @@ lengths_differ [] (y ∷ ys) h = refl
 lengths_differ (x ∷ xs) [] h = refl
 lengths_differ (x ∷ xs) (y ∷ ys) h = sym (ap (λ (b : Bool). same_range x y && b) (sym (lengths_differ xs ys (λ e. h (ap suc e)))) ∙ and-false (same_range x y))
 
-pub counts_differ : (s u : List ℕ) (n k : ℕ) → (n ≡ k → ⊥) → false ≡ same_ranges (ranges_of s n) (ranges_of u k)
-counts_differ s u n k h = lengths_differ (ranges_of s n) (ranges_of u k) (λ e. h (sym (length_ranges s n) ∙ e ∙ length_ranges u k))
+pub counts_differ : (s u : List ℕ) (n k : ℕ) → (n ≡ k → ⊥) → eqb n k ≡ same_ranges (ranges_of s n) (ranges_of u k)
+counts_differ s u n k h = ne_eqb n k h ∙ lengths_differ (ranges_of s n) (ranges_of u k) (λ e. h (sym (length_ranges s n) ∙ e ∙ length_ranges u k))
 
-pub rows_start : (s u : List ℕ) (n k : ℕ) → n ≡ k → same_ranges (rows_from s 0 n) (rows_from u 0 n) ≡ same_ranges (ranges_of s n) (ranges_of u k)
-rows_start s u n k e = rw (from_all s n, from_all u n) (ap (λ (z : ℕ). same_ranges (ranges_of s n) (ranges_of u z)) e)
+-- the rows from i on, one by one
+same_from : (s u : List ℕ) (i n : ℕ)
+    → list_all (λ j. same_range (range_at s (j * roster_row)) (range_at u (j * roster_row))) (range_with_len i n)
+    ≡ same_ranges (tab (λ j. range_at s (j * roster_row)) i n) (tab (λ j. range_at u (j * roster_row)) i n)
+same_from s u i zero = refl
+same_from s u i (suc n) = ap (λ (b : Bool). same_range (range_at s (i * roster_row)) (range_at u (i * roster_row)) && b) (same_from s u (i + 1) n)
 
--- m is the answer; t whether row i is the same in both
-module _ (s u : List ℕ) (n i : ℕ) (m : Bool) where
-  module _ (x y : Range) (t : Bool) (h : i < n) (p : x ≡ range_at s (i * roster_row)) (q : y ≡ range_at u (i * roster_row)) (e : t ≡ same_range x y) (g : same_ranges (rows_from s i n) (rows_from u i n) ≡ m) where
-    cut : t && same_ranges (rows_from s (i + 1) n) (rows_from u (i + 1) n) ≡ m
-    cut = rw (e, p, q) (sym (rw (from_first s i n h, from_first u i n h)) ∙ g)
-
-    pub row_differs : t ≡ false → false ≡ m
-    row_differs f = sym (ap (λ (b : Bool). b && same_ranges (rows_from s (i + 1) n) (rows_from u (i + 1) n)) f) ∙ cut
-
-    pub row_same : t ≡ true → same_ranges (rows_from s (i + 1) n) (rows_from u (i + 1) n) ≡ m
-    row_same f = sym (ap (λ (b : Bool). b && same_ranges (rows_from s (i + 1) n) (rows_from u (i + 1) n)) f) ∙ cut
-
-  pub rows_end : n ≤ i → same_ranges (rows_from s i n) (rows_from u i n) ≡ m → true ≡ m
-  rows_end h g = sym (rw (from_none s i n h, from_none u i n h)) ∙ g
+pub same_rows_are : (s u : List ℕ) (n k : ℕ) → n ≡ k
+    → list_all (λ j. same_range (range_at s (j * roster_row)) (range_at u (j * roster_row))) (range_with_len 0 n) ≡ same_ranges (ranges_of s n) (ranges_of u k)
+unfolding ranges_of
+same_rows_are s u n k e = same_from s u 0 n ∙ ap (λ (z : ℕ). same_ranges (ranges_of s n) (ranges_of u z)) e
 
 -- ---- the rosters
 
@@ -72,38 +68,21 @@ module _ (c d : RespondersConf) (s u : List ℕ) (t : Bool) (e : t ≡ same_lead
 
 -- ---- rows that no edits make
 
-pub canon_start : (s : List ℕ) (n : ℕ) → is_canon (rows_from s 0 n) ≡ is_canon (ranges_of s n)
-canon_start s n = rw (from_all s n)
+-- whether row i of n is a range that the next one does not touch
+abbrev pub heads_at : List ℕ → ℕ → ℕ → Bool
+heads_at s n i = heads (range_at s (i * roster_row)) (rows_from s (i + 1) n)
 
-module _ (s : List ℕ) (n i : ℕ) (m : Bool) where
-  abbrev this : Range
-  this = range_at s (i * roster_row)
+canon_from : (s : List ℕ) (n i k : ℕ) → i + k ≡ n → list_all (heads_at s n) (range_with_len i k) ≡ is_canon (tab (λ j. range_at s (j * roster_row)) i k)
+unfolding is_canon
+canon_from s n i zero e = refl
+canon_from s n i (suc k) e =
+    let f : n - (i + 1) ≡ k = omega arith in
+    rw f (ap (λ (b : Bool). heads (range_at s (i * roster_row)) (tab (λ j. range_at s (j * roster_row)) (i + 1) k) && b) (canon_from s n (i + 1) k (omega arith)))
 
-  module _ (t : Bool) (h : i < n) (e : (n ≤ i + 1 → t ≡ heads this []) × (i + 1 < n → t ≡ heads this (range_at s ((i + 1) * roster_row) ∷ []))) (g : is_canon (rows_from s i n) ≡ m) where
-    heads_rest : t ≡ heads this (rows_from s (i + 1) n)
-    heads_rest = go (ltb (i + 1) n) refl
-      where
-        go : (b : Bool) → ltb (i + 1) n ≡ b → t ≡ heads this (rows_from s (i + 1) n)
-        go true k = let l = ltb-true (i + 1) n k in e.1 l ∙ sym (ap (heads this) (from_first s (i + 1) n l))
-        go false k = let l = ltb-false (i + 1) n k in e.0 l ∙ sym (ap (heads this) (from_none s (i + 1) n l))
-
-    rest_too : t && is_canon (rows_from s (i + 1) n) ≡ m
-    unfolding is_canon
-    rest_too = ap (λ (b : Bool). b && is_canon (rows_from s (i + 1) n)) heads_rest ∙ sym (ap is_canon (from_first s i n h)) ∙ g
-
-    pub row_touches : t ≡ false → false ≡ m
-    row_touches f = sym (ap (λ (b : Bool). b && is_canon (rows_from s (i + 1) n)) f) ∙ rest_too
-
-    pub row_heads : t ≡ true → is_canon (rows_from s (i + 1) n) ≡ m
-    row_heads f = sym (ap (λ (b : Bool). b && is_canon (rows_from s (i + 1) n)) f) ∙ rest_too
-
-  pub canon_end : n ≤ i → is_canon (rows_from s i n) ≡ m → true ≡ m
-  unfolding is_canon
-  canon_end h g = sym (ap is_canon (from_none s i n h)) ∙ g
-
-pub unformed_is : (c : RespondersConf) (s : List ℕ) (t : Bool) → c.count ≤ 64 → t ≡ is_canon (ranges_of s c.count) → not t ≡ unformed (Some (view c s))
-unfolding view
-unformed_is c s t h e = rw (length_ranges s c.count, le-leb c.count 64 h, ← e) (ap not (sym (and-true t)))
+pub unformed_is : (c : RespondersConf) (s : List ℕ) (t : Bool) → c.count ≤ 64 → t ≡ list_all (heads_at s c.count) (range_with_len 0 c.count) → not t ≡ unformed (Some (view c s))
+unfolding view ranges_of
+unformed_is c s t h e =
+    rw (length_ranges s c.count, le-leb c.count 64 h, ← canon_from s c.count 0 c.count (omega arith), ← e) (ap not (sym (and-true t)))
 
 -- ---- who is not there
 
@@ -121,31 +100,22 @@ leader_is p c t Q m f rows = go c.leader m
 abbrev pub misfit : ℕ → Range → Bool
 misfit p x = not (fits x.mask p)
 
-pub any_start : (s : List ℕ) (n p : ℕ) → any (misfit p) (rows_from s 0 n) ≡ any (misfit p) (ranges_of s n)
-any_start s n p = rw (from_all s n)
+any_from : (s : List ℕ) (p i n : ℕ) → list_any (λ j. misfit p (range_at s (j * roster_row))) (range_with_len i n) ≡ any (misfit p) (tab (λ j. range_at s (j * roster_row)) i n)
+any_from s p i zero = refl
+any_from s p i (suc n) = ap (λ (b : Bool). misfit p (range_at s (i * roster_row)) || b) (any_from s p (i + 1) n)
 
-module _ (s : List ℕ) (n i p : ℕ) (m : Bool) where
-  module _ (r : Range) (t : Bool) (h : i < n) (q : r ≡ range_at s (i * roster_row)) (e : t ≡ fits r.mask p) (g : any (misfit p) (rows_from s i n) ≡ m) where
-    shorter : not t || any (misfit p) (rows_from s (i + 1) n) ≡ m
-    shorter = rw (e, q) (sym (rw (from_first s i n h)) ∙ g)
+module _ (p : ℕ) (c : RespondersConf) (s : List ℕ) (t : Bool) (e : t ≡ list_any (λ j. misfit p (range_at s (j * roster_row))) (range_with_len 0 c.count)) where
+  any_is : any (misfit p) (ranges_of s c.count) ≡ t
+  unfolding ranges_of
+  any_is = sym (any_from s p 0 c.count) ∙ sym e
 
-    pub any_here : t ≡ false → true ≡ m
-    any_here f = sym (ap (λ (b : Bool). not b || any (misfit p) (rows_from s (i + 1) n)) f) ∙ shorter
-
-    pub any_later : t ≡ true → any (misfit p) (rows_from s (i + 1) n) ≡ m
-    any_later f = sym (ap (λ (b : Bool). not b || any (misfit p) (rows_from s (i + 1) n)) f) ∙ shorter
-
-  pub any_end : n ≤ i → any (misfit p) (rows_from s i n) ≡ m → false ≡ m
-  any_end h g = sym (rw (from_none s i n h)) ∙ g
-
-module _ (p : ℕ) (c : RespondersConf) (s : List ℕ) (t : Bool) (e : t ≡ any (misfit p) (ranges_of s c.count)) where
   pub row_misfits : t ≡ true → t ≡ foreign_mask p (Some (view c s))
   unfolding view
-  row_misfits f = f ∙ sym (simp (sym e ∙ f))
+  row_misfits f = f ∙ sym (simp (any_is ∙ f))
 
   pub rows_fit : (u : Bool) → t ≡ false → u ≡ fits c.default p → not u ≡ foreign_mask p (Some (view c s))
   unfolding view
-  rows_fit u f g = ap not g ∙ sym (simp (sym e ∙ f))
+  rows_fit u f g = ap not g ∙ sym (simp (any_is ∙ f))
 
 -- ---- the rows copied
 

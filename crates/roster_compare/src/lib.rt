@@ -2,8 +2,9 @@
 // that are not there, and its rows copied.
 #![tactic(auto)]
 
-ghost use Rattle.std.specs.Prelude.{◌≡◌, ◌&&◌, not, List, [], ◌∷◌, ℕ, ◌+◌, ◌*◌, ◌≤◌, ◌<◌, ltb, length, take};
+ghost use Rattle.std.specs.Prelude.{◌≡◌, ◌&&◌, not, List, [], ◌∷◌, ℕ, ◌+◌, ◌-◌, ◌*◌, ◌≤◌, ◌<◌, ltb, length, take};
 ghost use Rattle.std.specs.Prelude.{Some};
+ghost use Rattle.words.specs.Tab.{tab};
 ghost use Rattle.words.specs.Writes.{writes};
 ghost use Rattle.layout.specs.Layout.{roster_row, roster_words};
 ghost use Rattle.bitmap.specs.Bitmap.{fits};
@@ -19,33 +20,20 @@ use ids::{Ballot, Replica};
 use roster_conf::RespondersConf;
 use roster_map::Row;
 
-fn same_row(x: Row, y: Row) -> bool
-    ensures { result ≡ same_range (range_of x) (range_of y) }
+fn same_rows(c: RespondersConf, crows: &[u64], d: RespondersConf, drows: &[u64]) -> bool
+    requires { (c.count * roster_row ≤ length crows.now) × (d.count * roster_row ≤ length drows.now) }
+    ensures { result ≡ same_ranges (ranges_of crows.now c.count) (ranges_of drows.now d.count) }
 {
-    x == y
+    c.count == d.count
+        && (0..c.count).all(|i| roster_map::get_row(crows, i) == roster_map::get_row(drows, i))
 }
 
-fn same_rows(crows: &[u64], n: usize, drows: &[u64], k: usize) -> bool
-    requires { (n * roster_row ≤ length crows.now) × (k * roster_row ≤ length drows.now) }
-    ensures { result ≡ same_ranges (ranges_of crows.now n) (ranges_of drows.now k) }
-{
-    if n != k {
-        return false;
-    }
-    for i in 0..n {
-        if !same_row(roster_map::get_row(crows, i), roster_map::get_row(drows, i)) {
-            return false;
-        }
-    }
-    true
-}
-
-// `==`: as they are stored.
+// `==`: as they are stored. No type has both the short part and the lent rows, and derives it.
 pub fn same(c: RespondersConf, crows: &[u64], d: RespondersConf, drows: &[u64]) -> bool
     requires { (c.count * roster_row ≤ length crows.now) × (d.count * roster_row ≤ length drows.now) }
     ensures { result ≡ same (roster_of c crows.now) (roster_of d drows.now) }
 {
-    c.leader == d.leader && same_rows(crows, c.count, drows, d.count) && c.default == d.default
+    c.leader == d.leader && same_rows(c, crows, d, drows) && c.default == d.default
 }
 
 // Whether y begins after x ends, and does not go on from it.
@@ -58,22 +46,10 @@ fn is_apart(x: Row, y: Row) -> bool
 // Whether row i of n is a range that the next one does not touch.
 fn heads(rows: &[u64], i: usize, n: usize) -> bool
     requires { (i < n) × (n * roster_row ≤ length rows.now) }
-    ensures { (n ≤ i + 1 → result ≡ heads (range_at rows.now (i * roster_row)) []) × (i + 1 < n → result ≡ heads (range_at rows.now (i * roster_row)) (range_at rows.now ((i + 1) * roster_row) ∷ [])) }
+    ensures { result ≡ heads (range_at rows.now (i * roster_row)) (tab (λ j. range_at rows.now (j * roster_row)) (i + 1) (n - (i + 1))) }
 {
     let row = roster_map::get_row(rows, i);
     row.start <= row.end && (i + 1 >= n || is_apart(row, roster_map::get_row(rows, i + 1)))
-}
-
-fn is_canon(rows: &[u64], n: usize) -> bool
-    requires { n * roster_row ≤ length rows.now }
-    ensures { result ≡ is_canon (ranges_of rows.now n) }
-{
-    for i in 0..n {
-        if !heads(rows, i, n) {
-            return false;
-        }
-    }
-    true
 }
 
 // Whether no edits make such rows.
@@ -81,7 +57,7 @@ pub fn is_unformed(c: RespondersConf, rows: &[u64]) -> bool
     requires { (c.count ≤ 64) × (roster_words ≤ length rows.now) }
     ensures { result ≡ unformed (Some (roster_of c rows.now)) }
 {
-    !is_canon(rows, c.count)
+    !(0..c.count).all(|i| heads(rows, i, c.count))
 }
 
 // The leader is not below the population.
@@ -91,25 +67,13 @@ pub fn foreign_leader(population: u8, c: RespondersConf) -> bool
     c.leader.is_some_and(|l| l.0 >= population)
 }
 
-fn foreign_rows(population: u8, rows: &[u64], n: usize) -> bool
-    requires { n * roster_row ≤ length rows.now }
-    ensures { result ≡ any (λ (x : Range). not (fits x.mask population)) (ranges_of rows.now n) }
-{
-    for i in 0..n {
-        let row = roster_map::get_row(rows, i);
-        if !bitmap::fits(row.mask, population) {
-            return true;
-        }
-    }
-    false
-}
-
 // A mask has a bit at or above the population.
 pub fn foreign_mask(population: u8, c: RespondersConf, rows: &[u64]) -> bool
     requires { c.count * roster_row ≤ length rows.now }
     ensures { result ≡ foreign_mask population (Some (roster_of c rows.now)) }
 {
-    foreign_rows(population, rows, c.count) || !bitmap::fits(c.default, population)
+    (0..c.count).any(|i| !bitmap::fits(roster_map::get_row(rows, i).mask, population))
+        || !bitmap::fits(c.default, population)
 }
 
 // The rows of c, from one lent buffer into another; what lies past them stays as it was.

@@ -1,18 +1,19 @@
+use Rattle.std.proofs.Common.{◌∙◌, ◌*◌, refl, rules, tests, arith}
+use Rattle.std.proofs.lemmas.Iterator.{YieldsList-from_range}
+use Rattle.std.proofs.lemmas.Iterator.Search.{all_from_yields_List}
+use Rattle.layout.specs.Layout.{roster_row}
+use Rattle.roster_map.specs.Rows.{range_at}
+use Rattle.roster_conf.specs.Conf.{same_range}
 use Rattle.roster_compare.proofs.Laws as law
-use borrow.Author.Rules.{rules}
 use Rattle.roster_compare.proofs.same_rows.Goals as goal
 
-pub returns-then-n-k : goal.returns-then-n-k
-returns-then-n-k c = search (rules, law.counts_differ)
+pub returns-then-c-d : goal.returns-then-c-d
+returns-then-c-d c =
+    let s = c.args.crows.now in
+    let u = c.args.drows.now in
+    all_from_yields_List (λ i. same_range (range_at s (i * roster_row)) (range_at u (i * roster_row))) _ _ _ c.all.ensures.ran
+    (YieldsList-from_range 0 c.args.c.count c.args.c.count refl (omega arith)) (λ x b q k. search (rules, tests))
+    ∙ law.same_rows_are s u c.args.c.count c.args.d.count c.if-c-d.true
 
-pub loop-i-init : goal.loop-i-init
-loop-i-init c = (search rules, search (rules, law.rows_start))
-
-pub returns-then-not-same_row : goal.returns-then-not-same_row
-returns-then-not-same_row c = search (rules, law.row_differs)
-
-pub loop-i-preserved : goal.loop-i-preserved
-loop-i-preserved c = (search rules, search (rules, law.row_same))
-
-pub returns : goal.returns
-returns c = search (rules, law.rows_end)
+pub returns-else-c-d : goal.returns-else-c-d
+returns-else-c-d c = law.counts_differ _ _ _ _ c.if-c-d.false
