@@ -94,7 +94,8 @@ pub fn holding(insts: Insts<'_>, slot: Slot) -> usize
     }
 }
 
-// `release_held_read_reqs` for a slot: its items after those that are put, and its queue emptied.
+// `release_held_read_reqs` for a slot: its items after those that are put, and its queue emptied. The quorum and the
+// leader are two arguments: a struct of both would be made at each call only to be taken apart here.
 pub fn release(
     insts: &mut InstsMut<'_>,
     slot: Slot,

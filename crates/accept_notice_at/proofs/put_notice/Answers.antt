@@ -3,4 +3,4 @@ use Rattle.accept_notice_at.proofs.Laws as law
 use Rattle.accept_notice_at.proofs.put_notice.Goals as goal
 
 pub returns : goal.returns
-returns c = search (rules, law.notice_put)
+returns c = let e = rw c.as_ref.ensures at c.load-cell.ensures in search (rules, law.notice_put, e)
