@@ -44,7 +44,8 @@ fn is_for(bal: Ballot, ballot: Ballot, last: bool) -> bool
 
 // A slot with the notice.
 fn put_notice(insts: &mut InstsMut<'_>, slot: Slot, notice: Notice)
-    ensures { Sets insts.old.words.now (place_of slot.0) (with_notice notice.peer.0 notice.ballot.0 (inst_in insts.old.words.now (place_of slot.0))) insts.new.words.now }
+    ensures same_reference { insts.new.words.ghost_name ≡ insts.old.words.ghost_name }
+    ensures sets { Sets insts.old.words.now (place_of slot.0) (with_notice notice.peer.0 notice.ballot.0 (inst_in insts.old.words.now (place_of slot.0))) insts.new.words.now }
 {
     let cell = insts.as_ref().load(slot);
     insts.clear_unseen(slot);
@@ -80,7 +81,9 @@ fn notice_in(
     items: &mut Items<'_>,
 )
     requires { items.old.count + length (noticed_items quorum (leader_of leader) notice.peer.0 notice.ballot.0 last (inst_in insts.old.words.now (place_of slot.0))) ≤ places items.old.area.now }
-    ensures { Notes quorum (leader_of leader) notice.peer.0 notice.ballot.0 last (place_of slot.0) items.old.count insts.old.words.now items.old.area.now items.new.count insts.new.words.now items.new.area.now }
+    ensures same_words { insts.new.words.ghost_name ≡ insts.old.words.ghost_name }
+    ensures same_area { items.new.area.ghost_name ≡ items.old.area.ghost_name }
+    ensures notes { Notes quorum (leader_of leader) notice.peer.0 notice.ballot.0 last (place_of slot.0) items.old.count insts.old.words.now items.old.area.now items.new.count insts.new.words.now items.new.area.now }
 {
     if !is_for(insts.as_ref().load(slot).bal, notice.ballot, last) {
         return;
@@ -123,7 +126,9 @@ pub fn notice_at(
 )
     requires below { k < slot_places }
     requires room { items.old.count + length (noticed_at quorum (leader_of leader) notice.peer.0 notice.ballot.0 k (insts_of window.start.0 window.held insts.old.words.now)).items ≤ places items.old.area.now }
-    ensures { NotesAt quorum (leader_of leader) notice.peer.0 notice.ballot.0 window.start.0 window.held k items.old.count insts.old.words.now items.old.area.now items.new.count insts.new.words.now items.new.area.now }
+    ensures same_words { insts.new.words.ghost_name ≡ insts.old.words.ghost_name }
+    ensures same_area { items.new.area.ghost_name ≡ items.old.area.ghost_name }
+    ensures notes { NotesAt quorum (leader_of leader) notice.peer.0 notice.ballot.0 window.start.0 window.held k items.old.count insts.old.words.now items.old.area.now items.new.count insts.new.words.now items.new.area.now }
 {
     let held = held_after(window.held, k);
     insts.pad(window, held);
