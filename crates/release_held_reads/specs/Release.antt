@@ -1,6 +1,6 @@
 -- Bridge: `release_held_read_reqs` for one slot, over what it reads of the replica: quorum, leader and the slot's
 -- instance; tied to `release_held_read_reqs` by proofs/Machine.
-use Rattle.std.specs.Prelude.{◌≡◌, Bool, not, List, [], map, ℕ, ◌*◌, length, if◌then◌else◌}
+use Rattle.std.specs.Prelude.{◌≡◌, Bool, not, List, [], map, ℕ, ◌+◌, ◌*◌, length, if◌then◌else◌}
 use Rattle.std.specs.Prelude.{Option}
 use Rattle.words.specs.Choice.{if_none◌then◌else◌}
 use Rattle.words.specs.Writes.{writes}
@@ -26,8 +26,13 @@ answers_of quorum leader i = map (answer_to (is_bound quorum i) leader i.reqs) (
 abbrev pub emptied : Instance → Instance
 emptied i = if_none i.replica_bk then i else λ b. with_replica_bk (with_holding [] b) i
 
--- what a release of the slot at place c leaves: so many items r, the slots' words t, and the area after
+-- items put from a place of the area on leave the next place, and the area after
+pub record Answered (place : ℕ) (area : List ℕ) (l : List Item) (r : ℕ) (area' : List ℕ) : Type 0 where
+  pub next : r ≡ place + length l
+  pub items : area' ≡ writes area (place * 6) (encode l)
+
+-- what a release of the slot at place c leaves: the next place r of the area, the slots' words t, and the area after
 pub record Releases (quorum : ℕ) (leader : Option ℕ) (c place : ℕ) (s area : List ℕ) (r : ℕ) (t area' : List ℕ) : Type 0 where
-  pub count : r ≡ length (answers_of quorum leader (inst_in s c))
+  pub next : r ≡ place + length (answers_of quorum leader (inst_in s c))
   pub items : area' ≡ writes area (place * 6) (encode (answers_of quorum leader (inst_in s c)))
   pub emptied : Puts s c (short_at s c) (batch_at s c) [] t

@@ -1,27 +1,25 @@
-// localread.rs: whether the write of a slot is bound to commit, and the reads that the slot holds, answered. The slots
-// stand in lent words of crate insts.
+// localread.rs: whether the write of a slot is bound to commit, and the reads that the slot holds, answered.
 #![tactic(auto)]
 
-ghost use Rattle.std.specs.Prelude.{◌≡◌, false, List, ℕ, ◌+◌, ◌*◌, ◌≤◌, ◌<◌, leb, length};
+ghost use Rattle.std.specs.Prelude.{◌≡◌, false, ◌+◌, ◌≤◌, List, leb, length};
 ghost use Rattle.words.specs.Choice.{if_none◌then◌else◌};
-ghost use Rattle.words.specs.Tab.{tab};
-ghost use Rattle.words.specs.Writes.{writes};
 ghost use Rattle.bitmap.specs.Bitmap.{count};
 ghost use Rattle.ids.specs.Leader.{leader_of};
-ghost use Rattle.layout.specs.Layout.{slot_places, held_places, batch_words, held_words, slot_words};
-ghost use Rattle.items.specs.Item.{item_of, encode, places};
+ghost use Rattle.layout.specs.Layout.{held_places, batch_words};
+ghost use Rattle.items.specs.Item.{item_of, places};
 ghost use Rattle.bodega.specs.Replica.{Request, ReadReq as Held};
 ghost use Rattle.bodega.specs.Localread.{is_bound};
 ghost use Rattle.inst_cell.specs.Cell.{cell_of, book_of};
 ghost use Rattle.inst_reqs.specs.Batch.{requests_of};
-ghost use Rattle.inst_holding.specs.Held.{read_of, read_at};
-ghost use Rattle.insts.specs.Slots.{inst_of, inst_in};
-ghost use Rattle.release_held_reads.specs.Release.{answer_to, holding_of, Releases};
+ghost use Rattle.inst_holding.specs.Held.{read_of};
+ghost use Rattle.insts.specs.Slots.{place_of, inst_of, inst_in};
+ghost use Rattle.release_held_reads.specs.Release.{answer_to, answers_of, holding_of, Answered, Releases};
 
-use ids::Replica;
+use ids::{Replica, Slot};
 use inst_cell::{Cell, NoticeBook, Status};
 use inst_holding::ReadReq;
-use items::Item;
+use insts::{Insts, InstsMut};
+use items::{Item, Items};
 
 // Whether a quorum has sent notices.
 pub fn has_quorum(book: Option<NoticeBook>, quorum: u8) -> bool
@@ -66,63 +64,47 @@ fn answer_to(bound: bool, leader: Option<Replica>, batch: &[u64], read: ReadReq)
     }
 }
 
-// The first n reads, in order, from a place of the area on.
+// What the reads get that a slot holds, in order.
 fn put_answers(
-    bound: bool,
+    insts: Insts<'_>,
+    slot: Slot,
+    quorum: u8,
     leader: Option<Replica>,
-    batch: &[u64],
-    reads: &[u64],
-    n: usize,
-    area: &mut [u64],
-    place: usize,
+    items: &mut Items<'_>,
 )
-    requires { (batch_words ≤ length batch.now) × (held_words ≤ length reads.now) × (n ≤ held_places) × (place + n ≤ places area.old) }
-    ensures { area.new ≡ writes area.old (place * 6) (encode (tab (λ i. answer_to bound (leader_of leader) (requests_of batch.now) (read_at reads.now i)) 0 n)) }
+    requires { items.old.count + length (holding_of (inst_in insts.words.now (place_of slot.0))) ≤ places items.old.area.now }
+    ensures { Answered items.old.count items.old.area.now (answers_of quorum (leader_of leader) (inst_in insts.entry.words.now (place_of slot.0))) items.new.count items.new.area.now }
 {
-    for i in 0..n {
-        let item = answer_to(bound, leader, batch, inst_holding::get(reads, i));
-        items::put_item(area, place + i, item);
+    let bound = is_bound(insts.load(slot), quorum);
+    let batch = insts.batch(slot);
+    let reads = insts.reads(slot);
+    for i in 0..holding(insts, slot) {
+        items.push(answer_to(bound, leader, batch, inst_holding::get(reads, i)));
     }
 }
 
-// How many reads the slot at place c holds: none where it has no notice book.
-pub fn holding(s: &[u64], c: usize) -> usize
-    requires { (c < slot_places) × (slot_words ≤ length s.now) }
-    ensures { (result ≡ length (holding_of (inst_in s.now c))) × (result ≤ held_places) }
+// How many reads a slot holds: none where it has no notice book.
+pub fn holding(insts: Insts<'_>, slot: Slot) -> usize
+    ensures { (result ≡ length (holding_of (inst_in insts.entry.words.now (place_of slot.0)))) × (result ≤ held_places) }
 {
-    if insts::load(s, c).replica_bk.is_some() {
-        insts::count_reads(s, c)
+    if insts.load(slot).replica_bk.is_some() {
+        insts.count_reads(slot)
     } else {
         0
     }
 }
 
-// `release_held_read_reqs` for the slot at place c: its items from a place of the area on, and its queue emptied.
-// Returns how many items.
+// `release_held_read_reqs` for a slot: its items after those that are put, and its queue emptied.
 pub fn release(
-    s: &mut [u64],
-    c: usize,
+    insts: &mut InstsMut<'_>,
+    slot: Slot,
     quorum: u8,
     leader: Option<Replica>,
-    area: &mut [u64],
-    place: usize,
-) -> usize
-    requires { (c < slot_places) × (slot_words ≤ length s.old) × (place + length (holding_of (inst_in s.old c)) ≤ places area.old) }
-    ensures { Releases quorum (leader_of leader) c place s.old area.old result s.new area.new }
+    items: &mut Items<'_>,
+)
+    requires { items.old.count + length (holding_of (inst_in insts.old.words.now (place_of slot.0))) ≤ places items.old.area.now }
+    ensures { Releases quorum (leader_of leader) (place_of slot.0) items.old.count insts.old.words.now items.old.area.now items.new.count insts.new.words.now items.new.area.now }
 {
-    let n = holding(s, c);
-    let bound = is_bound(insts::load(s, c), quorum);
-    let batch = insts::batch_at(c);
-    let reads = insts::reads_at(c);
-    put_answers(
-        bound,
-        leader,
-        &s[batch..batch + layout::BATCH_WORDS],
-        &s[reads..reads + layout::HELD_WORDS],
-        n,
-        area,
-        place,
-    );
-    insts::clear_reads(s, c);
-    n
+    put_answers(insts.as_ref(), slot, quorum, leader, items);
+    insts.clear_reads(slot);
 }

@@ -1,21 +1,25 @@
-use Rattle.std.proofs.Common.{refl, rules}
+use Rattle.std.proofs.Common.{◌≡◌, arith}
 use Rattle.ids.specs.Leader.{leader_of}
-use Rattle.items.specs.Item.{encode}
-use Rattle.inst_reqs.specs.Batch.{requests_of}
-use Rattle.inst_holding.specs.Held.{read_at}
-use Rattle.release_held_reads.specs.Release.{answer_to}
+use Rattle.insts.specs.Slots.{place_of}
 use Rattle.release_held_reads.proofs.Laws as law
 use Rattle.release_held_reads.proofs.put_answers.Goals as goal
 
 pub loop-i-init : goal.loop-i-init
-unfolding encode
-loop-i-init c = (refl, refl)
+loop-i-init c = law.none_put
 
 pub loop-i-preserved : goal.loop-i-preserved
 loop-i-preserved c =
+    let l = c.loop-i in
+    law.next_answer c.is_bound-bound.result (leader_of c.args.leader) c.batch-batch.result.now c.reads-reads.result.now l.i c.holding-i-end.result _ _ l.invariant c.loop-i-test.true (omega (arith, c.holding-i-end.ensures.0))
+    _ c.get.ensures _ c.answer_to.ensures _ _ _ c.push.ensures.put c.push.ensures.counted
+
+pub returns : goal.returns
+returns c =
     let a = c.args in
-    let l = c.loop-i in (
-      search rules,
-      law.next_item (answer_to a.bound (leader_of a.leader) (requests_of a.batch.now)) (read_at a.reads.now) a.area.now l.area _ a.place l.i a.n _ _ _
-          c.put_item.ensures l.invariant.1 c.loop-i-test.true c.requires.3 c.answer_to-item.ensures c.get.ensures,
-    )
+    let n = c.holding-i-end.result in
+    let z : n ≡ c.loop-i.i = omega arith in
+    rw (
+      law.answers_are c.is_bound-bound.result (leader_of a.leader) c.batch-batch.result.now c.reads-reads.result.now a.quorum a.insts.words.now (place_of a.slot.0) n c.load.result
+          c.holding-i-end.ensures.0 c.load.ensures c.is_bound-bound.ensures c.batch-batch.ensures.0 c.reads-reads.ensures.0,
+      z,
+    ) c.loop-i.invariant
