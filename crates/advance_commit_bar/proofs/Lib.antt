@@ -1,3 +1,4 @@
 pub mod Items
+pub mod Slots
 pub mod Pass
 pub mod Laws

@@ -74,19 +74,6 @@ module _ (stop : Instance → Bool) (f : Instance → Instance) (g : ℕ → Ins
       left_items : stop here ≡ false → length (left k s).items ≡ length (g (start + k) here) + length (left (k + 1) s).items
       left_items e = ap (λ (w : Walk). length w.items) (left_pass e) ∙ length-append (g (start + k) here) (left (k + 1) s).items
 
-    -- ---- the items counted
-
-    module _ (k count total : ℕ) (s : List ℕ) (c : count + length (left k s).items ≡ total) where
-      pub count_end : min n end ≤ k → count ≡ total
-      count_end h = let e : length (left k s).items ≡ 0 = rw (left_end k s h) in omega arith
-
-      module _ (h : k < min n end) (t : Bool) (e : t ≡ stop (inst_in s ((start + k) % slot_places))) where
-        pub count_stop : t ≡ true → count ≡ total
-        count_stop y = let z : length (left k s).items ≡ 0 = rw (left_stop k s h (sym e ∙ y)) in omega arith
-
-        pub count_step : t ≡ false → (r : ℕ) → r ≡ length (g (start + k) (inst_in s ((start + k) % slot_places))) → count + r + length (left (k + 1) s).items ≡ total
-        count_step y r q = omega (arith, left_items k s h (sym e ∙ y))
-
     -- ---- the pass done, from the slot of number `from` and from a place of the area on
 
     module _ (from place : ℕ) (s₀ area₀ : List ℕ) where

@@ -16,17 +16,25 @@ stops_at ballot i = ltb i.bal ballot || ltb (order i.status) 2
 abbrev pub one_if_open : Instance → ℕ
 one_if_open i = if is_open i.status then 1 else 0
 
-abbrev pub mark_items : ℕ → Instance → List Item
-mark_items slot i = if is_open i.status then Commit slot ∷ [] else []
+abbrev pub item_if_open : Item → Instance → List Item
+item_if_open x i = if is_open i.status then x ∷ [] else []
 
-abbrev pub mark_short : Short → Short
-mark_short x = if is_open x.status then with_status Committed x else x
+abbrev pub change_open : (Short → Short) → Short → Short
+change_open f x = if is_open x.status then f x else x
 
--- the slot at place c passed: the slots' words t, the area after, and the next place r
-pub record Marks (c place slot : ℕ) (s area : List ℕ) (r : ℕ) (t area' : List ℕ) : Type 0 where
+-- the slot at place c changed by f if it is open, with the item x: the slots' words t, the area after, and the next
+-- place r
+pub record ChangesOpen (f : Short → Short) (x : Item) (c place : ℕ) (s area : List ℕ) (r : ℕ) (t area' : List ℕ) : Type 0 where
   pub next : r ≡ place + one_if_open (inst_in s c)
-  pub items : area' ≡ writes area (place * 6) (encode (mark_items slot (inst_in s c)))
-  pub marked : Puts s c (mark_short (short_at s c)) (batch_at s c) (reads_at s c) t
+  pub items : area' ≡ writes area (place * 6) (encode (item_if_open x (inst_in s c)))
+  pub changed : Puts s c (change_open f (short_at s c)) (batch_at s c) (reads_at s c) t
+
+-- the slot at place c passed by the walk
+abbrev pub mark_items : ℕ → Instance → List Item
+mark_items slot i = item_if_open (Commit slot) i
+
+abbrev pub Marks : ℕ → ℕ → ℕ → List ℕ → List ℕ → ℕ → List ℕ → List ℕ → Type 0
+Marks c place slot s area r t area' = ChangesOpen (with_status Committed) (Commit slot) c place s area r t area'
 
 -- the walk of `advance_commit_bar` at n slots from start on
 abbrev pub walked : ℕ → ℕ → ℕ → ℕ → ℕ → List ℕ → Walk

@@ -2,103 +2,109 @@
 // lent words of crate insts.
 #![tactic(auto)]
 
-ghost use Rattle.std.specs.Prelude.{◌≡◌, ◌+◌, ◌-◌, ◌≤◌, ◌<◌, min, length};
-ghost use Rattle.ids.specs.Limits.{top};
-ghost use Rattle.layout.specs.Layout.{slot_places, slot_words};
-ghost use Rattle.items.specs.Item.{places};
-ghost use Rattle.insts.specs.Slots.{inst_in};
-ghost use Rattle.advance_commit_bar.specs.Walk.{stops_at, one_if_open, Marks, walked, Advances};
+ghost use Rattle.std.specs.Prelude.{◌≡◌, ◌+◌, ◌-◌, ◌≤◌, min, length};
+ghost use Rattle.items.specs.Item.{item_of, places};
+ghost use Rattle.inst_cell.specs.Cell.{Short, cell_of};
+ghost use Rattle.insts.specs.Slots.{inst_in, place_of};
+ghost use Rattle.advance_commit_bar.specs.Walk.{stops_at, one_if_open, ChangesOpen, Marks, walked, Advances};
 
 use ids::{Ballot, Slot};
-use inst_cell::Status;
-use items::Item;
+use inst_cell::{Cell, Status};
+use insts::{Insts, InstsMut, Window};
+use items::{Item, Items};
 
-// Whether the walk ends before the slot at place c.
+// Whether the walk ends before a slot.
 #[tactic(auto, unfolding(insts::specs::Slots::inst_in))]
-fn stops(s: &[u64], c: usize, ballot: Ballot) -> bool
-    requires { (c < slot_places) × (slot_words ≤ length s.now) }
-    ensures { result ≡ stops_at ballot.0 (inst_in s.now c) }
+fn stops(insts: Insts<'_>, slot: Slot, ballot: Ballot) -> bool
+    ensures { result ≡ stops_at ballot.0 (inst_in insts.entry.words.now (place_of slot.0)) }
 {
-    let cell = insts::load(s, c);
+    let cell = insts.load(slot);
     cell.bal < ballot || inst_cell::is_below_accepting(cell.status)
 }
 
-// How many items an open slot gives.
-pub fn one_if_open(s: &[u64], c: usize) -> usize
-    requires { (c < slot_places) × (slot_words ≤ length s.now) }
-    ensures { result ≡ one_if_open (inst_in s.now c) }
+// An open slot changed, with its item; another one stays, without it.
+pub fn change_open<F: Fn(Cell) -> Cell>(
+    insts: &mut InstsMut<'_>,
+    slot: Slot,
+    items: &mut Items<'_>,
+    item: Item,
+    change: F,
+)
+    ghost changed: { Short → Short }
+    requires changes { F.IsAlwaysCallable change × ((x y : Cell) → F.post change x y → cell_of y ≡ changed (cell_of x)) }
+    requires room { items.old.count + one_if_open (inst_in insts.old.words.now (place_of slot.0)) ≤ places items.old.area.now }
+    ensures { ChangesOpen changed (item_of item) (place_of slot.0) items.old.count insts.old.words.now items.old.area.now items.new.count insts.new.words.now items.new.area.now }
 {
-    usize::from(insts::is_open(s, c))
-}
-
-// A slot that the walk passes: marked Committed, with its item, unless it was already. Gives the next place of the
-// area.
-fn mark(s: &mut [u64], c: usize, area: &mut [u64], place: usize, slot: Slot) -> usize
-    requires { (c < slot_places) × (slot_words ≤ length s.old) × (place + one_if_open (inst_in s.old c) ≤ places area.old) }
-    ensures { Marks c place slot.0 s.old area.old result s.new area.new }
-{
-    if !insts::is_open(s, c) {
-        return place;
+    if insts.as_ref().is_open(slot) {
+        let cell = change(insts.as_ref().load(slot));
+        insts.store(slot, cell);
+        items.push(item);
     }
-    insts::set_status(s, c, Status::Committed);
-    items::put_item(area, place, Item::Commit(slot));
-    place + 1
 }
 
-// How many of n slots from start on are below the bar.
-fn reach(start: Slot, n: usize, bar: Slot) -> usize
-    ensures { result ≡ min n (bar.0 - start.0) }
+// A slot that the walk passes: marked Committed, with its item, unless it was already.
+fn mark(insts: &mut InstsMut<'_>, slot: Slot, items: &mut Items<'_>)
+    requires { items.old.count + one_if_open (inst_in insts.old.words.now (place_of slot.0)) ≤ places items.old.area.now }
+    ensures { Marks (place_of slot.0) items.old.count slot.0 insts.old.words.now items.old.area.now items.new.count insts.new.words.now items.new.area.now }
 {
-    n.min(bar.0.saturating_sub(start.0) as usize)
+    change_open(
+        insts,
+        slot,
+        items,
+        Item::Commit(slot),
+        |cell| Cell {
+            status: Status::Committed,
+            ..cell
+        },
+    );
+}
+
+// How many slots of the window are below the bar.
+fn reach(window: Window, bar: Slot) -> usize
+    ensures { result ≡ min window.held (bar.0 - window.start.0) }
+{
+    window
+        .held
+        .min(bar.0.saturating_sub(window.start.0) as usize)
 }
 
 // How many items the walk has.
 pub fn count_commits(
-    s: &[u64],
-    start: Slot,
-    n: usize,
+    insts: Insts<'_>,
+    window: Window,
     commit: Slot,
     ballot: Ballot,
     bar: Slot,
 ) -> usize
-    requires { (start.0 ≤ commit.0) × (commit.0 ≤ start.0 + n) × (start.0 ≤ top) × (n ≤ slot_places) × (slot_words ≤ length s.now) }
-    ensures { result ≡ length (walked start.0 n commit.0 ballot.0 bar.0 s.now).items }
+    requires { (window.start.0 ≤ commit.0) × (commit.0 ≤ window.start.0 + window.held) }
+    ensures { result ≡ length (walked window.start.0 window.held commit.0 ballot.0 bar.0 insts.entry.words.now).items }
 {
-    let from = (commit.0 - start.0) as usize;
-    let mut count = 0;
-    for k in from..reach(start, n, bar) {
-        let c = ((start.0 + k as u64) % layout::PLACES) as usize;
-        if stops(s, c, ballot) {
-            return count;
-        }
-        count += one_if_open(s, c);
-    }
-    count
+    let from = (commit.0 - window.start.0) as usize;
+    (from..reach(window, bar))
+        .map(|k| window.slot(k))
+        .take_while(|slot| !stops(insts, *slot, ballot))
+        .filter(|slot| insts.is_open(*slot))
+        .count()
 }
 
-// The walk, with its items from a place of the area on. Gives the place after them.
+// The walk, with its items.
 pub fn advance(
-    s: &mut [u64],
-    area: &mut [u64],
-    place: usize,
-    start: Slot,
-    n: usize,
+    insts: &mut InstsMut<'_>,
+    window: Window,
     commit: Slot,
     ballot: Ballot,
     bar: Slot,
-) -> usize
-    requires { (start.0 ≤ commit.0) × (commit.0 ≤ start.0 + n) × (start.0 ≤ top) × (n ≤ slot_places) × (slot_words ≤ length s.old) × (place + length (walked start.0 n commit.0 ballot.0 bar.0 s.old).items ≤ places area.old) }
-    ensures { Advances place start.0 n commit.0 ballot.0 bar.0 s.old area.old result s.new area.new }
+    items: &mut Items<'_>,
+)
+    requires { (window.start.0 ≤ commit.0) × (commit.0 ≤ window.start.0 + window.held) × (items.old.count + length (walked window.start.0 window.held commit.0 ballot.0 bar.0 insts.old.words.now).items ≤ places items.old.area.now) }
+    ensures { Advances items.old.count window.start.0 window.held commit.0 ballot.0 bar.0 insts.old.words.now items.old.area.now items.new.count insts.new.words.now items.new.area.now }
 {
-    let from = (commit.0 - start.0) as usize;
-    let mut at = place;
-    for k in from..reach(start, n, bar) {
-        let slot = Slot(start.0 + k as u64);
-        let c = (slot.0 % layout::PLACES) as usize;
-        if stops(s, c, ballot) {
-            return at;
+    let from = (commit.0 - window.start.0) as usize;
+    for k in from..reach(window, bar) {
+        let slot = window.slot(k);
+        if stops(insts.as_ref(), slot, ballot) {
+            return;
         }
-        at = mark(s, c, area, at, slot);
+        mark(insts, slot, items);
     }
-    at
 }

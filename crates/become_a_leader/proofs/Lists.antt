@@ -1,10 +1,10 @@
 -- The two passes of a step-up as functions on lists, and how many items it has.
 use Rattle.std.specs.Prelude.{if◌then◌else◌}
 use mathlib.Core.Path.{◌≡◌, refl, sym, ap, ◌∙◌}
-use mathlib.Core.Bool.{Bool, true, false, ◌||◌, true≢false}
+use mathlib.Core.Bool.{Bool, true, false, ◌||◌, true≢false, cond}
 use mathlib.Core.List.{List, [], ◌∷◌, ◌++◌, map}
 use Rattle.std.specs.Prelude.{Option, None, Some}
-use Prim.Native.Nat.{ℕ, zero, suc, ◌+◌, ◌-◌, ◌≤◌}
+use Prim.Native.Nat.{ℕ, zero, suc, ◌+◌, ◌-◌, ◌*◌, ◌≤◌}
 use native.Mathlib.Nat.{not-suc-le-zero}
 use native.Mathlib.Omega.{arith}
 use lib.ListN.{length, take, drop, length-append}
@@ -16,6 +16,9 @@ use Rattle.bodega.specs.Heartbeat.{Walk}
 use Rattle.release_held_reads.specs.Release.{holding_of, answers_of, emptied}
 use Rattle.release_held_reads.proofs.Laws.{length_answers}
 use Rattle.advance_commit_bar.proofs.Pass.{pass}
+use Rattle.advance_commit_bar.proofs.Laws.{is_open_at}
+use Rattle.std.specs.List.{filter, position_from, fold}
+use Rattle.std.specs.Option.{unwrap_or}
 use Rattle.become_a_leader.specs.StepUp.{opened, prepared_anew, released_from, step_up, prelog_of}
 use Rattle.become_a_leader.proofs.Open.{first_none, first_last, any_opened, first_opened, last_opened, opened_some}
 
@@ -93,17 +96,61 @@ module _ (start quorum : ℕ) (leader : Option ℕ) (ballot : ℕ) (l : List Ins
   unfolding step_up
   step_opened = rw (opened_some (opened l) (any_opened l), first_opened l, last_opened l)
 
--- where a slot is open, by the places of the first and of the last
-pub step_some : (start quorum : ℕ) (leader : Option ℕ) (ballot : ℕ) (l : List Instance) → any_open l ≡ true → (from last : ℕ) → from ≡ first_open l → last ≡ last_open l
+-- where a slot is open, by the numbers of the first and of the one after the last
+pub step_some : (start quorum : ℕ) (leader : Option ℕ) (ballot : ℕ) (l : List Instance) → any_open l ≡ true → (from to : ℕ) → from ≡ first_open l → to ≡ last_open l + 1
     → step_up start quorum leader ballot l
-    ≡ (let p = prepared_anew start ballot l in let w = released_from quorum leader (last + 1 - from) (drop from p.insts) in
+    ≡ (let p = prepared_anew start ballot l in let w = released_from quorum leader (to - from) (drop from p.insts) in
     record { insts = take from p.insts ++ w.insts; items = Lead true ∷ p.items ++ w.items ++ (Prepare (start + from) ballot ∷ []) })
 unfolding step_up
-step_some start quorum leader ballot l e from last f g =
-    let z : last + 1 - from ≡ suc (last_open l - first_open l) = omega (arith, first_last l) in
+step_some start quorum leader ballot l e from to f g =
+    let z : to - from ≡ suc (last_open l - first_open l) = omega (arith, first_last l) in
     rw (opened_some l e, z, f)
 
--- ---- as the code counts
+-- ---- as the code searches and counts
+
+pub first_is : (l : List Instance) (k : ℕ) → unwrap_or (position_from is_open_at k l) (k + length l) ≡ k + first_open l
+unfolding first_open
+first_is [] k = refl
+first_is (i ∷ l) k = go (is_open i.status) (first_is l (k + 1))
+  where
+    go : (b : Bool) → unwrap_or (position_from is_open_at (k + 1) l) (k + 1 + length l) ≡ k + 1 + first_open l
+        → unwrap_or (cond b (Some k) (position_from is_open_at (k + 1) l)) (k + suc (length l)) ≡ k + (if b then 0 else suc (first_open l))
+    go true e = omega arith
+    go false e = let z : k + suc (length l) ≡ k + 1 + length l = omega arith in rw (z, e) (omega arith)
+
+pub count_prelogs : (slot : ℕ) (l : List Instance) → length (filter is_open_at l) ≡ length (prelogs slot l)
+unfolding prelogs
+count_prelogs slot [] = refl
+count_prelogs slot (i ∷ l) = go (is_open i.status) (count_prelogs (slot + 1) l)
+  where
+    go : (b : Bool) → length (filter is_open_at l) ≡ length (prelogs (slot + 1) l)
+        → length (cond b (i ∷ filter is_open_at l) (filter is_open_at l)) ≡ length (if b then Prelog slot ∷ prelogs (slot + 1) l else prelogs (slot + 1) l)
+    go true e = ap suc e
+    go false e = e
+
+pub prelogs_few : (slot : ℕ) (l : List Instance) → length (prelogs slot l) ≤ length l
+unfolding prelogs
+prelogs_few slot [] = omega arith
+prelogs_few slot (i ∷ l) = go (is_open i.status) (prelogs_few (slot + 1) l)
+  where
+    go : (b : Bool) → length (prelogs (slot + 1) l) ≤ length l → length (if b then Prelog slot ∷ prelogs (slot + 1) l else prelogs (slot + 1) l) ≤ suc (length l)
+    go true e = omega arith
+    go false e = omega arith
+
+pub sum_map : {A B : Type 0} (g : B → ℕ) (f : A → B) (n : ℕ) (l : List A) → fold (λ a x. a + g (f x)) n l ≡ fold (λ a x. a + g x) n (map f l)
+sum_map g f n [] = refl
+sum_map g f n (x ∷ l) = sum_map g f (n + g (f x)) l
+
+pub sum_few : {A : Type 0} (h : A → ℕ) (b : ℕ) → ((x : A) → h x ≤ b) → (n : ℕ) (l : List A) → fold (λ a x. a + h x) n l ≤ n + length l * b
+sum_few h b f n [] = omega arith
+sum_few h b f n (x ∷ l) = omega (arith, sum_few h b f (n + h x) l, f x)
+
+pub held_sum : (n m : ℕ) (l : List Instance) → fold (λ a i. a + length (holding_of i)) n (take m l) ≡ n + length (released_from 0 None m l).items
+unfolding released_from
+held_sum n zero l = omega arith
+held_sum n (suc m) [] = omega arith
+held_sum n (suc m) (i ∷ l) =
+    omega (arith, held_sum (n + length (holding_of i)) m l, length_answers 0 None i, length-append (answers_of 0 None i) (released_from 0 None m l).items)
 
 one_prelog : (start : ℕ) (l : List Instance) → any_open l ≡ false → length (prelogs start (l ++ (null_instance ∷ []))) ≡ 1
 unfolding any_open prelogs
@@ -129,8 +176,8 @@ module _ (start quorum : ℕ) (leader : Option ℕ) (ballot : ℕ) (l : List Ins
       let d : drop (first_open l) (l ++ (null_instance ∷ [])) ≡ null_instance ∷ [] = rw (first_none l e) (drop-append_seam l (null_instance ∷ [])) in
       sym (count_is start quorum leader ballot l ∙ rw (o, d, one_prelog start l e, no_reads (suc (last_open l - first_open l))))
 
-  pub count_some : any_open l ≡ true → (from to opens held : ℕ) → from ≡ first_open l → to ≡ last_open l → opens ≡ length (prelogs start l)
-      → held ≡ length (released_from 0 None (to + 1 - from) (drop from l)).items → 2 + opens + held ≡ length (step_up start quorum leader ballot l).items
+  pub count_some : any_open l ≡ true → (from to opens held : ℕ) → from ≡ first_open l → to ≡ last_open l + 1 → opens ≡ length (prelogs start l)
+      → held ≡ length (released_from 0 None (to - from) (drop from l)).items → 2 + opens + held ≡ length (step_up start quorum leader ballot l).items
   count_some e from to opens held f t o h =
-      let z : to + 1 - from ≡ suc (last_open l - first_open l) = omega (arith, first_last l) in
+      let z : to - from ≡ suc (last_open l - first_open l) = omega (arith, first_last l) in
       rw (o, h, z, f) (sym (count_is start quorum leader ballot l ∙ rw (opened_some l e)))

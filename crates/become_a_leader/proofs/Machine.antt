@@ -20,9 +20,8 @@ use Rattle.bodega.specs.Conflease.{first_open, last_open, any_open, prelogs, pre
 use Rattle.bodega.specs.Heartbeat.{Walk, walk}
 use Rattle.release_held_reads.specs.Release.{answers_of, emptied}
 use Rattle.release_held_reads.proofs.Machine.{release_is}
-use Rattle.become_a_leader.specs.StepUp.{opened, slots_after, released_from, step_up}
+use Rattle.become_a_leader.specs.StepUp.{opened, released_from, step_up}
 use Rattle.become_a_leader.proofs.Open.{first_none, first_last, last_within, any_opened, last_opened}
-use Rattle.become_a_leader.proofs.Lists.{count_is}
 
 -- ---- the reads of slots in a row
 
@@ -112,33 +111,6 @@ module _ (x : Replica) where
       ap stepping insts_are
       ∙ ap (λ (d : Done). done d.replica (Lead true ∷ prelogs x.bar.start (opened held) ++ d.items ++ (Prepare (x.bar.start + first_open held) x.bal.max_seen ∷ [])))
       (release_at leader wide (first_open held) (map (reprepared x.bal.max_seen) (opened held)) fits)
-
--- ---- how many items and slots
-
-pub count_same : (start quorum quorum' : ℕ) (leader leader' : Option ℕ) (ballot ballot' : ℕ) (l : List Instance)
-    → length (step_up start quorum leader ballot l).items ≡ length (step_up start quorum' leader' ballot' l).items
-count_same start quorum quorum' leader leader' ballot ballot' l = count_is start quorum leader ballot l ∙ sym (count_is start quorum' leader' ballot' l)
-
-module _ (quorum : ℕ) (leader : Option ℕ) where
-  same_length : (m : ℕ) (l : List Instance) → length (released_from quorum leader m l).insts ≡ length l
-  unfolding released_from
-  same_length zero l = refl
-  same_length (suc m) [] = refl
-  same_length (suc m) (i ∷ l) = ap suc (same_length m l)
-
-  all_slots : (k m : ℕ) (l : List Instance) → length (take k l ++ (released_from quorum leader m (drop k l)).insts) ≡ length l
-  all_slots zero m l = same_length m l
-  all_slots (suc k) m [] = same_length m []
-  all_slots (suc k) m (i ∷ l) = ap suc (all_slots k m l)
-
-pub length_after : (start quorum : ℕ) (leader : Option ℕ) (ballot : ℕ) (l : List Instance) → length (step_up start quorum leader ballot l).insts ≡ slots_after (length l) l
-unfolding step_up
-length_after start quorum leader ballot l =
-    all_slots quorum leader (first_open l) (suc (last_open l - first_open l)) (map (reprepared ballot) (opened l)) ∙ length-map (opened l) (reprepared ballot) ∙ go (any_open l)
-  where
-    go : (b : Bool) → length (if b then l else l ++ (null_instance ∷ [])) ≡ (if b then length l else length l + 1)
-    go true = refl
-    go false = length-append l (null_instance ∷ [])
 
 -- ---- every open slot is Preparing then
 

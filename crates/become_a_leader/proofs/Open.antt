@@ -36,15 +36,6 @@ last_none (i ∷ l) e = go (is_open i.status) (any_open l) e (last_none l)
     go true b e h = absurd (true≢false e)
     go false b e h = ap suc (h e)
 
-pub none_snoc : (l : List Instance) (i : Instance) → any_open l ≡ false → is_open i.status ≡ false → any_open (l ++ (i ∷ [])) ≡ false
-unfolding any_open
-none_snoc [] i e f = rw f
-none_snoc (x ∷ l) i e f = go (is_open x.status) (any_open l) e (λ h. none_snoc l i h f)
-  where
-    go : (a b : Bool) → (a || b) ≡ false → (b ≡ false → any_open (l ++ (i ∷ [])) ≡ false) → (a || any_open (l ++ (i ∷ []))) ≡ false
-    go true b e h = absurd (true≢false e)
-    go false b e h = h e
-
 pub none_cons : (i : Instance) (l : List Instance) → is_open i.status ≡ false → any_open l ≡ false → any_open (i ∷ l) ≡ false
 unfolding any_open
 none_cons i l e f = rw (e, f)

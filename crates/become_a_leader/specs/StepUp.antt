@@ -4,13 +4,13 @@ use Rattle.std.specs.Prelude.{◌≡◌, true, List, [], ◌∷◌, ◌++◌, ma
 use Rattle.std.specs.Prelude.{Option, Some}
 use Rattle.words.specs.Writes.{writes}
 use Rattle.items.specs.Item.{Item, Lead, Prelog, Prepare, encode}
-use Rattle.bodega.specs.Replica.{Instance, Preparing, is_open, null_instance}
+use Rattle.bodega.specs.Replica.{Instance, Preparing, null_instance}
 use Rattle.bodega.specs.Conflease.{first_open, last_open, any_open, prelogs, reprepared}
 use Rattle.bodega.specs.Heartbeat.{Walk}
 use Rattle.inst_cell.specs.Cell.{Short}
-use Rattle.insts.specs.Slots.{short_at, batch_at, reads_at, inst_in, insts_of, Puts}
+use Rattle.insts.specs.Slots.{insts_of}
 use Rattle.release_held_reads.specs.Release.{answers_of, emptied}
-use Rattle.advance_commit_bar.specs.Walk.{one_if_open}
+use Rattle.advance_commit_bar.specs.Walk.{item_if_open, ChangesOpen}
 
 -- where no slot is open a null one is appended; how many of n are held then
 abbrev pub opened : List Instance → List Instance
@@ -39,10 +39,10 @@ step_up start quorum leader ballot l =
     let w = released_from quorum leader (suc (last_open l - k)) (drop k p.insts) in
     record { insts = take k p.insts ++ w.insts; items = Lead true ∷ p.items ++ w.items ++ (Prepare (start + k) ballot ∷ []) }
 
--- what a step-up leaves: so many items r, the slots' words t, and the area after
-pub record StepsUp (start n quorum : ℕ) (leader : Option ℕ) (ballot : ℕ) (s area : List ℕ) (r : ℕ) (t area' : List ℕ) : Type 0 where
-  pub count : r ≡ length (step_up start quorum leader ballot (insts_of start n s)).items
-  pub items : area' ≡ writes area 0 (encode (step_up start quorum leader ballot (insts_of start n s)).items)
+-- what a step-up leaves: the next place r of the area, the slots' words t, and the area after
+pub record StepsUp (place start n quorum : ℕ) (leader : Option ℕ) (ballot : ℕ) (s area : List ℕ) (r : ℕ) (t area' : List ℕ) : Type 0 where
+  pub next : r ≡ place + length (step_up start quorum leader ballot (insts_of start n s)).items
+  pub items : area' ≡ writes area (place * 6) (encode (step_up start quorum leader ballot (insts_of start n s)).items)
   pub insts : insts_of start (slots_after n (insts_of start n s)) t ≡ (step_up start quorum leader ballot (insts_of start n s)).insts
   pub size : length t ≡ length s
 
@@ -58,17 +58,12 @@ pub record Opens (start n : ℕ) (s : List ℕ) (r : ℕ) (t : List ℕ) : Type 
 abbrev pub prepare_short : ℕ → Short → Short
 prepare_short ballot x = record { bal = ballot; status = Preparing; leader_bk = Some 0; replica_bk = x.replica_bk }
 
-abbrev pub prepare_anew_short : ℕ → Short → Short
-prepare_anew_short ballot x = if is_open x.status then prepare_short ballot x else x
-
 abbrev pub prelog_of : ℕ → Instance → List Item
-prelog_of slot i = if is_open i.status then Prelog slot ∷ [] else []
+prelog_of slot i = item_if_open (Prelog slot) i
 
--- the slot at place c prepared anew: the next place r of the area, the slots' words t, and the area after
-pub record Prelogs (c place slot ballot : ℕ) (s area : List ℕ) (r : ℕ) (t area' : List ℕ) : Type 0 where
-  pub next : r ≡ place + one_if_open (inst_in s c)
-  pub items : area' ≡ writes area (place * 6) (encode (prelog_of slot (inst_in s c)))
-  pub prepared : Puts s c (prepare_anew_short ballot (short_at s c)) (batch_at s c) (reads_at s c) t
+-- the slot at place c prepared anew
+abbrev pub Prelogs : ℕ → ℕ → ℕ → ℕ → List ℕ → List ℕ → ℕ → List ℕ → List ℕ → Type 0
+Prelogs c place slot ballot s area r t area' = ChangesOpen (prepare_short ballot) (Prelog slot) c place s area r t area'
 
 -- of n slots those from the one of number `from` on are as w says; its items stand in the area from a place on
 pub record Passes (w : Walk) (place start n from : ℕ) (s area : List ℕ) (r : ℕ) (t area' : List ℕ) : Type 0 where

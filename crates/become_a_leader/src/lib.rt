@@ -2,214 +2,166 @@
 // slots stand in lent words of crate insts.
 #![tactic(auto)]
 
-ghost use Rattle.std.specs.Prelude.{◌≡◌, ℕ, ◌+◌, ◌-◌, ◌*◌, ◌≤◌, ◌<◌, length, drop};
+ghost use Rattle.std.specs.Prelude.{◌≡◌, true, ℕ, ◌+◌, ◌-◌, ◌*◌, ◌≤◌, ◌<◌, length, drop};
 ghost use Rattle.std.specs.Prelude.{Option, None};
 ghost use Rattle.ids.specs.Leader.{leader_of};
-ghost use Rattle.ids.specs.Limits.{top};
-ghost use Rattle.layout.specs.Layout.{slot_places, held_places, slot_words};
+ghost use Rattle.layout.specs.Layout.{slot_places, held_places};
 ghost use Rattle.items.specs.Item.{places};
-ghost use Rattle.bodega.specs.Conflease.{first_open, last_open, prelogs};
-ghost use Rattle.insts.specs.Slots.{short_at, batch_at, reads_at, inst_in, insts_of, Puts};
+ghost use Rattle.bodega.specs.Conflease.{first_open, last_open, any_open, prelogs};
+ghost use Rattle.insts.specs.Slots.{inst_in, insts_of, place_of};
 ghost use Rattle.advance_commit_bar.specs.Walk.{one_if_open};
-ghost use Rattle.become_a_leader.specs.StepUp.{slots_after, prepared_anew, released_from, step_up, StepsUp, Opens, prepare_short, Prelogs, Passes};
+ghost use Rattle.become_a_leader.specs.StepUp.{slots_after, prepared_anew, released_from, step_up, StepsUp, Opens, Prelogs, Passes};
 
 use ids::{Ballot, Replica, Slot};
 use inst_cell::{Cell, Status};
-use items::Item;
+use insts::{Insts, InstsMut, Window};
+use items::{Item, Items};
+use std::ops::Range;
 
-// How many slots are held after it: one more where none is open.
-pub fn slots_after(s: &[u64], start: Slot, n: usize) -> usize
-    requires { (start.0 ≤ top) × (n ≤ slot_places) × (slot_words ≤ length s.now) }
-    ensures { result ≡ slots_after n (insts_of start.0 n s.now) }
+// The number of the first open slot, that of all where none is.
+fn first_open(insts: Insts<'_>, window: Window) -> usize
+    ensures { result ≡ first_open (insts_of window.start.0 window.held insts.entry.words.now) }
 {
-    if insts::any_open(s, start, n) {
-        n
-    } else {
-        n + 1
-    }
+    insts
+        .position(window, |slot| insts.is_open(slot))
+        .unwrap_or(window.held)
 }
 
-// The number of the first open slot of n, n where none is.
-fn first_open(s: &[u64], start: Slot, n: usize) -> usize
-    requires { (start.0 ≤ top) × (n ≤ slot_places) × (slot_words ≤ length s.now) }
-    ensures { result ≡ first_open (insts_of start.0 n s.now) }
+// The number of the last open slot, that of all where none is.
+fn last_open(insts: Insts<'_>, window: Window) -> usize
+    ensures { result ≡ last_open (insts_of window.start.0 window.held insts.entry.words.now) }
 {
-    for i in 0..n {
-        if insts::is_open(s, ((start.0 + i as u64) % layout::PLACES) as usize) {
-            return i;
+    for k in (0..window.held).rev() {
+        if insts.is_open(window.slot(k)) {
+            return k;
         }
     }
-    n
+    window.held
 }
 
-// The number of the last open slot of n, n where none is.
-fn last_open(s: &[u64], start: Slot, n: usize) -> usize
-    requires { (start.0 ≤ top) × (n ≤ slot_places) × (slot_words ≤ length s.now) }
-    ensures { result ≡ last_open (insts_of start.0 n s.now) }
+// The numbers from that of the first open slot to that of the last.
+fn open_range(insts: Insts<'_>, window: Window) -> Range<usize>
+    requires { any_open (insts_of window.start.0 window.held insts.words.now) ≡ true }
+    ensures starts { result.start ≡ first_open (insts_of window.start.0 window.held insts.entry.words.now) }
+    ensures ends { result.end ≡ last_open (insts_of window.start.0 window.held insts.entry.words.now) + 1 }
 {
-    for i in (0..n).rev() {
-        if insts::is_open(s, ((start.0 + i as u64) % layout::PLACES) as usize) {
-            return i;
-        }
-    }
-    n
+    first_open(insts, window)..last_open(insts, window) + 1
 }
 
-// How many of n slots are open.
-fn count_open(s: &[u64], start: Slot, n: usize) -> usize
-    requires { (start.0 ≤ top) × (n ≤ slot_places) × (slot_words ≤ length s.now) }
-    ensures { (result ≡ length (prelogs start.0 (insts_of start.0 n s.now))) × (result ≤ slot_places) }
+// How many slots are open.
+fn count_open(insts: Insts<'_>, window: Window) -> usize
+    ensures { (result ≡ length (prelogs window.start.0 (insts_of window.start.0 window.held insts.entry.words.now))) × (result ≤ slot_places) }
 {
-    let mut count = 0;
-    for k in 0..n {
-        count += advance_commit_bar::one_if_open(
-            s,
-            ((start.0 + k as u64) % layout::PLACES) as usize,
-        );
-    }
-    count
+    (0..window.held)
+        .map(|k| window.slot(k))
+        .filter(|slot| insts.is_open(*slot))
+        .count()
 }
 
-// How many reads the slots hold from the one of number `from` up to that of number `to`.
-fn count_held(s: &[u64], start: Slot, n: usize, from: usize, to: usize) -> usize
-    requires { (start.0 ≤ top) × (from ≤ to) × (to ≤ n) × (n ≤ slot_places) × (slot_words ≤ length s.now) }
-    ensures { (result ≡ length (released_from 0 None (to - from) (drop from (insts_of start.0 n s.now))).items) × (result ≤ slot_places * held_places) }
+// How many reads the slots of these numbers hold.
+fn count_held(insts: Insts<'_>, window: Window, numbers: Range<usize>) -> usize
+    requires { (numbers.start ≤ numbers.end) × (numbers.end ≤ window.held) }
+    ensures { (result ≡ length (released_from 0 None (numbers.end - numbers.start) (drop numbers.start (insts_of window.start.0 window.held insts.entry.words.now))).items) × (result ≤ slot_places * held_places) }
 {
-    let mut count = 0;
-    for k in from..to {
-        count += release_held_reads::holding(s, ((start.0 + k as u64) % layout::PLACES) as usize);
-    }
-    count
+    numbers
+        .map(|k| release_held_reads::holding(insts, window.slot(k)))
+        .sum()
 }
 
 // How many items it has.
-pub fn count_items(s: &[u64], start: Slot, n: usize) -> usize
-    requires { (start.0 ≤ top) × (n ≤ slot_places) × (slot_words ≤ length s.now) }
-    ensures { (quorum : ℕ) (leader : Option ℕ) (ballot : ℕ) → result ≡ length (step_up start.0 quorum leader ballot (insts_of start.0 n s.now)).items }
+pub fn count_items(insts: Insts<'_>, window: Window) -> usize
+    ensures { (quorum : ℕ) (leader : Option ℕ) (ballot : ℕ) → result ≡ length (step_up window.start.0 quorum leader ballot (insts_of window.start.0 window.held insts.entry.words.now)).items }
 {
-    if !insts::any_open(s, start, n) {
+    if !insts.any_open(window) {
         return 3;
     }
-    let from = first_open(s, start, n);
-    let to = last_open(s, start, n) + 1;
-    2 + count_open(s, start, n) + count_held(s, start, n, from, to)
+    let open = open_range(insts, window);
+    2 + count_open(insts, window) + count_held(insts, window, open)
 }
 
-// A null slot after the n that are held, where none is open. Gives how many there are then.
-fn open_one(s: &mut [u64], start: Slot, n: usize) -> usize
-    requires { (start.0 ≤ top) × (slots_after n (insts_of start.0 n s.old) ≤ slot_places) × (n ≤ slot_places) × (slot_words ≤ length s.old) }
-    ensures { Opens start.0 n s.old result s.new }
+// A null slot after those that are held, where none is open.
+fn open_one(insts: &mut InstsMut<'_>, window: Window) -> Window
+    requires { slots_after window.held (insts_of window.start.0 window.held insts.old.words.now) ≤ slot_places }
+    ensures { (result.start ≡ window.start) × Opens window.start.0 window.held insts.old.words.now result.held insts.new.words.now }
 {
-    let held = slots_after(s, start, n);
-    insts::pad(s, start, n, held);
-    held
-}
-
-// The slot at place c Preparing at the ballot, with empty acks.
-fn prepare(s: &mut [u64], c: usize, ballot: Ballot)
-    requires { (c < slot_places) × (slot_words ≤ length s.old) }
-    ensures { Puts s.old c (prepare_short ballot.0 (short_at s.old c)) (batch_at s.old c) (reads_at s.old c) s.new }
-{
-    let cell = Cell {
-        bal: ballot,
-        status: Status::Preparing,
-        leader_bk: Some(0),
-        ..insts::load(s, c)
-    };
-    insts::store(s, c, cell);
-}
-
-// The slot at place c prepared anew with its item, if it is open. Gives the next place of the area.
-fn prelog(
-    s: &mut [u64],
-    c: usize,
-    area: &mut [u64],
-    place: usize,
-    slot: Slot,
-    ballot: Ballot,
-) -> usize
-    requires { (c < slot_places) × (slot_words ≤ length s.old) × (place + one_if_open (inst_in s.old c) ≤ places area.old) }
-    ensures { Prelogs c place slot.0 ballot.0 s.old area.old result s.new area.new }
-{
-    if !insts::is_open(s, c) {
-        return place;
+    if insts.as_ref().any_open(window) {
+        return window;
     }
-    prepare(s, c, ballot);
-    items::put_item(area, place, Item::Prelog(slot));
-    place + 1
-}
-
-// All open slots of n prepared anew, their items from a place of the area on. Gives the place after them.
-fn prelog_all(
-    s: &mut [u64],
-    area: &mut [u64],
-    place: usize,
-    start: Slot,
-    n: usize,
-    ballot: Ballot,
-) -> usize
-    requires { (start.0 ≤ top) × (n ≤ slot_places) × (slot_words ≤ length s.old) × (place + length (prelogs start.0 (insts_of start.0 n s.old)) ≤ places area.old) }
-    ensures { Passes (prepared_anew start.0 ballot.0 (insts_of start.0 n s.old)) place start.0 n 0 s.old area.old result s.new area.new }
-{
-    let mut at = place;
-    for k in 0..n {
-        let slot = Slot(start.0 + k as u64);
-        at = prelog(
-            s,
-            (slot.0 % layout::PLACES) as usize,
-            area,
-            at,
-            slot,
-            ballot,
-        );
+    let held = window.held + 1;
+    insts.pad(window, held);
+    Window {
+        start: window.start,
+        held,
     }
-    at
 }
 
-// The reads answered from the slot of number `from` up to that of number `to`, their items from a place of the area on.
-// Gives the place after them.
+// A slot Preparing at the ballot, with empty acks, and with its item, if it is open.
+fn prelog(insts: &mut InstsMut<'_>, slot: Slot, ballot: Ballot, items: &mut Items<'_>)
+    requires { items.old.count + one_if_open (inst_in insts.old.words.now (place_of slot.0)) ≤ places items.old.area.now }
+    ensures { Prelogs (place_of slot.0) items.old.count slot.0 ballot.0 insts.old.words.now items.old.area.now items.new.count insts.new.words.now items.new.area.now }
+{
+    advance_commit_bar::change_open(
+        insts,
+        slot,
+        items,
+        Item::Prelog(slot),
+        |cell| Cell {
+            bal: ballot,
+            status: Status::Preparing,
+            leader_bk: Some(0),
+            ..cell
+        },
+    );
+}
+
+// All open slots prepared anew, with their items.
+fn prelog_all(insts: &mut InstsMut<'_>, window: Window, ballot: Ballot, items: &mut Items<'_>)
+    requires { items.old.count + length (prelogs window.start.0 (insts_of window.start.0 window.held insts.old.words.now)) ≤ places items.old.area.now }
+    ensures { Passes (prepared_anew window.start.0 ballot.0 (insts_of window.start.0 window.held insts.old.words.now)) items.old.count window.start.0 window.held 0 insts.old.words.now items.old.area.now items.new.count insts.new.words.now items.new.area.now }
+{
+    for k in 0..window.held {
+        prelog(insts, window.slot(k), ballot, items);
+    }
+}
+
+// The reads answered that the slots of these numbers hold.
 fn release_all(
-    s: &mut [u64],
-    area: &mut [u64],
-    place: usize,
-    start: Slot,
-    n: usize,
-    from: usize,
-    to: usize,
+    insts: &mut InstsMut<'_>,
+    window: Window,
+    numbers: Range<usize>,
     quorum: u8,
     leader: Option<Replica>,
-) -> usize
-    requires { (start.0 ≤ top) × (from ≤ to) × (to ≤ n) × (n ≤ slot_places) × (slot_words ≤ length s.old) × (place + length (released_from quorum (leader_of leader) (to - from) (drop from (insts_of start.0 n s.old))).items ≤ places area.old) }
-    ensures { Passes (released_from quorum (leader_of leader) (to - from) (drop from (insts_of start.0 n s.old))) place start.0 n from s.old area.old result s.new area.new }
+    items: &mut Items<'_>,
+)
+    requires { (numbers.start ≤ numbers.end) × (numbers.end ≤ window.held) × (items.old.count + length (released_from quorum (leader_of leader) (numbers.end - numbers.start) (drop numbers.start (insts_of window.start.0 window.held insts.old.words.now))).items ≤ places items.old.area.now) }
+    ensures { Passes (released_from quorum (leader_of leader) (numbers.end - numbers.start) (drop numbers.start (insts_of window.start.0 window.held insts.old.words.now))) items.old.count window.start.0 window.held numbers.start insts.old.words.now items.old.area.now items.new.count insts.new.words.now items.new.area.now }
 {
-    let mut at = place;
-    for k in from..to {
-        let c = ((start.0 + k as u64) % layout::PLACES) as usize;
-        at += release_held_reads::release(s, c, quorum, leader, area, at);
+    for k in numbers.start..numbers.end {
+        release_held_reads::release(insts, window.slot(k), quorum, leader, items);
     }
-    at
 }
 
-// The slots and the items of a step-up, these from the area's first place on. Gives how many.
+// The slots and the items of a step-up. Gives how many slots are held after it: one more where none was open.
 pub fn become_a_leader(
-    s: &mut [u64],
-    area: &mut [u64],
-    start: Slot,
-    n: usize,
+    insts: &mut InstsMut<'_>,
+    window: Window,
     quorum: u8,
     leader: Option<Replica>,
     ballot: Ballot,
+    items: &mut Items<'_>,
 ) -> usize
-    requires { (start.0 ≤ top) × (slots_after n (insts_of start.0 n s.old) ≤ slot_places) × (n ≤ slot_places) × (slot_words ≤ length s.old) × (length (step_up start.0 quorum (leader_of leader) ballot.0 (insts_of start.0 n s.old)).items ≤ places area.old) }
-    ensures { StepsUp start.0 n quorum (leader_of leader) ballot.0 s.old area.old result s.new area.new }
+    requires { (slots_after window.held (insts_of window.start.0 window.held insts.old.words.now) ≤ slot_places) × (items.old.count + length (step_up window.start.0 quorum (leader_of leader) ballot.0 (insts_of window.start.0 window.held insts.old.words.now)).items ≤ places items.old.area.now) }
+    ensures { (result ≡ slots_after window.held (insts_of window.start.0 window.held insts.old.words.now)) × StepsUp items.old.count window.start.0 window.held quorum (leader_of leader) ballot.0 insts.old.words.now items.old.area.now items.new.count insts.new.words.now items.new.area.now }
 {
-    let held = open_one(s, start, n);
-    let from = first_open(s, start, held);
-    let to = last_open(s, start, held) + 1;
-    items::put_item(area, 0, Item::Lead(true));
-    let logged = prelog_all(s, area, 1, start, held, ballot);
-    let next = release_all(s, area, logged, start, held, from, to, quorum, leader);
-    let slot = Slot(start.0 + from as u64);
-    items::put_item(area, next, Item::Prepare { slot, ballot });
-    next + 1
+    let window = open_one(insts, window);
+    let open = open_range(insts.as_ref(), window);
+    let prepare = Item::Prepare {
+        slot: window.slot(open.start),
+        ballot,
+    };
+    items.push(Item::Lead(true));
+    prelog_all(insts, window, ballot, items);
+    release_all(insts, window, open, quorum, leader, items);
+    items.push(prepare);
+    window.held
 }

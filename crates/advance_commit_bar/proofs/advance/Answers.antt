@@ -8,20 +8,24 @@ pub returns-then-stops : goal.returns-then-stops
 returns-then-stops c =
     let a = c.args in
     let l = c.loop-k in
+    let e = rw (c.as_ref.ensures, c.slot-slot.ensures) at c.stops.ensures in
     law.advances _ _ _ _ _ _ _ _ c.requires.0 c.requires.1
-    (pass.going_stop (stops_at a.ballot.0) law.marked mark_items _ _ (a.bar.0 - a.start.0) (a.commit.0 - a.start.0) a.place a.s.now a.area.now l.k l.at l.s l.area l.invariant.going (omega arith) _ c.stops.ensures c.if-stops.true)
+    (pass.going_stop (stops_at a.ballot.0) law.marked mark_items _ _ (a.bar.0 - a.window.start.0) (a.commit.0 - a.window.start.0) a.items.now.count a.insts.now.words.now a.items.now.area.now l.k l.items.count l.insts.words.now l.items.area.now l.invariant.going (omega arith) _ e c.if-stops.true)
 
-pub mark-at-requires : goal.mark-at-requires
-mark-at-requires c =
+pub mark-requires : goal.mark-requires
+mark-requires c =
     let l = c.loop-k in
-    (omega arith, omega (arith, l.invariant.going.size), law.mark_fits _ _ _ _ _ _ _ _ l.k l.at l.s l.area l.invariant.going (omega arith) _ c.stops.ensures c.if-stops.false c.requires.0 c.requires.1 c.requires.5)
+    let e = rw (c.as_ref.ensures, c.slot-slot.ensures) at c.stops.ensures in
+    rw c.slot-slot.ensures
+    (law.mark_fits _ _ _ _ _ _ _ _ l.k l.items.count l.insts.words.now l.items.area.now l.invariant.going (omega arith) _ e c.if-stops.false c.requires.0 c.requires.1 c.requires.2)
 
 pub loop-k-preserved : goal.loop-k-preserved
 loop-k-preserved c =
     let l = c.loop-k in
+    let e = rw (c.as_ref.ensures, c.slot-slot.ensures) at c.stops.ensures in
     record {
       within = omega arith;
-      going = law.mark_step _ _ _ _ _ _ _ _ l.k l.at l.s l.area l.invariant.going (omega arith) _ c.stops.ensures c.if-stops.false c.requires.3 _ _ _ c.mark-at.ensures;
+      going = law.mark_step _ _ _ _ _ _ _ _ l.k l.items.count l.insts.words.now l.items.area.now l.invariant.going (omega arith) _ e c.if-stops.false c.args.window.few _ _ _ (rw c.slot-slot.ensures at c.mark.ensures);
     }
 
 pub returns : goal.returns
@@ -29,4 +33,4 @@ returns c =
     let a = c.args in
     let l = c.loop-k in
     law.advances _ _ _ _ _ _ _ _ c.requires.0 c.requires.1
-    (pass.going_end (stops_at a.ballot.0) law.marked mark_items _ _ (a.bar.0 - a.start.0) (a.commit.0 - a.start.0) a.place a.s.now a.area.now l.k l.at l.s l.area l.invariant.going l.invariant.within (omega arith))
+    (pass.going_end (stops_at a.ballot.0) law.marked mark_items _ _ (a.bar.0 - a.window.start.0) (a.commit.0 - a.window.start.0) a.items.now.count a.insts.now.words.now a.items.now.area.now l.k l.items.count l.insts.words.now l.items.area.now l.invariant.going l.invariant.within (omega arith))

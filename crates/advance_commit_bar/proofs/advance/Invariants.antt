@@ -4,6 +4,6 @@ use Rattle.advance_commit_bar.proofs.advance.Given as goal
 
 abbrev pub invariant-loop-k : goal.invariant-loop-k
 invariant-loop-k l = record {
-  within : l.k ≤ l.n;
-  going : law.GoingAt l.start.0 l.n l.ballot.0 l.fn.bar.0 l.fn.commit.0 l.place l.initial.s l.initial.area l.k l.at l.s l.area;
+  within : l.k ≤ l.window.held;
+  going : law.GoingAt l.window.start.0 l.window.held l.ballot.0 l.fn.bar.0 l.fn.commit.0 l.initial.items.count l.initial.insts.words.now l.initial.items.area.now l.k l.items.count l.insts.words.now l.items.area.now;
 }

@@ -1,32 +1,23 @@
-use Rattle.std.proofs.Common.{◌∙◌, ◌+◌, ◌-◌, ◌%◌, arith}
-use Rattle.layout.specs.Layout.{slot_places}
-use Rattle.insts.specs.Slots.{inst_in}
-use Rattle.advance_commit_bar.specs.Walk.{stops_at, mark_items}
-use Rattle.advance_commit_bar.proofs.Pass as pass
+use Rattle.std.proofs.Common.{rules, ◌+◌, ◌-◌, refl}
+use Rattle.ids.specs.declared.Slot.{Slot}
+use Rattle.std.proofs.lemmas.Iterator.{YieldsList-from_range, YieldsList-from_map_by}
+use Rattle.std.proofs.lemmas.Iterator.Consumers.{YieldsList-from_filter, YieldsList-at, count_from_yields_List}
+use Rattle.std.proofs.lemmas.Iterator.Search.{YieldsList-from_take_while}
+use Rattle.insts.specs.Slots.{inst_in, place_of}
 use Rattle.advance_commit_bar.proofs.Laws as law
 use Rattle.advance_commit_bar.proofs.count_commits.Goals as goal
-
-pub returns-then-stops : goal.returns-then-stops
-returns-then-stops c =
-    let a = c.args in
-    let l = c.loop-k in
-    pass.count_stop (stops_at a.ballot.0) law.marked mark_items a.start.0 a.n (a.bar.0 - a.start.0) l.k l.count _ _ l.invariant.left (omega arith) _ c.stops.ensures c.if-stops.true
-    ∙ law.count_start a.start.0 a.n a.ballot.0 a.bar.0 a.commit.0 a.s.now c.requires.0 c.requires.1
-
-pub loop-k-preserved : goal.loop-k-preserved
-loop-k-preserved c =
-    let a = c.args in
-    let l = c.loop-k in
-    record {
-      within = omega arith;
-      few = omega (arith, law.at_most_one _ _ _ c.one_if_open-count.ensures);
-      left = pass.count_step (stops_at a.ballot.0) law.marked mark_items a.start.0 a.n (a.bar.0 - a.start.0) l.k l.count _ _ l.invariant.left (omega arith) _ c.stops.ensures c.if-stops.false _
-          (c.one_if_open-count.ensures ∙ law.one_item (a.start.0 + l.k) (inst_in a.s.now ((a.start.0 + l.k) % slot_places)));
-    }
 
 pub returns : goal.returns
 returns c =
     let a = c.args in
-    let l = c.loop-k in
-    pass.count_end (stops_at a.ballot.0) law.marked mark_items a.start.0 a.n (a.bar.0 - a.start.0) l.k l.count _ _ l.invariant.left (omega arith)
-    ∙ law.count_start a.start.0 a.n a.ballot.0 a.bar.0 a.commit.0 a.s.now c.requires.0 c.requires.1
+    let s = a.insts.words.now in
+    law.counts a.window.start.0 a.window.held a.commit.0 a.ballot.0 a.bar.0 s c.requires.0 c.requires.1 c.reach.result c.count.result c.reach.ensures
+    (count_from_yields_List c.filter.result c.count.result c.count.ensures.ran
+    (YieldsList-from_filter _ law.is_open_at
+    (YieldsList-at c.filter.ensures.source
+    (YieldsList-from_take_while _ (law.goes_on_at a.ballot.0)
+    (YieldsList-at c.take_while.ensures.source
+    (YieldsList-from_map_by _ (λ (x : Slot). inst_in s (place_of x.0)) (λ k. inst_in s (place_of (a.window.start.0 + k)))
+    (YieldsList-at c.map.ensures.source (YieldsList-from_range (a.commit.0 - a.window.start.0) c.reach.result _ refl refl)) c.map.ensures.closure (λ x r q k. search rules)))
+    c.take_while.ensures.closure c.take_while.ensures.done (λ x r q k. search rules)))
+    c.filter.ensures.closure (λ x r q k. search rules)))

@@ -1,28 +1,53 @@
+use Rattle.std.proofs.Common.{arith, ap}
+use Rattle.ids.specs.declared.Slot.{Slot}
+use Rattle.become_a_leader.proofs.Laws as one
 use Rattle.become_a_leader.proofs.Whole as law
-use native.Mathlib.Omega.{arith}
-use Rattle.ids.specs.Leader.{leader_of}
 use Rattle.become_a_leader.proofs.become_a_leader.Goals as goal
 
-pub overflow_add-to : goal.overflow_add-to
-overflow_add-to c =
-    let a = c.args in omega (arith, (law.within a.start.0 a.n a.quorum (leader_of a.leader) a.ballot.0 a.s.now a.area.now _ _ c.open_one-held.ensures _ _ c.first_open-from.ensures c.last_open-to.ensures).1)
+pub open_range-open-requires : goal.open_range-open-requires
+open_range-open-requires c =
+    let a = c.args in
+    rw (ap (λ (x : Slot). x.0) c.open_one-window.ensures.0, c.as_ref.ensures) (law.is_open _ _ _ _ _ c.open_one-window.ensures.1)
 
-pub prelog_all-logged-requires : goal.prelog_all-logged-requires
-prelog_all-logged-requires c =
-    (omega arith, omega (arith, c.open_one-held.ensures.count), omega (arith, c.open_one-held.ensures.size), law.prelog_room _ _ _ _ _ _ _ _ _ c.open_one-held.ensures _ _ c.first_open-from.ensures c.last_open-to.ensures c.requires.4 _ _ c.put_item.ensures)
+pub slot-requires : goal.slot-requires
+slot-requires c =
+    let z = ap (λ (x : Slot). x.0) c.open_one-window.ensures.0 in
+    let f = rw (z, c.as_ref.ensures) at c.open_range-open.ensures.starts in
+    let g = rw (z, c.as_ref.ensures) at c.open_range-open.ensures.ends in
+    let w = one.within _ _ _ (law.is_open _ _ _ _ _ c.open_one-window.ensures.1) _ _ f g in
+    let h = c.open_one-window.result.few in
+    omega arith
 
-pub release_all-next-requires : goal.release_all-next-requires
-release_all-next-requires c =
-    let a = c.args in let w = law.within a.start.0 a.n a.quorum (leader_of a.leader) a.ballot.0 a.s.now a.area.now _ _ c.open_one-held.ensures _ _ c.first_open-from.ensures c.last_open-to.ensures in (omega arith, omega (arith, w.0), omega (arith, w.1), omega (arith, c.open_one-held.ensures.count), omega (arith, c.open_one-held.ensures.size, c.prelog_all-logged.ensures.size), law.release_room _ _ _ _ _ _ _ _ _ c.open_one-held.ensures _ _ c.first_open-from.ensures c.last_open-to.ensures c.requires.4 _ _ c.put_item.ensures _ _ _ c.prelog_all-logged.ensures)
+pub prelog_all-requires : goal.prelog_all-requires
+prelog_all-requires c =
+    let a = c.args in
+    let z = ap (λ (x : Slot). x.0) c.open_one-window.ensures.0 in
+    let f = rw (z, c.as_ref.ensures) at c.open_range-open.ensures.starts in
+    let g = rw (z, c.as_ref.ensures) at c.open_range-open.ensures.ends in
+    let k = law.lead_counted _ _ _ _ _ _ _ _ _ _ c.open_one-window.ensures.1 _ _ f g c.requires.1 _ _ c.push.ensures.put _ c.push.ensures.counted in
+    rw (z, k) (law.prelog_room _ _ _ _ _ _ _ _ _ _ c.open_one-window.ensures.1 _ _ f g c.requires.1 _ _ c.push.ensures.put)
 
-pub overflow_add-slot : goal.overflow_add-slot
-overflow_add-slot c =
-    let a = c.args in let w = law.within a.start.0 a.n a.quorum (leader_of a.leader) a.ballot.0 a.s.now a.area.now _ _ c.open_one-held.ensures _ _ c.first_open-from.ensures c.last_open-to.ensures in omega (arith, w.0, w.1, c.open_one-held.ensures.count, c.requires.0, c.requires.1)
-
-pub overflow_add-result : goal.overflow_add-result
-overflow_add-result c =
-    let a = c.args in omega (arith, c.well_formed.1.0.0, law.end_room a.start.0 a.n a.quorum (leader_of a.leader) a.ballot.0 a.s.now a.area.now _ _ c.open_one-held.ensures _ _ c.first_open-from.ensures c.last_open-to.ensures c.requires.4 _ _ c.put_item.ensures _ _ _ c.prelog_all-logged.ensures _ _ _ c.release_all-next.ensures)
+pub release_all-requires : goal.release_all-requires
+release_all-requires c =
+    let a = c.args in
+    let z = ap (λ (x : Slot). x.0) c.open_one-window.ensures.0 in
+    let f = rw (z, c.as_ref.ensures) at c.open_range-open.ensures.starts in
+    let g = rw (z, c.as_ref.ensures) at c.open_range-open.ensures.ends in
+    let k = law.lead_counted _ _ _ _ _ _ _ _ _ _ c.open_one-window.ensures.1 _ _ f g c.requires.1 _ _ c.push.ensures.put _ c.push.ensures.counted in
+    let p = rw (z, k) at c.prelog_all.ensures in
+    let w = one.within _ _ _ (law.is_open _ _ _ _ _ c.open_one-window.ensures.1) _ _ f g in
+    (omega arith, omega arith, rw z (law.release_room _ _ _ _ _ _ _ _ _ _ c.open_one-window.ensures.1 _ _ f g c.requires.1 _ _ c.push.ensures.put _ _ _ p))
 
 pub returns : goal.returns
 returns c =
-    law.steps_up _ _ _ _ _ _ _ _ _ c.open_one-held.ensures _ _ c.first_open-from.ensures c.last_open-to.ensures c.requires.4 _ _ c.put_item.ensures _ _ _ c.prelog_all-logged.ensures _ _ _ c.release_all-next.ensures _ _ c.put_item-2.ensures
+    let a = c.args in
+    let z = ap (λ (x : Slot). x.0) c.open_one-window.ensures.0 in
+    let f = rw (z, c.as_ref.ensures) at c.open_range-open.ensures.starts in
+    let g = rw (z, c.as_ref.ensures) at c.open_range-open.ensures.ends in
+    let k = law.lead_counted _ _ _ _ _ _ _ _ _ _ c.open_one-window.ensures.1 _ _ f g c.requires.1 _ _ c.push.ensures.put _ c.push.ensures.counted in
+    let p = rw (z, k) at c.prelog_all.ensures in
+    let v = rw z at c.release_all.ensures in
+    let d = rw (c.slot.ensures, z) at c.push-2.ensures.put in (
+      c.open_one-window.ensures.1.count,
+      law.steps_up _ _ _ _ _ _ _ _ _ _ c.open_one-window.ensures.1 _ _ f g c.requires.1 _ _ c.push.ensures.put _ _ _ p _ _ _ v _ _ _ d c.push-2.ensures.counted,
+    )

@@ -1,34 +1,25 @@
-use Rattle.std.proofs.Common.{None, false, refl, sym, ◌∙◌, ◌+◌, ◌%◌, arith}
+use Rattle.std.proofs.Common.{rules, arith, ◌-◌, refl}
+use Rattle.std.specs.List.{range_with_len}
+use Rattle.std.proofs.lemmas.Iterator.{YieldsList-from_range, YieldsList-from_map}
+use Rattle.std.proofs.lemmas.Iterator.Consumers.{YieldsList-at, sum_by_from_yields_List}
+use Rattle.std.proofs.lemmas.Iterator.Adapters.{fits_from_length, at_most_from_yields_List}
+use Rattle.std.proofs.lemmas.List.FromFn.{length-range_with_len}
 use Rattle.layout.specs.Layout.{slot_places}
-use Rattle.insts.specs.Slots.{inst_in}
-use Rattle.release_held_reads.specs.Release.{emptied}
-use Rattle.release_held_reads.proofs.Laws.{length_answers}
-use Rattle.advance_commit_bar.proofs.Pass as pass
 use Rattle.become_a_leader.proofs.Laws as law
-use Rattle.become_a_leader.proofs.Lists.{never, answers_at}
 use Rattle.become_a_leader.proofs.count_held.Goals as goal
 
-pub loop-k-init : goal.loop-k-init
-loop-k-init c =
+pub sum-requires-clause-fits : goal.sum-requires-clause-fits
+sum-requires-clause-fits c =
     let a = c.args in
-    record { few = omega arith; left = law.count_held_start a.start.0 a.n a.to a.from a.s.now (omega arith) }
-
-pub overflow_add-count : goal.overflow_add-count
-overflow_add-count c = omega (arith, c.holding-count.ensures.1)
-
-pub loop-k-preserved : goal.loop-k-preserved
-loop-k-preserved c =
-    let a = c.args in
-    let l = c.loop-k in
-    record {
-      few = omega (arith, c.holding-count.ensures.1);
-      left =
-          pass.count_step never emptied (answers_at 0 None) _ _ a.to l.k l.count _ _ l.invariant.left (omega arith) false refl refl _
-          (c.holding-count.ensures.0 ∙ sym (length_answers 0 None (inst_in a.s.now ((a.start.0 + l.k) % slot_places))));
-    }
+    let f = a.window.few in
+    fits_from_length _ _ slot_places _
+    (at_most_from_yields_List (YieldsList-at c.map.ensures.source (YieldsList-from_range a.numbers.start a.numbers.end _ refl refl)) (omega (arith, length-range_with_len a.numbers.start (a.numbers.end - a.numbers.start))))
+    c.map.ensures.closure (omega arith) (λ x r q k. search rules)
 
 pub returns : goal.returns
 returns c =
     let a = c.args in
-    let l = c.loop-k in
-    (pass.count_end never emptied (answers_at 0 None) _ _ a.to l.k l.count _ _ l.invariant.left (omega arith), omega arith)
+    let h = law.held_by a.window.start.0 a.window.held a.numbers.start a.numbers.end a.insts.words.now c.requires.0 c.requires.1 in
+    law.held_are a.window.start.0 a.window.held a.numbers.start a.numbers.end a.insts.words.now c.requires.0 c.requires.1 a.window.few c.sum.result
+    (sum_by_from_yields_List h (range_with_len a.numbers.start (a.numbers.end - a.numbers.start)) c.map.result c.sum.result c.sum.ensures.ran
+    (YieldsList-from_map _ h (YieldsList-at c.map.ensures.source (YieldsList-from_range a.numbers.start a.numbers.end _ refl refl)) c.map.ensures.closure (λ x r q k. search rules)))

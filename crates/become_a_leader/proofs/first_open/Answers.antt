@@ -1,21 +1,6 @@
-use Rattle.std.proofs.Common.{arith}
+use Rattle.std.proofs.Common.{◌∙◌}
 use Rattle.become_a_leader.proofs.Laws as law
 use Rattle.become_a_leader.proofs.first_open.Goals as goal
 
-pub loop-i-init : goal.loop-i-init
-loop-i-init c = law.none_before c.args.start.0 c.args.n c.args.s.now
-
-pub returns-then-is_open : goal.returns-then-is_open
-returns-then-is_open c =
-    let l = c.loop-i in
-    law.first_here _ _ _ l.i (omega arith) _ c.is_open.ensures l.invariant c.if-is_open.true
-
-pub loop-i-preserved : goal.loop-i-preserved
-loop-i-preserved c =
-    let l = c.loop-i in
-    law.first_next c.args.start.0 c.args.n c.args.s.now l.i (omega arith) _ c.is_open.ensures l.invariant c.if-is_open.false
-
 pub returns : goal.returns
-returns c =
-    let l = c.loop-i in
-    law.first_end _ _ _ l.i (omega arith) (omega arith) l.invariant
+returns c = let a = c.args in c.unwrap_or.ensures ∙ law.first_found a.window.start.0 a.window.held a.insts.words.now c.position.result c.position.ensures

@@ -1,7 +1,5 @@
-use Rattle.std.proofs.Common.{◌≡◌, false}
-use Rattle.insts.specs.Slots.{insts_of}
-use Rattle.bodega.specs.Conflease.{any_open}
+use Rattle.bodega.specs.Replica.{Instance, is_open}
 use Rattle.become_a_leader.proofs.first_open.Given as goal
 
-abbrev pub invariant-loop-i : goal.invariant-loop-i
-invariant-loop-i l = any_open (insts_of l.start.0 l.i l.s) ≡ false
+abbrev pub ghost-position : goal.ghost-position
+ghost-position a = λ (i : Instance). is_open i.status

@@ -3,5 +3,5 @@ use Rattle.insts.proofs.Rest.{rest_of}
 use Rattle.bodega.specs.Conflease.{any_open}
 use Rattle.become_a_leader.proofs.last_open.Given as goal
 
-abbrev pub invariant-loop-i : goal.invariant-loop-i
-invariant-loop-i l = any_open (rest_of l.start.0 l.n l.i l.s) ≡ false
+abbrev pub invariant-loop-k : goal.invariant-loop-k
+invariant-loop-k l = any_open (rest_of l.window.start.0 l.window.held l.k l.insts.words.now) ≡ false

@@ -9,21 +9,21 @@ use Rattle.become_a_leader.proofs.prelog_all.Goals as goal
 pub loop-k-init : goal.loop-k-init
 loop-k-init c =
     let a = c.args in
-    pass.going_start never (reprepared a.ballot.0) prelog_of _ _ a.n 0 a.place a.s.now a.area.now
+    pass.going_start never (reprepared a.ballot.0) prelog_of _ _ a.window.held 0 a.items.now.count a.insts.now.words.now a.items.now.area.now
 
-pub prelog-at-requires : goal.prelog-at-requires
-prelog-at-requires c =
+pub prelog-requires : goal.prelog-requires
+prelog-requires c =
     let l = c.loop-k in
-    (omega arith, omega (arith, l.invariant.size), law.prelog_fits _ _ _ _ _ _ l.k l.at l.s l.area l.invariant (omega arith) c.requires.3)
+    rw c.slot.ensures (law.prelog_fits _ _ _ _ _ _ l.k l.items.count l.insts.words.now l.items.area.now l.invariant (omega arith) c.requires)
 
 pub loop-k-preserved : goal.loop-k-preserved
 loop-k-preserved c =
     let l = c.loop-k in
-    law.prelog_step _ _ _ _ _ _ l.k l.at l.s l.area l.invariant (omega arith) c.requires.1 _ _ _ c.prelog-at.ensures
+    law.prelog_step _ _ _ _ _ _ l.k l.items.count l.insts.words.now l.items.area.now l.invariant (omega arith) c.args.window.few _ _ _ (rw c.slot.ensures at c.prelog.ensures)
 
 pub returns : goal.returns
 returns c =
     let a = c.args in
     let l = c.loop-k in
-    law.passes _ never (reprepared a.ballot.0) prelog_of _ _ a.n 0 _ _ _ (omega arith) (law.prelog_left_lem a.start.0 a.n a.ballot.0 a.s.now)
-    (pass.going_end never (reprepared a.ballot.0) prelog_of _ _ a.n 0 a.place a.s.now a.area.now l.k l.at l.s l.area l.invariant (omega arith) (omega arith))
+    law.passes _ never (reprepared a.ballot.0) prelog_of _ _ a.window.held 0 _ _ _ (omega arith) (law.prelog_left_lem a.window.start.0 a.window.held a.ballot.0 a.insts.now.words.now)
+    (pass.going_end never (reprepared a.ballot.0) prelog_of _ _ a.window.held 0 a.items.now.count a.insts.now.words.now a.items.now.area.now l.k l.items.count l.insts.words.now l.items.area.now l.invariant (omega arith) (omega arith))

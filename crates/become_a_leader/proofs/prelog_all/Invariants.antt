@@ -2,4 +2,4 @@ use Rattle.become_a_leader.proofs.Laws as law
 use Rattle.become_a_leader.proofs.prelog_all.Given as goal
 
 abbrev pub invariant-loop-k : goal.invariant-loop-k
-invariant-loop-k l = law.Prelogging l.start.0 l.n l.ballot.0 l.place l.initial.s l.initial.area l.k l.at l.s l.area
+invariant-loop-k l = law.Prelogging l.window.start.0 l.window.held l.ballot.0 l.initial.items.count l.initial.insts.words.now l.initial.items.area.now l.k l.items.count l.insts.words.now l.items.area.now

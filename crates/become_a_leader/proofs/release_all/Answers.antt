@@ -9,26 +9,24 @@ use Rattle.become_a_leader.proofs.release_all.Goals as goal
 pub loop-k-init : goal.loop-k-init
 loop-k-init c =
     let a = c.args in
-    pass.going_start never emptied (answers_at a.quorum (leader_of a.leader)) _ _ a.to a.from a.place a.s.now a.area.now
+    pass.going_start never emptied (answers_at a.quorum (leader_of a.leader)) _ _ a.numbers.end a.numbers.start a.items.now.count a.insts.now.words.now a.items.now.area.now
 
-pub release-at-requires : goal.release-at-requires
-release-at-requires c =
-    let l = c.loop-k in
-    (omega arith, omega (arith, l.invariant.size), law.release_fits _ _ _ _ _ _ _ _ _ l.k l.at l.s l.area l.invariant (omega arith) (omega arith) (omega arith) c.requires.5)
+pub slot-requires : goal.slot-requires
+slot-requires c = let f = c.args.window.few in omega arith
 
-pub overflow_add-at : goal.overflow_add-at
-overflow_add-at c =
+pub release-requires : goal.release-requires
+release-requires c =
     let l = c.loop-k in
-    omega (arith, l.invariant.room, law.release_next _ _ _ _ _ _ _ _ _ l.k l.at l.s l.area l.invariant (omega arith) (omega arith) (omega arith) c.requires.5 _ _ _ c.release-at.ensures)
+    rw c.slot.ensures (law.release_fits _ _ _ _ _ _ _ _ _ l.k l.items.count l.insts.words.now l.items.area.now l.invariant (omega arith) (omega arith) (omega arith) c.requires.2)
 
 pub loop-k-preserved : goal.loop-k-preserved
 loop-k-preserved c =
     let l = c.loop-k in
-    law.release_step _ _ _ _ _ _ _ _ _ l.k l.at l.s l.area l.invariant (omega arith) (omega arith) c.requires.3 _ _ _ c.release-at.ensures
+    law.release_step _ _ _ _ _ _ _ _ _ l.k l.items.count l.insts.words.now l.items.area.now l.invariant (omega arith) (omega arith) c.args.window.few _ _ _ (rw c.slot.ensures at c.release.ensures)
 
 pub returns : goal.returns
 returns c =
     let a = c.args in
     let l = c.loop-k in
-    law.passes _ never emptied (answers_at a.quorum (leader_of a.leader)) _ _ a.to a.from _ _ _ (omega arith) (law.held_left_lem a.start.0 a.n a.to a.quorum (leader_of a.leader) a.from a.s.now (omega arith))
-    (pass.going_end never emptied (answers_at a.quorum (leader_of a.leader)) _ _ a.to a.from a.place a.s.now a.area.now l.k l.at l.s l.area l.invariant (omega arith) (omega arith))
+    law.passes _ never emptied (answers_at a.quorum (leader_of a.leader)) _ _ a.numbers.end a.numbers.start _ _ _ (omega arith) (law.held_left_lem a.window.start.0 a.window.held a.numbers.end a.quorum (leader_of a.leader) a.numbers.start a.insts.now.words.now (omega arith))
+    (pass.going_end never emptied (answers_at a.quorum (leader_of a.leader)) _ _ a.numbers.end a.numbers.start a.items.now.count a.insts.now.words.now a.items.now.area.now l.k l.items.count l.insts.words.now l.items.area.now l.invariant (omega arith) (omega arith))

@@ -3,4 +3,4 @@ use Rattle.become_a_leader.proofs.Laws as law
 use Rattle.become_a_leader.proofs.release_all.Given as goal
 
 abbrev pub invariant-loop-k : goal.invariant-loop-k
-invariant-loop-k l = law.Releasing l.start.0 l.n l.to l.quorum (leader_of l.leader) l.from l.place l.initial.s l.initial.area l.k l.at l.s l.area
+invariant-loop-k l = law.Releasing l.window.start.0 l.window.held l.fn.numbers.end l.quorum (leader_of l.leader) l.fn.numbers.start l.initial.items.count l.initial.insts.words.now l.initial.items.area.now l.k l.items.count l.insts.words.now l.items.area.now
