@@ -35,7 +35,11 @@ fn read_call<'a>(mut reader: LineReader<'a>) -> Option<Asked<'a>>
     }
     let key = reader.next_field();
     reader.is_ended().then_some(Asked {
-        call: Call::Read(client, request, leases),
+        call: Call::Read {
+            client,
+            request,
+            leases,
+        },
         key: &reader.line[key.start..key.end],
     })
 }
@@ -52,8 +56,12 @@ fn call_at<'a>(kind: CallKind, reader: LineReader<'a>) -> Option<Asked<'a>>
 {
     match kind {
         CallKind::Guard => {
-            let [peer, ballot, bar] = reader.numbers::<3>()?;
-            Some(keyless(Call::Guard(line_host::replica(peer), Ballot(ballot), Slot(bar))))
+            let [peer, number, bar] = reader.numbers::<3>()?;
+            Some(keyless(Call::Guard {
+                peer: line_host::replica(peer),
+                number: Ballot(number),
+                bar: Slot(bar),
+            }))
         }
         CallKind::Prepared => {
             let [ballot] = reader.numbers::<1>()?;
@@ -61,19 +69,36 @@ fn call_at<'a>(kind: CallKind, reader: LineReader<'a>) -> Option<Asked<'a>>
         }
         CallKind::Reply => {
             let [peer, slot, ballot] = reader.numbers::<3>()?;
-            Some(keyless(Call::Reply(line_host::replica(peer), Slot(slot), Ballot(ballot))))
+            Some(keyless(Call::Reply {
+                peer: line_host::replica(peer),
+                slot: Slot(slot),
+                ballot: Ballot(ballot),
+            }))
         }
         CallKind::Notice => {
             let [peer, slot, ballot] = reader.numbers::<3>()?;
-            Some(keyless(Call::Notice(line_host::replica(peer), Slot(slot), Ballot(ballot))))
+            Some(keyless(Call::Notice {
+                peer: line_host::replica(peer),
+                slot: Slot(slot),
+                ballot: Ballot(ballot),
+            }))
         }
         CallKind::Commit => {
             let [peer, ballot, bar] = reader.numbers::<3>()?;
-            Some(keyless(Call::Commit(line_host::replica(peer), Ballot(ballot), Slot(bar))))
+            Some(keyless(Call::Commit {
+                peer: line_host::replica(peer),
+                ballot: Ballot(ballot),
+                bar: Slot(bar),
+            }))
         }
         CallKind::Bars => {
             let [start, accept, commit, exec] = reader.numbers::<4>()?;
-            Some(keyless(Call::Bars(Slot(start), Slot(accept), Slot(commit), Slot(exec))))
+            Some(keyless(Call::Bars {
+                start: Slot(start),
+                accept: Slot(accept),
+                commit: Slot(commit),
+                exec: Slot(exec),
+            }))
         }
         CallKind::Read => read_call(reader),
         CallKind::Release => {
@@ -105,14 +130,14 @@ fn heard_call(draft: RespondersConf, reader: LineReader<'_>) -> Option<Call>
     if 1 < with {
         return None;
     }
-    Some(Call::Heartbeat(
-        line_host::replica(peer),
-        Ballot(ballot),
-        (with == 1).then_some(draft),
-        Slot(commit),
-        Slot(exec),
-        Slot(snap),
-    ))
+    Some(Call::Heartbeat {
+        peer: line_host::replica(peer),
+        ballot: Ballot(ballot),
+        conf: (with == 1).then_some(draft),
+        commit: Slot(commit),
+        exec: Slot(exec),
+        snap: Slot(snap),
+    })
 }
 
 // A draft that is attached is whole.

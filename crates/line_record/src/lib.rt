@@ -107,6 +107,9 @@ pub fn record_line(
     ensures { AnswersLine (is_record (fields_from reader.entry.line.now reader.entry.at)) (record_of (fields_from reader.entry.line.now reader.entry.at)) node mem.old area.old result mem.new area.new }
 {
     let f = record_fields(groups, reader).ok_or(Refusal::Malformed)?;
-    let call = Call::Record(Slot(f.slot), Ballot(f.ballot));
+    let call = Call::Record {
+        slot: Slot(f.slot),
+        ballot: Ballot(f.ballot),
+    };
     call_apply::apply(node, mem, area, call, &groups[..f.count * 6], reader.line)
 }
