@@ -1,5 +1,5 @@
 -- A group, the rows of the groups and the record line, with premises as the code has them.
-use Rattle.std.specs.Prelude.{if◌then◌else◌, Option, None, Some, Result}
+use Rattle.std.specs.Prelude.{if◌then◌else◌, Option, None, Some}
 use mathlib.Core.Path.{◌≡◌, refl, sym, ap, ◌∙◌}
 use mathlib.Core.Bool.{Bool, true, false, ◌||◌, not, true≢false, and-false}
 use mathlib.Core.List.{List, [], ◌∷◌, ◌++◌, append_assoc, append-nil}
@@ -16,7 +16,6 @@ use Rattle.words.specs.Choice.{if_none◌then◌else◌}
 use Rattle.words.specs.Part.{part}
 use Rattle.words.specs.Tab.{tab, tab_ext, tab_snoc}
 use Rattle.words.specs.Writes.{writes, Agrees, writes_other, writes_same, length_writes}
-use Rattle.ids.specs.declared.Refusal.{Refusal}
 use Rattle.line_fields.specs.declared.Field.{Field}
 use Rattle.line_fields.specs.Split.{fields_from}
 use Rattle.line_fields.specs.Number.{value_of, has_byte, is_number}
@@ -24,19 +23,13 @@ use Rattle.line_fields.specs.Reads.{none_left, between, ReadsField, FirstNumber,
 use borrow.Author.Tests.{ltb-false}
 use Rattle.line_fields.proofs.Laws.{from_past, some_left, all_read, none_left_lem}
 use Rattle.line_reader.specs.declared.LineReader.{LineReader}
-use Rattle.line_reader.specs.Takes.{moved_to, TakesField, TakesNumber, TakesOptional}
-use Rattle.bodega.specs.Replica.{Request, Put, Get, Record}
+use Rattle.line_reader.specs.Takes.{TakesField, TakesNumber, TakesOptional}
+use Rattle.bodega.specs.Replica.{Request, Put, Get}
 use Rattle.inst_reqs.specs.Batch.{command_at}
 use Rattle.req_batch.specs.Given.{given_from, given_at, given}
-use Rattle.bodega.specs.Answers.{Answers}
-use Rattle.node.specs.declared.Node.{Node}
-use Rattle.node.specs.declared.Taken.{Taken}
-use Rattle.node.specs.View.{view, ready, given_of}
-use Rattle.line_host.specs.Line.{are_groups, command_of, batch_of, is_record, record_of}
-use Rattle.line_host.specs.Follows.{AnswersLine}
+use Rattle.line_host.specs.Line.{are_groups, command_of, batch_of}
 use Rattle.line_record.specs.declared.Group.{Group}
-use Rattle.line_record.specs.declared.RecordFields.{RecordFields}
-use Rattle.line_record.specs.Groups.{request_in, row_of, FirstGroup, ReadsGroup, AllGroups, RecordAs}
+use Rattle.line_record.specs.Groups.{request_in, row_of, FirstGroup, ReadsGroup, AllGroups}
 
 -- ---- a group
 
@@ -260,9 +253,3 @@ module _ (line : Bor (List ℕ)) (at : ℕ) (rows₀ rows : List ℕ) (r : LineR
   -- a line of at most 1,024 bytes has no more of them
   pub grouped_full : n ≡ 257 → length line.now ≤ 1024 → 1542 ≤ length rows₀ → AllGroups line.now at 257 rows
   grouped_full m h l = rw m at (all_groups (from_past line.now r.at (omega (arith, p.low))) l)
-
--- ---- the line
-
-pub line_whole : (s : Bytes) (at : ℕ) (r : RecordFields) (rows : List ℕ) → RecordAs s at r rows → (node : Node) (mem area mem' area' : List ℕ) (a : Result Taken Refusal)
-    → Answers ready view (Record r.slot r.ballot (given (take (r.count * 6) rows) s)) node mem area (given_of node a) mem' area' → AnswersLine (is_record (fields_from s at)) (record_of (fields_from s at)) node mem area a mem' area'
-line_whole s at r rows x node mem area mem' area' a w = record { bad = λ z. absurd (true≢false (sym x.good ∙ z)); well = λ _. (rw (x.slot, x.ballot, x.batch) at w) }

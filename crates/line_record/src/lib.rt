@@ -6,7 +6,7 @@ ghost use Rattle.words.specs.Writes.{writes};
 ghost use Rattle.line_fields.specs.Split.{fields_from};
 ghost use Rattle.line_host.specs.Line.{is_record, record_of};
 ghost use Rattle.line_host.specs.Follows.{AnswersLine};
-ghost use Rattle.line_record.specs.Groups.{row_of, ReadsGroup, ReadsGroups, ReadsRecord};
+ghost use Rattle.line_record.specs.Groups.{row_of, ReadsGroup, ReadsGroups};
 
 use call_apply::Call;
 use ids::{Ballot, Refusal, Slot};
@@ -22,14 +22,6 @@ struct Group {
     start: u64,
     length: u64,
     next: usize,
-}
-
-// SLOT,BALLOT, and how many groups.
-#[derive(Clone, Copy)]
-struct RecordFields {
-    slot: u64,
-    ballot: u64,
-    count: usize,
 }
 
 // The first group that is left.
@@ -81,35 +73,23 @@ fn groups_at(groups: &mut [u64], mut reader: LineReader<'_>) -> Option<usize>
     Some(257)
 }
 
-fn record_fields(groups: &mut [u64], mut reader: LineReader<'_>) -> Option<RecordFields>
-    requires { (length reader.line.now ≤ 1024) × (1542 ≤ length groups.old) }
-    ensures { ReadsRecord reader.entry.line.now reader.entry.at result groups.new }
-{
-    let slot = reader.next_number()?;
-    let ballot = reader.next_number()?;
-    let count = groups_at(groups, reader)?;
-    Some(RecordFields {
-        slot,
-        ballot,
-        count,
-    })
-}
-
 // The fields after the line's name: SLOT,BALLOT and the groups.
 pub fn record_line(
     node: Node,
     mem: &mut [u64],
     area: &mut [u64],
     groups: &mut [u64],
-    reader: LineReader<'_>,
+    mut reader: LineReader<'_>,
 ) -> Result<Taken, Refusal>
     requires { (length reader.line.now ≤ 1024) × (1542 ≤ length groups.old) }
     ensures { AnswersLine (is_record (fields_from reader.entry.line.now reader.entry.at)) (record_of (fields_from reader.entry.line.now reader.entry.at)) node mem.old area.old result mem.new area.new }
 {
-    let f = record_fields(groups, reader).ok_or(Refusal::Malformed)?;
+    let slot = reader.next_number().ok_or(Refusal::Malformed)?;
+    let ballot = reader.next_number().ok_or(Refusal::Malformed)?;
+    let count = groups_at(groups, reader).ok_or(Refusal::Malformed)?;
     let call = Call::Record {
-        slot: Slot(f.slot),
-        ballot: Ballot(f.ballot),
+        slot: Slot(slot),
+        ballot: Ballot(ballot),
     };
-    call_apply::apply(node, mem, area, call, &groups[..f.count * 6], reader.line)
+    call_apply::apply(node, mem, area, call, &groups[..count * 6], reader.line)
 }

@@ -1,4 +1,4 @@
-use mathlib.Core.Path.{refl, sym}
+use mathlib.Core.Path.{sym}
 use native.Mathlib.Omega.{arith}
 use Rattle.line_fields.proofs.Laws as law
 use Rattle.line_fields.proofs.number_at.Goals as goal
