@@ -6,6 +6,8 @@ ghost use Rattle.words.specs.Writes.{writes};
 ghost use Rattle.keys.specs.Same.{same_bytes};
 ghost use Rattle.key_words.specs.Key.{key_at, words_of, pack_of, le_word, le_bytes, bytes_of, at_most_48, Unpacks, all_bytes, is_packed};
 
+use std::array;
+
 // Words by name, not an array: a key is passed by value and compared word by word.
 #[derive(Clone, Copy, PartialEq, Eq)]
 pub struct Key {
@@ -59,16 +61,7 @@ fn word_of(s: &[u8], at: usize) -> u64
     requires { at < 48 }
     ensures { result ≡ le_word 8 s.now at }
 {
-    u64::from_le_bytes([
-        byte_or_0(s, at),
-        byte_or_0(s, at + 1),
-        byte_or_0(s, at + 2),
-        byte_or_0(s, at + 3),
-        byte_or_0(s, at + 4),
-        byte_or_0(s, at + 5),
-        byte_or_0(s, at + 6),
-        byte_or_0(s, at + 7),
-    ])
+    u64::from_le_bytes(array::from_fn(|i| byte_or_0(s, at + i)))
 }
 
 fn key_of(k: &[u8]) -> Key

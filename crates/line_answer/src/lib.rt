@@ -27,6 +27,8 @@ fn put_leader(text: &mut TextMut, c: u64, d: u64)
 
 // ---- lines of items: at most 106 bytes, those of a span with two numbers of 39 digits and one of 20
 
+// Each asks for that room in its clause: a ghost field would have to hold after the line too, when the room is used.
+
 // A name and at most three numbers.
 fn put_numbers(text: &mut TextMut, name: &[u8], numbers: &[u64])
     requires { (text.old.at + 106 ≤ length text.old.out.now) × (length name.now ≤ 8) × (length numbers.now ≤ 3) }
