@@ -37,7 +37,7 @@ pub struct Mask {
     pub mask: u64,
 }
 
-// How many rows stand is a number beside them here: the C interface has slices and plain structs only.
+// A roster whose rows are lent beside their number: the C interface has slices and plain structs only.
 fn conf(count: usize, default: u64) -> RespondersConf
     ensures { result ≡ plain count default }
 {

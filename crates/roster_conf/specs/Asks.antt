@@ -1,5 +1,5 @@
--- Bridge: whether an edit can begin; `set_responders` and `set_full` in two parts, the range that is asked for and what storing it leaves; tied
--- to `edit_result` by proofs/Laws.
+-- Bridge: whether an edit can begin; `set_responders` and `set_full` in two parts, the range that is asked for and what
+-- storing it leaves; tied to `edit_result` by proofs/Laws.
 use Rattle.std.specs.Prelude.{ℕ, List, ◌≡◌, ◌&&◌, if◌then◌else◌, Result, Ok, Err}
 use Rattle.inty.specs.Value.{value_of}
 use Rattle.roster_map.specs.declared.Row.{Row}

@@ -1,4 +1,5 @@
-// `RespondersConf` of keyrange.rs: a roster. Its ranges are rows in lent words; the short part goes by value.
+// `RespondersConf` of keyrange.rs: a roster. Its ranges are rows in lent words; the short part goes by value. So each
+// function takes the rows beside it, which is document 01's form of `&mut self`.
 #![tactic(auto)]
 
 ghost use Rattle.std.specs.Prelude.{◌≡◌, List, ℕ, ◌≤◌, length};
@@ -27,7 +28,8 @@ pub fn is_whole(len: usize, count: usize) -> bool
     len >= RespondersConf::WORDS && count <= RespondersConf::RANGES
 }
 
-// 4, 5, 6, 7: a range that can be stored in some roster.
+// 4, 5, 6, 7: a range that can be stored in some roster. An edit's arguments stand apart, as a line and a C call have
+// them: a struct of the keys and the mask would be made only to be taken apart here.
 #[tactic(auto, using(crate::proofs::Laws::range_4, crate::proofs::Laws::range_5, crate::proofs::Laws::range_5_end, crate::proofs::Laws::range_6, crate::proofs::Laws::range_6_end, crate::proofs::Laws::range_7, crate::proofs::Laws::range_asked))]
 fn ask(population: u8, start: &[u8], end: &[u8], mask: u64) -> Result<Row, Refusal>
     ensures { Asks population start.now end.now mask result }
@@ -76,6 +78,7 @@ impl RespondersConf {
 
     pub const WORDS: usize = layout::ROSTER_WORDS;
 
+    #[tactic(auto, unfolding(crate::specs::Edits::view, roster_map::specs::Rows::ranges_of))]
     pub fn empty() -> RespondersConf
         ensures { ((rows : List ℕ) → view result rows ≡ empty) × (result.count ≤ 64) }
     {

@@ -27,6 +27,7 @@ pub const RANGES: usize = layout::ROSTER_PLACES;
 const CUT_WORDS: usize = (2 * layout::ROSTER_PLACES + 1) * layout::ROSTER_ROW;
 
 // By index: the words are lent, and no slice of rows.
+#[tactic(auto, unfolding(crate::specs::Rows::range_at))]
 pub fn get_row(rows: &[u64], i: usize) -> Row
     requires { i * roster_row + roster_row ≤ length rows.now }
     ensures { range_of result ≡ range_at rows.now (i * roster_row) }
@@ -196,6 +197,7 @@ impl RangeMapMut<'_> {
     }
 
     // What `keep` keeps of each row of `from`.
+    #[tactic(auto, using(crate::proofs::Laws::pass_start))]
     fn pass<F: Fn(Row) -> Option<Row>>(&mut self, from: RangeMap<'_>, keep: F)
         ghost kept: { Range → List Range }
         requires room { self.old.count * roster_row + from.count * roster_row ≤ length self.old.rows.now }
@@ -245,6 +247,7 @@ impl RangeMapMut<'_> {
     }
 
     // A replica out of each row. In place, since no more rows stand than were read.
+    #[tactic(auto, using(crate::proofs::Laws::filter_start, crate::proofs::Laws::filter_end))]
     pub fn filter(&mut self, id: Replica)
         ensures words { SameWords self.old.rows self.new.rows }
         ensures filtered { ranges_of self.new.rows.now self.new.count ≡ remasked (λ m. set_to m id.0 false) (ranges_of self.old.rows.now self.old.count) }

@@ -1,11 +1,8 @@
 use Rattle.roster_map.proofs.Laws as law
 use borrow.Author.Rules.{rules}
 use native.Mathlib.Omega.{arith}
-use mathlib.Core.Path.{refl, ◌∙◌}
+use mathlib.Core.Path.{◌∙◌}
 use Rattle.roster_map.proofs.RangeMapMut.filter.Goals as goal
-
-pub loop-i-init : goal.loop-i-init
-loop-i-init c = record { words = (refl, refl); few = omega arith; beyond = λ j h. refl; rest = law.filter_start _ _ _ _ }
 
 pub loop-i-preserved : goal.loop-i-preserved
 loop-i-preserved c =
@@ -16,6 +13,3 @@ loop-i-preserved c =
       beyond = λ j h. c.push.ensures.beyond j (omega arith) ∙ l.beyond j (omega arith);
       rest = law.filter_on _ _ _ _ _ _ _ _ _ (omega arith) c.without.ensures c.row-row.ensures l.beyond c.push.ensures.pushed l.rest;
     }
-
-pub returns-clause-filtered : goal.returns-clause-filtered
-returns-clause-filtered c = search (rules, law.filter_end)

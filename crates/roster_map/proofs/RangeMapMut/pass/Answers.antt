@@ -1,15 +1,12 @@
 use Rattle.roster_map.proofs.Laws as law
 use borrow.Author.Rules.{rules}
 use native.Mathlib.Omega.{arith}
-use mathlib.Core.Path.{◌≡◌, refl, ap, ◌∙◌}
+use mathlib.Core.Path.{◌≡◌, ap, ◌∙◌}
 use Rattle.std.specs.Prelude.{Some, None}
 use Rattle.roster_ranges.specs.Range.{push_all}
 use Rattle.roster_map.specs.Rows.{range_of, range_list}
 use Rattle.roster_map.proofs.RangeMapMut.pass.Goals as goal
 use Rattle.roster_map.proofs.RangeMapMut.pass.Goals.{in-Some, in_default}
-
-pub loop-i-init : goal.loop-i-init
-loop-i-init g c = record { words = (refl, refl); few = omega arith; rest = law.pass_start _ _ _ _ }
 
 pub loop-i-preserved : goal.loop-i-preserved
 loop-i-preserved g c =
