@@ -8,8 +8,8 @@ use ids::{Ballot, Refusal, Replica, Slot};
 use node::{Node, Taken};
 use roster_conf::RespondersConf;
 
-// A node; has_leader is 0 where there is no leader. A number stands in place of an `Option`, here, in a roster and in the
-// answer: the C interface has none.
+// A node; has_leader is 0 where there is no leader. A number stands in place of an `Option`, here, in a roster and in
+// the answer: the C interface has none.
 #[repr(C)]
 #[derive(Clone, Copy, Default)]
 pub struct Plain {
