@@ -10,6 +10,7 @@ ghost use Rattle.ids.specs.Refusal.{refused_by};
 
 use ids::{Ballot, Refusal, Replica, Slot};
 use node::{Node, Taken};
+use peer_accept_bar::Pair;
 
 // Refusals 3, 8 and 10.
 fn guard_refusal(population: u8, id: Replica, peer: Replica, bar: Slot) -> Result<(), Refusal>
@@ -48,8 +49,7 @@ pub fn guard(
         node.bal_max_seen,
         node.peer_accept_max,
         peer,
-        number,
-        bar,
+        Pair { number, bar },
     );
     Ok(Taken {
         node: Node {

@@ -2,14 +2,14 @@
 #![tactic(auto)]
 
 ghost use Rattle.std.specs.Prelude.{◌≡◌};
-ghost use Rattle.export_plain.specs.Plain.{leader_at, has_leader, leader_in, node_of, plain_of, answered_of, begun_of, conf_of};
+ghost use Rattle.export_plain.specs.Plain.{node_of, plain_of, answered_of, begun_of, conf_of};
 
 use ids::{Ballot, Refusal, Replica, Slot};
 use node::{Node, Taken};
 use roster_conf::RespondersConf;
 
-// A node; has_leader is 0 where there is no leader. A number stands in place of an `Option`, here and in the answer:
-// the C interface has none.
+// A node; has_leader is 0 where there is no leader. A number stands in place of an `Option`, here, in a roster and in
+// the answer: the C interface has none.
 #[repr(C)]
 #[derive(Clone, Copy, Default)]
 pub struct Plain {
@@ -51,29 +51,11 @@ pub struct PlainAnswered {
     pub node: Plain,
 }
 
-fn leader_at(has: u64, l: u8) -> Option<Replica>
-    ensures { result ≡ leader_at has l }
-{
-    (has != 0).then_some(Replica(l))
-}
-
-fn has_leader(leader: Option<Replica>) -> u64
-    ensures { result ≡ has_leader leader }
-{
-    u64::from(leader.is_some())
-}
-
-fn leader_in(leader: Option<Replica>) -> u8
-    ensures { result ≡ leader_in leader }
-{
-    leader.map_or(0, |l| l.0)
-}
-
 pub fn conf_of(r: Roster) -> RespondersConf
     ensures { result ≡ conf_of r }
 {
     RespondersConf {
-        leader: leader_at(r.has_leader, r.leader),
+        leader: (r.has_leader != 0).then_some(Replica(r.leader)),
         count: r.ranges,
         default: r.default,
     }
@@ -87,7 +69,7 @@ pub fn node_of(p: Plain) -> Node
         population: p.population,
         quorum: p.quorum,
         bodega_conf: RespondersConf {
-            leader: leader_at(p.has_leader, p.leader),
+            leader: (p.has_leader != 0).then_some(Replica(p.leader)),
             count: p.ranges,
             default: p.default,
         },
@@ -111,8 +93,8 @@ fn plain_of(n: Node) -> Plain
         id: n.id.0,
         population: n.population,
         quorum: n.quorum,
-        leader: leader_in(n.bodega_conf.leader),
-        has_leader: has_leader(n.bodega_conf.leader),
+        leader: n.bodega_conf.leader.map_or(0, |l| l.0),
+        has_leader: u64::from(n.bodega_conf.leader.is_some()),
         ranges: n.bodega_conf.count,
         default: n.bodega_conf.default,
         bal_max_seen: n.bal_max_seen.0,

@@ -19,6 +19,7 @@ ghost use Rattle.heard_new_conf.specs.Forgets.{Forgets};
 
 use ids::{Ballot, Replica, Slot};
 use node::{Node, Taken};
+use peer_accept_bar::Pair;
 use roster_conf::RespondersConf;
 
 // The own guard, at the ballot and the accept bar; gives the reading bar worked out anew.
@@ -33,7 +34,11 @@ fn guard_itself(
     requires { (0 < quorum) × (quorum ≤ population) × (population ≤ replicas) × (id.0 < population) × (pair_words ≤ length pairs.old) }
     ensures { (pairs_of population pairs.new ≡ set (pairs_of population pairs.old) id.0 (pair ballot.0 accept.0)) × (result.0 ≡ accept_max quorum ballot.0 (pairs_of population pairs.new)) × (length pairs.new ≡ length pairs.old) }
 {
-    peer_accept_bar::insert(pairs, population, id, ballot, accept);
+    let guard = Pair {
+        number: ballot,
+        bar: accept,
+    };
+    peer_accept_bar::insert(pairs, population, id, guard);
     peer_accept_bar::accept_max(pairs, population, quorum, ballot)
 }
 

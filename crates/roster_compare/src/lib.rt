@@ -28,7 +28,7 @@ fn same_rows(c: RespondersConf, crows: &[u64], d: RespondersConf, drows: &[u64])
         && (0..c.count).all(|i| roster_map::get_row(crows, i) == roster_map::get_row(drows, i))
 }
 
-// `==`: as they are stored. No type has both the short part and the lent rows, and derives it.
+// `==`: as they are stored. By name, since the rows are lent beside the short part, and so is `copy`.
 pub fn same(c: RespondersConf, crows: &[u64], d: RespondersConf, drows: &[u64]) -> bool
     requires { (c.count * roster_row ≤ length crows.now) × (d.count * roster_row ≤ length drows.now) }
     ensures { result ≡ same (roster_of c crows.now) (roster_of d drows.now) }

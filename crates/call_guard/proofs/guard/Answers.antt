@@ -30,4 +30,4 @@ unfolding view ready
 returns c =
     let a = c.args in
     let p = c.guard_accept_bar-peer_accept_max.ensures in
-    law.guard_taken a.node a.mem.now (sym c.if-not-is_ready.ensures) a.peer.0 a.number.0 a.bar.0 c.in_ok-guard_refusal.ensures a.area.now _ _ _ p.0 p.1 refl refl
+    law.guard_taken a.node a.mem.now (sym c.if-not-is_ready.ensures) a.peer.0 a.number.0 a.bar.0 c.in_ok-guard_refusal.ensures a.area.now _ _ _ p.accepts p.long refl refl
