@@ -8,6 +8,7 @@ use mathlib.Core.Bool.{Bool, true, false, not, ◌&&◌, true≢false}
 use mathlib.Core.List.{List, [], ◌∷◌}
 use Rattle.std.specs.Prelude.{Option}
 use Prim.Native.Nat.{ℕ, ◌+◌, ◌-◌, ◌*◌, ◌/◌, ◌≤◌, ◌<◌}
+use native.Mathlib.Nat.{zero-add}
 use native.Mathlib.Decide.{dec_lt}
 use native.Mathlib.Omega.{arith}
 use lib.Dec.{ltb, leb, eqb}
@@ -35,6 +36,7 @@ use Rattle.bodega.specs.Step.{effect}
 use Rattle.bodega.specs.Answers.{Answers}
 use Rattle.insts.specs.Slots.{insts_of}
 use Rattle.accept_notice_at.specs.Notices.{Noticed, noticed_at, after, NotesAt}
+use Rattle.accept_notice_at.proofs.Laws.{after_range}
 use Rattle.accept_notice_at.proofs.Machine.{noticed_is}
 use Rattle.node.specs.declared.Node.{Node}
 use Rattle.node.specs.declared.Taken.{Taken}
@@ -100,17 +102,6 @@ stepped n c b = record n { bodega_conf = c; bal_max_seen = b }
 abbrev pub grown : Node → ℕ → Node
 grown n k = record n { slots = k }
 
-after_range : (held k : ℕ) → held ≤ slot_places → k < slot_places → (held ≤ after held k) × (after held k ≤ slot_places)
-after_range held k h g =
-    elim (dec_lt k held) [
-      | yes l ↦ rw (lt-ltb k held l) (omega arith, h)
-      | no l ↦ rw (le-ltb k held (omega arith)) (omega arith, omega arith)
-    ]
-
-pub slots_long : (m : List ℕ) → node_words ≤ length m → length (take slot_words (drop slots_at m)) ≡ slot_words
-unfolding part
-slots_long m h = length_part m slots_at slot_words (omega arith)
-
 pub rows_long : (m : List ℕ) → node_words ≤ length m → length (take roster_words (drop rows_at m)) ≡ roster_words
 unfolding part
 rows_long m h = length_part m rows_at roster_words (omega arith)
@@ -143,9 +134,6 @@ module _ (n : Node) (m area : List ℕ) (peer slot : ℕ) (b : Ballot) (z : read
 
   r : Ready n m
   r = is_ready n m true (sym z) refl
-
-  pub start_low_lem : start ≤ 281474976710655
-  start_low_lem = r.start_low_lem
 
   pub long : node_words ≤ length m
   long = r.long
@@ -231,10 +219,10 @@ module _ (n : Node) (m area : List ℕ) (peer slot : ℕ) (b : Ballot) (z : read
           i = slot - start
 
           abbrev due : Noticed
-          due = noticed_at n.quorum leader peer b.0 i (insts_of start n.slots (take slot_words (drop slots_at m)))
+          due = noticed_at n.quorum leader peer b.0 i (insts_of start n.slots (part m slots_at slot_words))
 
           noticed_here : effect (view n m) call ≡ machine.done (machine.with_insts due.insts (view n m)) due.items
-          unfolding view roster_of part
+          unfolding view roster_of
           noticed_here =
               handled_by ∙ ap (λ (c : Bool). if c then noticed (machine.pad slot (view n m)) peer slot b.0 else machine.done (view n m) []) q
               ∙ noticed_is (view n m) peer slot b.0 h
@@ -245,27 +233,24 @@ module _ (n : Node) (m area : List ℕ) (peer slot : ℕ) (b : Ballot) (z : read
               let no : cur && leb (start + window) slot ≡ false = ap (λ (c : Bool). c && leb (start + window) slot) y ∙ (none_applies call n m number_is).1.1.0 in
               leb-false (start + window) slot (ap (λ (c : Bool). c && leb (start + window) slot) (sym q) ∙ no)
 
-          pub due_room : (start ≤ 281474976710655) × (n.slots ≤ slot_places) × (i < slot_places) × (slot_words ≤ length (take slot_words (drop slots_at m)))
-          due_room = (r.start_low_lem, r.window, omega (arith, in_window), omega (arith, slots_long m r.long))
+          pub below : (i < slot_places) × (slot_words ≤ length (part m slots_at slot_words))
+          below = (omega (arith, in_window), omega (arith, length_part m slots_at slot_words (omega (arith, r.long))))
 
-          module _ (many : ℕ) (l : (o : Option ℕ) → many ≡ length (noticed_at n.quorum o peer b.0 i (insts_of start n.slots (take slot_words (drop slots_at m)))).items) where
+          module _ (many : ℕ) (l : (o : Option ℕ) → many ≡ length (noticed_at n.quorum o peer b.0 i (insts_of start n.slots (part m slots_at slot_words))).items) where
             pub notice_20 : length area / 6 < many → Answers ready view call n m area (given_of n (Err AreaTooSmall)) m area
             notice_20 o = few_places call n m number_is area true (sym z) refl (rw (noticed_here, ← l leader) o)
 
             module _ (o : many ≤ length area / 6) where
-              room : length due.items ≤ places area
+              pub room : length due.items ≤ places area
               room = rw (← l leader) o
 
-              pub notice_room : (start ≤ 281474976710655) × (n.slots ≤ slot_places) × (i < slot_places) × (slot_words ≤ length (take slot_words (drop slots_at m))) × (length due.items ≤ places area)
-              notice_room = (due_room.0, due_room.1, due_room.2, due_room.3, room)
-
-              module _ (s' area' : List ℕ) (count : ℕ) (x : NotesAt n.quorum leader peer b.0 start n.slots i (take slot_words (drop slots_at m)) area count s' area')
+              module _ (s' area' : List ℕ) (count : ℕ) (x : NotesAt n.quorum leader peer b.0 start n.slots i 0 (part m slots_at slot_words) area count s' area')
                   (held : ℕ) (v : held ≡ after n.slots i) where
                 abbrev d' : Node
                 d' = grown n held
 
                 long' : length s' ≡ slot_words
-                long' = x.size ∙ slots_long m r.long
+                long' = x.size ∙ length_part m slots_at slot_words (omega (arith, r.long))
 
                 slots_here : view d' (splice m slots_at slot_words s') ≡ machine.with_insts due.insts (view n m)
                 unfolding view
@@ -275,7 +260,7 @@ module _ (n : Node) (m area : List ℕ) (peer slot : ℕ) (b : Ballot) (z : read
 
                 ready_d' : ready d' (splice m slots_at slot_words s') ≡ true
                 ready_d' =
-                    let w = after_range n.slots i r.window (omega (arith, in_window)) in
+                    let w = after_range n.slots i r.window below.0 in
                     made_ready d' (splice m slots_at slot_words s')
                     (record {
                       long = rw (slots_size n m r.long s' long') r.long;
@@ -293,6 +278,6 @@ module _ (n : Node) (m area : List ℕ) (peer slot : ℕ) (b : Ballot) (z : read
 
                 pub notice_taken : Answers ready view call n m area (given_of n (Ok (record { node = d'; count = count }))) (splice m slots_at slot_words s') area'
                 notice_taken =
-                    rw x.count
+                    rw (x.next ∙ zero-add (length due.items))
                     (taken_with call n m number_is area true (sym z) refl (machine.with_insts due.insts (view n m)) due.items d' (splice m slots_at slot_words s') area' noticed_here
                     room slots_here x.items (slots_size n m r.long s' long') (slots_beyond n m r.long s' long') ready_d')

@@ -3,18 +3,22 @@
 
 ghost use Rattle.std.specs.Prelude.{◌≡◌, ◌&&◌, not, ◌≤◌, ◌<◌, eqb, length};
 ghost use Rattle.ids.specs.Leader.{leader_of};
-ghost use Rattle.ids.specs.Limits.{top};
-ghost use Rattle.layout.specs.Layout.{roster_words};
+ghost use Rattle.layout.specs.Layout.{roster_words, slot_places, slot_words};
+ghost use Rattle.items.specs.Item.{places};
 ghost use Rattle.roster_conf.specs.Conf.{into_filtered};
 ghost use Rattle.roster_conf.specs.Edits.{view as roster_of};
-ghost use Rattle.bodega.specs.Replica.{Notice};
+ghost use Rattle.bodega.specs.Replica.{Notice as Call};
 ghost use Rattle.bodega.specs.Answers.{Answers};
+ghost use Rattle.insts.specs.Slots.{insts_of};
+ghost use Rattle.accept_notice_at.specs.Notices.{noticed_at, NotesAt};
 ghost use Rattle.node.specs.View.{view, ready, given_of, leads_it};
 ghost use Rattle.call_notice.specs.Notice.{notice_refusal, StepsDown};
 ghost use Rattle.ids.specs.Refusal.{refused_by};
 
+use accept_notice_at::Notice;
 use ids::{Ballot, Refusal, Replica, Slot};
-use items::Item;
+use insts::{InstsMut, Window};
+use items::{Item, Items};
 use node::{Node, Taken};
 use roster_conf::RespondersConf;
 
@@ -29,12 +33,11 @@ fn is_current(node: Node, ballot: Ballot) -> bool
 fn notice_refusal(
     population: u8,
     current: bool,
-    start: Slot,
+    window: Window,
     peer: Replica,
     slot: Slot,
 ) -> Result<(), Refusal>
-    requires { start.0 ≤ top }
-    ensures { refused_by result ≡ notice_refusal population current start.0 peer.0 slot.0 }
+    ensures { refused_by result ≡ notice_refusal population current window.start.0 peer.0 slot.0 }
 {
     if population <= peer.0 {
         return Err(Refusal::NoSuchReplica);
@@ -42,7 +45,7 @@ fn notice_refusal(
     if Slot::TOP < slot {
         return Err(Refusal::SlotTooLarge);
     }
-    if current && start.0 + Node::WINDOW as u64 <= slot.0 {
+    if current && window.slot(Node::WINDOW) <= slot {
         return Err(Refusal::WindowFull);
     }
     Ok(())
@@ -69,6 +72,27 @@ fn put_lead(area: &mut [u64], led: bool) -> Result<usize, Refusal>
     Ok(1)
 }
 
+// A notice at the k-th slot of the window, its items from the first place on. The words come whole: a struct made of a
+// part of the buffer would lose what became of the part.
+fn notice_in(
+    words: &mut [u64],
+    window: Window,
+    k: usize,
+    quorum: u8,
+    leader: Option<Replica>,
+    notice: Notice,
+    area: &mut [u64],
+) -> usize
+    requires below { (k < slot_places) × (slot_words ≤ length words.old) }
+    requires room { length (noticed_at quorum (leader_of leader) notice.peer.0 notice.ballot.0 k (insts_of window.start.0 window.held words.old)).items ≤ places area.old }
+    ensures { NotesAt quorum (leader_of leader) notice.peer.0 notice.ballot.0 window.start.0 window.held k 0 words.old area.old result words.new area.new }
+{
+    let mut insts = InstsMut { words };
+    let mut items = Items { area, count: 0 };
+    accept_notice_at::notice_at(&mut insts, window, k, quorum, leader, notice, &mut items);
+    items.count
+}
+
 pub fn notice(
     node: Node,
     mem: &mut [u64],
@@ -77,15 +101,15 @@ pub fn notice(
     slot: Slot,
     ballot: Ballot,
 ) -> Result<Taken, Refusal>
-    ensures { Answers ready view (Notice peer.0 slot.0 ballot.0) node mem.old area.old (given_of node result) mem.new area.new }
+    ensures { Answers ready view (Call peer.0 slot.0 ballot.0) node mem.old area.old (given_of node result) mem.new area.new }
 {
     if !node::is_ready(node, mem) {
         return Err(Refusal::NotReady);
     }
-    let start = node.start_slot;
+    let window = node::window(node, mem);
     let current = is_current(node, ballot);
-    notice_refusal(node.population, current, start, peer, slot)?;
-    if slot < start {
+    notice_refusal(node.population, current, window, peer, slot)?;
+    if slot < node.start_slot {
         return Ok(Taken { node, count: 0 });
     }
     if node.bal_max_seen < ballot {
@@ -106,28 +130,19 @@ pub fn notice(
     if !current {
         return Ok(Taken { node, count: 0 });
     }
-    let k = (slot.0 - start.0) as usize;
-    let due = accept_notice_at::due(
-        &mem[layout::SLOTS_AT..layout::WRITTEN_AT],
-        start,
-        node.slots,
-        k,
-        node.quorum,
-        peer,
-        ballot,
-    );
+    let k = (slot.0 - node.start_slot.0) as usize;
+    let notice = Notice { peer, ballot };
+    let due = accept_notice_at::due(node::insts(mem), window, k, node.quorum, notice);
     if area.len() / 6 < due {
         return Err(Refusal::AreaTooSmall);
     }
-    let count = accept_notice_at::notice_at(
+    let count = notice_in(
         &mut mem[layout::SLOTS_AT..layout::WRITTEN_AT],
-        start,
-        node.slots,
+        window,
         k,
         node.quorum,
         node.bodega_conf.leader,
-        peer,
-        ballot,
+        notice,
         area,
     );
     let slots = accept_notice_at::held_after(node.slots, k);

@@ -2,16 +2,17 @@
 use mathlib.Core.Path.{◌≡◌, refl, sym, ap, ◌∙◌}
 use mathlib.Core.Bool.{Bool, true, not, ◌||◌}
 use mathlib.Core.List.{List, []}
-use Prim.Native.Nat.{ℕ, ◌+◌, ◌/◌, ◌%◌, ◌≤◌, ◌<◌}
+use Prim.Native.Nat.{ℕ, ◌+◌, ◌/◌, ◌≤◌, ◌<◌}
+use native.Mathlib.Nat.{zero-add}
 use native.Mathlib.Decide.{dec_lt}
 use native.Mathlib.Omega.{arith}
 use lib.Dec.{ltb, leb}
-use lib.ListN.{length, take, drop}
+use lib.ListN.{length}
 use borrow.Author.Tests.{lt-ltb, le-ltb, le-leb, lt-leb, ltb-false, leb-false}
 use Rattle.words.specs.Part.{part, splice, length_part}
 use Rattle.words.proofs.Tests.{or_both}
 use Rattle.ids.specs.Leader.{leader_of}
-use Rattle.layout.specs.Layout.{slot_places, held_places, slot_words, slots_at, node_words}
+use Rattle.layout.specs.Layout.{held_places, slot_words, slots_at}
 use Rattle.items.specs.Item.{Item, places}
 use Rattle.roster_conf.specs.Edits.{view as roster_of}
 use Rattle.roster_conf.specs.Ground.{◌when◌or◌}
@@ -19,7 +20,7 @@ use Rattle.bodega.specs.Replica as machine
 use Rattle.bodega.specs.Grounds.{grounds, is_held}
 use Rattle.bodega.specs.Step.{effect}
 use Rattle.bodega.specs.Answers.{Answers}
-use Rattle.insts.specs.Slots.{inst_in}
+use Rattle.insts.specs.Slots.{place_of, inst_in}
 use Rattle.release_held_reads.specs.Release.{holding_of, answers_of, emptied, Releases}
 use Rattle.release_held_reads.proofs.Laws.{length_answers}
 use Rattle.release_held_reads.proofs.Machine.{release_is, emptied_is}
@@ -34,10 +35,6 @@ use Rattle.node.proofs.Calls.{Ready, is_ready, refused_by, few_places, taken_wit
 use Rattle.node.proofs.Frames.{slots_back, slots_size, slots_beyond, slots_ready}
 use Rattle.node.proofs.Slots.{not_below, not_past, held_at_lem, set_at}
 use Rattle.call_release.specs.Release.{release_refusal}
-
-pub slots_long : (m : List ℕ) → node_words ≤ length m → length (take slot_words (drop slots_at m)) ≡ slot_words
-unfolding part
-slots_long m h = length_part m slots_at slot_words (omega arith)
 
 -- ---- the call
 
@@ -77,7 +74,7 @@ module _ (n : Node) (m area : List ℕ) (slot : ℕ) (y : ready n m ≡ true) wh
     s = part m slots_at slot_words
 
     abbrev inst : machine.Instance
-    inst = inst_in s (slot % slot_places)
+    inst = inst_in s (place_of slot)
 
     abbrev items : List Item
     items = answers_of n.quorum (leader_of n.bodega_conf.leader) inst
@@ -86,25 +83,23 @@ module _ (n : Node) (m area : List ℕ) (slot : ℕ) (y : ready n m ≡ true) wh
     unfolding effect view roster_of
     effect_is = release_is (view n m) slot inst (held_at_lem n m slot in_window.0 in_window.1)
 
-    module _ (h : ℕ) (p : (h ≡ length (holding_of (inst_in (take slot_words (drop slots_at m)) (slot % slot_places)))) × (h ≤ held_places)) where
+    module _ (h : ℕ) (p : (h ≡ length (holding_of inst)) × (h ≤ held_places)) where
       many : length items ≡ h
-      unfolding part
       many = length_answers n.quorum (leader_of n.bodega_conf.leader) inst ∙ sym p.0
 
       pub release_20 : length area / 6 < h → Answers ready view (machine.Release slot) n m area (given_of n (Err AreaTooSmall)) m area
       release_20 q = few_places (machine.Release slot) n m (z ∙ number_is) area true (sym y) refl (rw (effect_is, many) q)
 
       module _ (q : h ≤ length area / 6) where
-        pub room : (slot % slot_places < slot_places) × (slot_words ≤ length (take slot_words (drop slots_at m))) × (0 + length (holding_of (inst_in (take slot_words (drop slots_at m)) (slot % slot_places))) ≤ places area)
-        room = (omega arith, omega (arith, slots_long m r.long), omega (arith, p.0))
+        pub room : (slot_words ≤ length s) × (length (holding_of inst) ≤ places area)
+        room = (omega (arith, length_part m slots_at slot_words (omega (arith, r.long))), omega (arith, p.0))
 
-        pub release_taken : (s' area' : List ℕ) (count : ℕ) → Releases n.quorum (leader_of n.bodega_conf.leader) (slot % slot_places) 0 (take slot_words (drop slots_at m)) area count s' area'
+        pub release_taken : (s' area' : List ℕ) (count : ℕ) → Releases n.quorum (leader_of n.bodega_conf.leader) (place_of slot) 0 s area count s' area'
             → Answers ready view (machine.Release slot) n m area (given_of n (Ok (record { node = n; count = count }))) (splice m slots_at slot_words s') area'
-        unfolding part
         release_taken s' area' count x =
-            let l : length s' ≡ slot_words = x.emptied.size ∙ slots_long m r.long in
-            rw x.count
+            let l : length s' ≡ slot_words = x.emptied.size ∙ length_part m slots_at slot_words (omega (arith, r.long)) in
+            rw (x.next ∙ zero-add (length items))
             (taken_with (machine.Release slot) n m (z ∙ number_is) area true (sym y) refl (machine.set_inst slot (emptied inst) (view n m)) items n (splice m slots_at slot_words s') area'
             effect_is (rw many q)
-            (slots_back n m r.long s' l ∙ set_at n m slot in_window.0 in_window.1 r.window x.emptied ∙ ap (λ (i : machine.Instance). machine.set_inst slot i (view n m)) (emptied_is s (slot % slot_places)))
+            (slots_back n m r.long s' l ∙ set_at n m slot in_window.0 in_window.1 r.window x.emptied ∙ ap (λ (i : machine.Instance). machine.set_inst slot i (view n m)) (emptied_is s (place_of slot)))
             x.items (slots_size n m r.long s' l) (slots_beyond n m r.long s' l) (slots_ready n m r.long s' l ∙ y))

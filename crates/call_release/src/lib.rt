@@ -1,27 +1,52 @@
 // The call *release*: the reads that a slot holds are answered, and its queue is emptied.
 #![tactic(auto)]
 
-ghost use Rattle.std.specs.Prelude.{◌≡◌};
+ghost use Rattle.std.specs.Prelude.{◌≡◌, ◌≤◌, length};
+ghost use Rattle.ids.specs.Leader.{leader_of};
+ghost use Rattle.layout.specs.Layout.{slot_words};
+ghost use Rattle.items.specs.Item.{places};
+ghost use Rattle.insts.specs.Slots.{place_of, inst_in};
+ghost use Rattle.release_held_reads.specs.Release.{holding_of, Releases};
 ghost use Rattle.bodega.specs.Replica.{Release};
 ghost use Rattle.bodega.specs.Answers.{Answers};
 ghost use Rattle.node.specs.View.{view, ready, given_of};
 ghost use Rattle.call_release.specs.Release.{release_refusal};
 ghost use Rattle.ids.specs.Refusal.{refused_by};
 
-use ids::{Refusal, Slot};
+use ids::{Refusal, Replica, Slot};
+use insts::{InstsMut, Window};
+use items::Items;
 use node::{Node, Taken};
 
 // The number of a release's refusal but 20, 0 where there is none.
-fn release_refusal(start: Slot, slots: usize, slot: Slot) -> Result<(), Refusal>
-    ensures { refused_by result ≡ release_refusal start.0 slots slot.0 }
+fn release_refusal(window: Window, slot: Slot) -> Result<(), Refusal>
+    ensures { refused_by result ≡ release_refusal window.start.0 window.held slot.0 }
 {
     if Slot::TOP < slot {
         Err(Refusal::SlotTooLarge)
-    } else if slot < start || slots as u64 <= slot.0 - start.0 {
+    } else if slot < window.start || window.held as u64 <= slot.0 - window.start.0 {
         Err(Refusal::SlotNotHeld)
     } else {
         Ok(())
     }
+}
+
+// A release at a slot, its items from the first place on. The words come whole: a struct made of a part of the buffer
+// would lose what became of the part.
+fn release_in(
+    words: &mut [u64],
+    slot: Slot,
+    quorum: u8,
+    leader: Option<Replica>,
+    area: &mut [u64],
+) -> usize
+    requires { (slot_words ≤ length words.old) × (length (holding_of (inst_in words.old (place_of slot.0))) ≤ places area.old) }
+    ensures { Releases quorum (leader_of leader) (place_of slot.0) 0 words.old area.old result words.new area.new }
+{
+    let mut insts = InstsMut { words };
+    let mut items = Items { area, count: 0 };
+    release_held_reads::release(&mut insts, slot, quorum, leader, &mut items);
+    items.count
 }
 
 pub fn release(node: Node, mem: &mut [u64], area: &mut [u64], slot: Slot) -> Result<Taken, Refusal>
@@ -30,19 +55,17 @@ pub fn release(node: Node, mem: &mut [u64], area: &mut [u64], slot: Slot) -> Res
     if !node::is_ready(node, mem) {
         return Err(Refusal::NotReady);
     }
-    release_refusal(node.start_slot, node.slots, slot)?;
-    let c = (slot.0 % layout::PLACES) as usize;
-    let held = release_held_reads::holding(&mem[layout::SLOTS_AT..layout::WRITTEN_AT], c);
+    release_refusal(node::window(node, mem), slot)?;
+    let held = release_held_reads::holding(node::insts(mem), slot);
     if area.len() / 6 < held {
         return Err(Refusal::AreaTooSmall);
     }
-    let count = release_held_reads::release(
+    let count = release_in(
         &mut mem[layout::SLOTS_AT..layout::WRITTEN_AT],
-        c,
+        slot,
         node.quorum,
         node.bodega_conf.leader,
         area,
-        0,
     );
     Ok(Taken { node, count })
 }

@@ -1,4 +1,5 @@
 use Rattle.std.proofs.Common.{refl, sym, arith}
+use Rattle.words.specs.Part.{part}
 use Rattle.bodega.specs.Replica.{Release}
 use Rattle.node.proofs.Calls.{is_ready, not_ready}
 use Rattle.call_release.proofs.Laws as law
@@ -12,25 +13,31 @@ returns-then-not-is_ready c =
 pub returns-in_err-release_refusal : goal.returns-in_err-release_refusal
 returns-in_err-release_refusal c =
     let a = c.args in
-    law.release_refused a.node a.mem.now a.area.now a.slot.0 (sym c.if-not-is_ready.ensures) _ _ c.in_err-release_refusal.ensures c.from_residual.ensures.1
+    law.release_refused a.node a.mem.now a.area.now a.slot.0 (sym c.if-not-is_ready.ensures) _ _
+    (rw (c.window.ensures.0, c.window.ensures.1) at c.in_err-release_refusal.ensures) c.from_residual.ensures.1
 
-pub slice_bounds-holding-end : goal.slice_bounds-holding-end
-slice_bounds-holding-end c = omega (arith, is_ready c.args.node c.args.mem.now _ c.if-not-is_ready.ensures refl)
+pub insts-requires : goal.insts-requires
+insts-requires c = (is_ready c.args.node c.args.mem.now _ c.if-not-is_ready.ensures refl).long
 
 pub returns-then-area-held : goal.returns-then-area-held
 returns-then-area-held c =
     let a = c.args in
-    law.release_20 a.node a.mem.now a.area.now a.slot.0 (sym c.if-not-is_ready.ensures) c.in_ok-release_refusal.ensures _ c.holding-held.ensures c.if-area-held.true
+    law.release_20 a.node a.mem.now a.area.now a.slot.0 (sym c.if-not-is_ready.ensures) (rw (c.window.ensures.0, c.window.ensures.1) at c.in_ok-release_refusal.ensures) _
+    (rw c.insts.ensures at c.holding-held.ensures) c.if-area-held.true
 
-pub slice_bounds-release-end : goal.slice_bounds-release-end
-slice_bounds-release-end c = omega (arith, is_ready c.args.node c.args.mem.now _ c.if-not-is_ready.ensures refl)
+pub slice_bounds-release_in-end : goal.slice_bounds-release_in-end
+slice_bounds-release_in-end c = omega (arith, is_ready c.args.node c.args.mem.now _ c.if-not-is_ready.ensures refl)
 
-pub release-count-requires : goal.release-count-requires
-release-count-requires c =
+pub release_in-count-requires : goal.release_in-count-requires
+unfolding part
+release_in-count-requires c =
     let a = c.args in
-    law.room a.node a.mem.now a.area.now a.slot.0 (sym c.if-not-is_ready.ensures) c.in_ok-release_refusal.ensures _ c.holding-held.ensures c.if-area-held.false
+    law.room a.node a.mem.now a.area.now a.slot.0 (sym c.if-not-is_ready.ensures) (rw (c.window.ensures.0, c.window.ensures.1) at c.in_ok-release_refusal.ensures) _
+    (rw c.insts.ensures at c.holding-held.ensures) c.if-area-held.false
 
 pub returns : goal.returns
+unfolding part
 returns c =
     let a = c.args in
-    law.release_taken a.node a.mem.now a.area.now a.slot.0 (sym c.if-not-is_ready.ensures) c.in_ok-release_refusal.ensures _ c.holding-held.ensures c.if-area-held.false _ _ _ c.release-count.ensures
+    law.release_taken a.node a.mem.now a.area.now a.slot.0 (sym c.if-not-is_ready.ensures) (rw (c.window.ensures.0, c.window.ensures.1) at c.in_ok-release_refusal.ensures) _
+    (rw c.insts.ensures at c.holding-held.ensures) c.if-area-held.false _ _ _ c.release_in-count.ensures
