@@ -4,7 +4,7 @@ use mathlib.Core.Path.{◌≡◌, refl, sym, ap, ◌∙◌}
 use mathlib.Core.Bool.{Bool, true, false, not, ◌&&◌, ◌||◌}
 use mathlib.Core.List.{List, [], ◌∷◌}
 use Rattle.std.specs.Prelude.{Some}
-use Prim.Native.Nat.{ℕ, zero, suc, ◌+◌, ◌-◌, ◌%◌, ◌≤◌, ◌<◌}
+use Prim.Native.Nat.{ℕ, zero, suc, ◌+◌, ◌-◌, ◌%◌, ◌≤◌, ◌<◌, min}
 use native.Mathlib.Numerals.{add-one}
 use native.Mathlib.Omega.{arith}
 use lib.Dec.{ltb, leb}
@@ -16,21 +16,21 @@ use Rattle.ids.specs.declared.Refusal.{Refusal}
 use Rattle.ids.specs.Refusal.{number_of}
 use Rattle.ids.specs.declared.Slot.{Slot}
 use Rattle.inst_cell.specs.Cell.{with_status as short_with}
-use Rattle.bodega.specs.Replica.{Instance, Bars, Executed, is_open, with_status, with_insts}
+use Rattle.bodega.specs.Replica.{Instance, Bars, Executed, with_status, with_insts}
 use Rattle.bodega.specs.Events.{executed, bars}
-use Rattle.bodega.specs.Grounds.{any, far, holds, grounds}
+use Rattle.bodega.specs.Grounds.{far, grounds}
 use Rattle.bodega.specs.Step.{effect}
 use Rattle.bodega.specs.Answers.{Answers}
 use Rattle.insts.specs.Slots.{short_at, batch_at, reads_at, inst_in, insts_of, Puts}
-use Rattle.insts.proofs.Laws.{moved, dropped, first, inst_at_lem, length_insts}
+use Rattle.insts.proofs.Laws.{moved, dropped, inst_at_lem, length_insts}
 use Rattle.node.specs.declared.Node.{Node}
 use Rattle.node.specs.declared.Taken.{Taken}
 use Rattle.node.specs.View.{view, ready, given_of}
 use Rattle.words.proofs.Tests.{and_both, or_both}
-use Rattle.layout.specs.Layout.{slot_places, slot_words, slots_at}
+use Rattle.layout.specs.Layout.{slot_places, slot_words, slots_at, node_words}
 use Rattle.node.proofs.Calls.{Ready, is_ready, made_ready, refused_by, taken_by, none_applies}
 use Rattle.node.proofs.Frames.{slots_back, slots_size, slots_beyond}
-use Rattle.call_bars.specs.Moves.{lowered, in_order, open_below, holds_below, broken, bars_refusal, Executes}
+use Rattle.call_bars.specs.Moves.{lowered, in_order, open_below, holds_below, bars_refusal, Executes}
 
 -- ---- a test after another
 
@@ -53,42 +53,6 @@ kept start₀ commit₀ exec₀ n start commit exec e g =
       exec_commit_lem = leb-true exec commit y.1;
       commit_held = leb-true commit (start₀ + n) x.1;
     }
-
-module _ (start₀ commit₀ exec₀ n start commit exec : ℕ) (s : List ℕ) where
-  abbrev insts : List Instance
-  insts = insts_of start₀ n s
-
-  abbrev is_broken : Bool
-  is_broken = broken start₀ commit₀ exec₀ insts start commit exec
-
-  abbrev in_order_lem : Bool
-  in_order_lem = in_order start exec commit (start₀ + length insts)
-
-  end_is : in_order_lem ≡ in_order start exec commit (start₀ + n)
-  end_is = ap (λ (k : ℕ). in_order start exec commit (start₀ + k)) (length_insts start₀ n s)
-
-  module _ (t : Bool) (e : t ≡ lowered start₀ commit₀ exec₀ start commit exec || not (in_order start exec commit (start₀ + n))) where
-    misplaced : is_broken ≡ t || open_below start₀ insts commit || holds_below start₀ insts start
-    misplaced = rw (end_is, ← e)
-
-    pub breaks_bars : t ≡ true → true ≡ is_broken
-    breaks_bars f = sym (misplaced ∙ rw f)
-
-    module _ (f : t ≡ false) where
-      in_window : Kept start₀ n start commit exec
-      in_window =
-          let a = or_both (lowered start₀ commit₀ exec₀ start commit exec) (not (in_order start exec commit (start₀ + n))) (sym e ∙ f) in
-          kept start₀ commit₀ exec₀ n start commit exec a.0 (not-false (in_order start exec commit (start₀ + n)) a.1)
-
-      module _ (v : Bool) (k : v ≡ any (λ (i : Instance). is_open i.status) (insts_of start₀ (commit - start₀) s)) where
-        opened : is_broken ≡ v || holds_below start₀ insts start
-        opened = misplaced ∙ rw (f, first start₀ n (commit - start₀) s (omega (arith, in_window)), ← k)
-
-        pub breaks_open : v ≡ true → true ≡ is_broken
-        breaks_open l = sym (opened ∙ rw l)
-
-        pub breaks_holds : v ≡ false → (w : Bool) → w ≡ any holds (insts_of start₀ (start - start₀) s) → w ≡ is_broken
-        breaks_holds l w q = sym (opened ∙ rw (l, first start₀ n (start - start₀) s (omega (arith, in_window)), ← q))
 
 -- ---- the slots executed, one by one
 
@@ -116,9 +80,6 @@ execute_step {s = s} {t = t} start i h x p =
       size = p.size ∙ x.size;
     }
 
-pub execute_end : {s t : List ℕ} (start i n : ℕ) → n ≤ i → i ≤ n → Executes start i s t → Executes start n s t
-execute_end {s = s} {t = t} start i n h g x = let e : n ≡ i = omega arith in rw e x
-
 -- ---- the call
 
 abbrev pub next : Node → Slot → Slot → Slot → Slot → Node
@@ -132,15 +93,15 @@ module _ (n : Node) (m area : List ℕ) (start accept commit exec : Slot) (y : r
   r : Ready n m
   r = is_ready n m true (sym y) refl
 
+  pub whole : node_words ≤ length m
+  whole = r.long
+
   pub long : slots_at + slot_words ≤ length m
   long = omega (arith, r.long)
 
   words_long : length words ≡ slot_words
   unfolding part
   words_long = length_part m slots_at slot_words (omega (arith, r))
-
-  pub asked : (n.start_slot.0 ≤ 281474976710655) × (n.slots ≤ slot_places) × (slot_words ≤ length words)
-  asked = (r.start_low_lem, r.window, omega (arith, words_long))
 
   abbrev refusal : ℕ
   refusal = bars_refusal n.start_slot.0 n.commit_bar.0 n.exec_bar.0 (insts_of n.start_slot.0 n.slots words) start.0 accept.0 commit.0 exec.0
@@ -163,9 +124,6 @@ module _ (n : Node) (m area : List ℕ) (start accept commit exec : Slot) (y : r
         kept n.start_slot.0 n.commit_bar.0 n.exec_bar.0 n.slots start.0 commit.0 exec.0 d.0
         (ap (λ (j : ℕ). in_order start.0 exec.0 commit.0 (n.start_slot.0 + j)) (sym (length_insts n.start_slot.0 n.slots words)) ∙ not-false order d.1)
 
-    pub execute_room : (n.start_slot.0 ≤ 281474976710655) × (exec.0 - n.start_slot.0 ≤ slot_places) × (slot_words ≤ length words)
-    execute_room = let a = kept_bars in let b = r.window in (r.start_low_lem, omega (arith, a, b), omega (arith, words_long))
-
     pub slots_left : start.0 - n.start_slot.0 ≤ n.slots
     slots_left = let a = kept_bars in omega (arith, a)
 
@@ -177,7 +135,10 @@ module _ (n : Node) (m area : List ℕ) (start accept commit exec : Slot) (y : r
         let c = (or_both (far start.0 || far accept.0) (far commit.0) b).0 in
         ltb-false 281474976710655 start.0 (or_both (far start.0) (far accept.0) c).0
 
-    module _ (s' : List ℕ) (x : Executes n.start_slot.0 (exec.0 - n.start_slot.0) words s') where
+    module _ (s' : List ℕ) (executes : Executes n.start_slot.0 (min (exec.0 - n.start_slot.0) n.slots) words s') where
+      x : Executes n.start_slot.0 (exec.0 - n.start_slot.0) words s'
+      x = let w = kept_bars in let e : min (exec.0 - n.start_slot.0) n.slots ≡ exec.0 - n.start_slot.0 = omega (arith, w) in rw e at executes
+
       abbrev d : Node
       d = next n start accept commit exec
 

@@ -154,9 +154,6 @@ module _ (n : Node) (m : List ℕ) (slot ballot : ℕ) (ok : ready n m ≡ true)
   pub long : node_words ≤ length m
   long = omega (arith, r.long)
 
-  pub long_slots : written_at ≤ length m
-  long_slots = omega (arith, r.long)
-
   words_long : length words ≡ slot_words
   unfolding part
   words_long = length_part m slots_at slot_words (omega (arith, r))
@@ -164,9 +161,6 @@ module _ (n : Node) (m : List ℕ) (slot ballot : ℕ) (ok : ready n m ≡ true)
   written_long : length written ≡ written_words
   unfolding part
   written_long = length_part m written_at written_words (omega (arith, r))
-
-  pub asked : (start ≤ 281474976710655) × (n.slots ≤ slot_places) × (slot_words ≤ length words)
-  asked = (r.start_low_lem, r.window, omega (arith, words_long))
 
   abbrev leader : Bool
   leader = leads_it (leader_of n.bodega_conf.leader) n.id.0
@@ -217,8 +211,8 @@ module _ (n : Node) (m : List ℕ) (slot ballot : ℕ) (ok : ready n m ≡ true)
       unfolding part
       words_same = part_before m written_at written_words w' (omega (arith, r.long)) long_w slots_at slot_words (omega arith)
 
-      pub acceptable : (l : ℕ) → l ≡ batch_words → (start ≤ 281474976710655) × (n.slots ≤ slot_places) × (start ≤ slot) × (slot < start + window) × (slot_words ≤ length (take slot_words (drop slots_at m₁))) × (l ≡ batch_words)
-      acceptable l e = (r.start_low_lem, r.window, above, inside, rw words_same (omega (arith, words_long)), e)
+      pub acceptable : (l : ℕ) → l ≡ batch_words → (start ≤ slot) × (slot < start + window) × (slot_words ≤ length (take slot_words (drop slots_at m₁))) × (l ≡ batch_words)
+      acceptable l e = (above, inside, rw words_same (omega (arith, words_long)), e)
 
       module _ (q : Refreshes slot reqs written w') (lead : Bool) (b : lead ≡ leads_it (leader_of n.bodega_conf.leader) n.id.0) (s' : List ℕ) (held : ℕ)
           (p₁ : Records start n.slots slot ballot lead reqs (take slot_words (drop slots_at m₁)) s' held) where

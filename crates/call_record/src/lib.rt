@@ -3,7 +3,6 @@
 #![tactic(auto)]
 
 ghost use Rattle.std.specs.Prelude.{◌≡◌, true, ◌+◌, ◌≤◌, ◌<◌, length, if◌then◌else◌};
-ghost use Rattle.ids.specs.Limits.{top};
 ghost use Rattle.ids.specs.Leader.{leader_of};
 ghost use Rattle.layout.specs.Layout.{slot_places, batch_words, slot_words};
 ghost use Rattle.bodega.specs.Replica.{Record};
@@ -11,13 +10,14 @@ ghost use Rattle.bodega.specs.Answers.{Answers};
 ghost use Rattle.inst_cell.specs.Cell.{book_of};
 ghost use Rattle.inst_reqs.specs.Batch.{requests_of};
 ghost use Rattle.req_batch.specs.Given.{given};
-ghost use Rattle.insts.specs.Slots.{short_at, reads_at, seen_reads, insts_of, Puts};
+ghost use Rattle.insts.specs.Slots.{short_at, reads_at, seen_reads, insts_of, place_of, Puts};
 ghost use Rattle.node.specs.View.{view, ready, leads_it, given_of};
 ghost use Rattle.call_record.specs.Records.{batch_refusal, slot_refusal, late_refusal, ended, kept_book, accepting_short, Pads, Records, Recorded};
 ghost use Rattle.ids.specs.Refusal.{refused_by};
 
 use ids::{Ballot, Refusal, Slot};
 use inst_cell::{Cell, NoticeBook, Status};
+use insts::{Insts, InstsMut, Window};
 use node::{Node, Taken};
 
 // Refusals 5, 8 and 9.
@@ -48,34 +48,30 @@ fn current(node: Node) -> Ballot
 }
 
 // 14: below the start, or held and no longer open.
-fn is_ended(s: &[u64], start: Slot, n: usize, slot: Slot) -> bool
-    requires { (start.0 ≤ top) × (n ≤ slot_places) × (slot_words ≤ length s.now) }
-    ensures { result ≡ ended start.0 (insts_of start.0 n s.now) slot.0 }
+fn is_ended(insts: Insts<'_>, window: Window, slot: Slot) -> bool
+    ensures { result ≡ ended window.start.0 (insts_of window.start.0 window.held insts.entry.words.now) slot.0 }
 {
-    slot < start
-        || (slot.0 < start.0 + n as u64 && !insts::is_open(s, (slot.0 % layout::PLACES) as usize))
+    slot < window.start || (slot < window.slot(window.held) && !insts.is_open(slot))
 }
 
 // Refusals 13, 14, 15 and 18.
 fn slot_refusal(
-    s: &[u64],
-    start: Slot,
-    n: usize,
+    insts: Insts<'_>,
+    window: Window,
     slot: Slot,
     ballot: Ballot,
     current: Ballot,
     full: bool,
 ) -> Result<(), Refusal>
-    requires { (start.0 ≤ top) × (n ≤ slot_places) × (slot_words ≤ length s.now) }
-    ensures { refused_by result ≡ slot_refusal start.0 (insts_of start.0 n s.now) slot.0 ballot.0 current.0 full }
+    ensures { refused_by result ≡ slot_refusal window.start.0 (insts_of window.start.0 window.held insts.entry.words.now) slot.0 ballot.0 current.0 full }
 {
     if ballot != current || current.0 == 0 {
         return Err(Refusal::BallotNotCurrent);
     }
-    if is_ended(s, start, n, slot) {
+    if is_ended(insts, window, slot) {
         return Err(Refusal::SlotEnded);
     }
-    if start.0 + Node::WINDOW as u64 <= slot.0 {
+    if window.start.0 + Node::WINDOW as u64 <= slot.0 {
         return Err(Refusal::WindowFull);
     }
     if full {
@@ -84,13 +80,14 @@ fn slot_refusal(
     Ok(())
 }
 
-// Null slots up to and with the k-th from start on, where it is not held; how many slots there are then.
-fn padded(s: &mut [u64], start: Slot, n: usize, k: usize) -> usize
-    requires { (start.0 ≤ top) × (n ≤ slot_places) × (k < slot_places) × (slot_words ≤ length s.old) }
-    ensures { Pads start.0 n k s.old s.new result }
+// Null slots up to and with the window's k-th, where it is not held; how many slots there are then.
+fn padded(insts: &mut InstsMut<'_>, window: Window, k: usize) -> usize
+    requires { k < slot_places }
+    ensures same_reference { insts.new.words.ghost_name ≡ insts.old.words.ghost_name }
+    ensures pads { Pads window.start.0 window.held k insts.old.words.now insts.new.words.now result }
 {
-    let held = n.max(k + 1);
-    insts::pad(s, start, n, held);
+    let held = window.held.max(k + 1);
+    insts.pad(window, held);
     held
 }
 
@@ -105,38 +102,39 @@ fn kept_book(leader: bool, book: Option<NoticeBook>) -> Option<NoticeBook>
     }
 }
 
-// The slot at place c Accepting, with the batch in words.
-fn accept_at(s: &mut [u64], c: usize, ballot: Ballot, leader: bool, words: &[u64])
-    requires { (c < slot_places) × (slot_words ≤ length s.old) × (length words.now ≡ batch_words) }
-    ensures { Puts s.old c (accepting_short leader ballot.0 (short_at s.old c).replica_bk) (requests_of words.now) (seen_reads (short_at s.old c).replica_bk (reads_at s.old c)) s.new }
+// The slot Accepting, with the batch.
+fn accept_at(insts: &mut InstsMut<'_>, slot: Slot, ballot: Ballot, leader: bool, batch: &[u64])
+    requires { length batch.now ≡ batch_words }
+    ensures same_reference { insts.new.words.ghost_name ≡ insts.old.words.ghost_name }
+    ensures puts { Puts insts.old.words.now (place_of slot.0) (accepting_short leader ballot.0 (short_at insts.old.words.now (place_of slot.0)).replica_bk) (requests_of batch.now) (seen_reads (short_at insts.old.words.now (place_of slot.0)).replica_bk (reads_at insts.old.words.now (place_of slot.0))) insts.new.words.now }
 {
-    insts::clear_unseen(s, c);
-    insts::put_batch(s, c, words);
+    insts.clear_unseen(slot);
+    insts.put_batch(slot, batch);
     let cell = Cell {
         bal: ballot,
         status: Status::Accepting,
         leader_bk: leader.then_some(0),
-        replica_bk: kept_book(leader, insts::load(s, c).replica_bk),
+        replica_bk: kept_book(leader, insts.as_ref().load(slot).replica_bk),
     };
-    insts::store(s, c, cell);
+    insts.store(slot, cell);
 }
 
-// The batch into the slot, one of the 32 from start on; how many slots there are then.
+// The batch into the slot, one of the 32 from the window's start on; how many slots there are then. The words come
+// whole: a struct made of a part of the buffer would lose what became of the part.
 fn accept(
-    s: &mut [u64],
-    start: Slot,
-    n: usize,
+    words: &mut [u64],
+    window: Window,
     slot: Slot,
     ballot: Ballot,
     leader: bool,
-    words: &[u64],
+    batch: &[u64],
 ) -> usize
-    requires { (start.0 ≤ top) × (n ≤ slot_places) × (start.0 ≤ slot.0) × (slot.0 < start.0 + slot_places) × (slot_words ≤ length s.old) × (length words.now ≡ batch_words) }
-    ensures { Records start.0 n slot.0 ballot.0 leader (requests_of words.now) s.old s.new result }
+    requires { (window.start.0 ≤ slot.0) × (slot.0 < window.start.0 + slot_places) × (slot_words ≤ length words.old) × (length batch.now ≡ batch_words) }
+    ensures { Records window.start.0 window.held slot.0 ballot.0 leader (requests_of batch.now) words.old words.new result }
 {
-    let k = (slot.0 - start.0) as usize;
-    let held = padded(s, start, n, k);
-    accept_at(s, (slot.0 % layout::PLACES) as usize, ballot, leader, words);
+    let mut insts = InstsMut { words };
+    let held = padded(&mut insts, window, (slot.0 - window.start.0) as usize);
+    accept_at(&mut insts, slot, ballot, leader, batch);
     held
 }
 
@@ -153,9 +151,8 @@ fn late_refusal(
 {
     let full = highest_slot_refresh::overflows(&mem[layout::WRITTEN_AT..layout::NODE_WORDS], words);
     slot_refusal(
-        &mem[layout::SLOTS_AT..layout::WRITTEN_AT],
-        node.start_slot,
-        node.slots,
+        node::insts(mem),
+        node::window(node, mem),
         slot,
         ballot,
         current(node),
@@ -168,6 +165,7 @@ fn recorded(node: Node, mem: &mut [u64], slot: Slot, ballot: Ballot, words: &[u6
     requires { (ready node mem.old ≡ true) × (late_refusal node mem.old slot.0 ballot.0 (requests_of words.now) ≡ 0) × (length words.now ≡ batch_words) }
     ensures { Recorded slot.0 ballot.0 (requests_of words.now) node mem.old result mem.new }
 {
+    let window = node::window(node, mem);
     highest_slot_refresh::refresh(
         &mut mem[layout::WRITTEN_AT..layout::NODE_WORDS],
         words,
@@ -175,8 +173,7 @@ fn recorded(node: Node, mem: &mut [u64], slot: Slot, ballot: Ballot, words: &[u6
     );
     let slots = accept(
         &mut mem[layout::SLOTS_AT..layout::WRITTEN_AT],
-        node.start_slot,
-        node.slots,
+        window,
         slot,
         ballot,
         node::is_leader(node),

@@ -5,12 +5,13 @@ use mathlib.Core.Logic.{◌≢◌}
 use mathlib.Core.List.{List, [], ◌∷◌, ◌++◌, append_assoc, append-nil}
 use mathlib.Core.Bool.{Bool, true, false}
 use Rattle.std.specs.Prelude.{Option, None, Some, slice_get}
-use Prim.Native.Nat.{ℕ, zero, suc, ◌+◌, ◌-◌, ◌*◌, ◌%◌, ◌≤◌, ◌<◌}
+use Prim.Native.Nat.{ℕ, zero, suc, ◌+◌, ◌-◌, ◌*◌, ◌%◌, ◌≤◌, ◌<◌, min}
 use native.Mathlib.Nat.{zero-add}
 use native.Mathlib.Decide.{dec_lt}
 use native.Mathlib.Omega.{arith}
 use lib.ListN.{length, set, take, drop, replicate, length-set, length-append}
 use lib.Dec.{ltb}
+use Rattle.std.proofs.lemmas.List.{take_all}
 use borrow.Author.Tests.{le-leb}
 use Rattle.words.specs.Choice.{if_none◌then◌else◌}
 use Rattle.words.specs.Tab.{tab, tab_ext, tab_set, tab_snoc, tab_shift, drop_tab, take_tab, elem_tab, elem_past, length_tab}
@@ -293,6 +294,13 @@ pad_end start n i to s₀ s h g e = let z : i ≡ to = omega arith in rw z at e
 pub first : (start n k : ℕ) (s : List ℕ) → k ≤ n → take k (insts_of start n s) ≡ insts_of start k s
 unfolding insts_of
 first start n k s h = take_tab (λ i. inst_in s ((start + i) % slot_places)) 0 n k h
+
+-- a window's first k slots
+pub first_of : (start n k : ℕ) (s : List ℕ) → insts_of start (min k n) s ≡ take k (insts_of start n s)
+first_of start n k s = elim (dec_lt n k) [
+  | yes h ↦ (let e : min k n ≡ n = omega arith in rw e (sym (take_all k (insts_of start n s) (let l = length_insts start n s in omega arith))))
+  | no h ↦ (let e : min k n ≡ k = omega arith in rw e (sym (first start n k s (omega arith))))
+]
 
 abbrev pub is_open_at : machine.Instance → Bool
 is_open_at i = machine.is_open i.status

@@ -1,7 +1,7 @@
 // The slots that a replica holds, in lent words: cells, batches and held reads. Slot s has place s % PLACES.
 #![tactic(auto)]
 
-ghost use Rattle.std.specs.Prelude.{◌≡◌, Bool, [], ◌∷◌, ◌++◌, ◌+◌, ◌-◌, ◌%◌, ◌≤◌, ◌<◌, length, replicate};
+ghost use Rattle.std.specs.Prelude.{◌≡◌, Bool, [], ◌∷◌, ◌++◌, ◌+◌, ◌-◌, ◌%◌, ◌≤◌, ◌<◌, min, length, replicate};
 ghost use Rattle.std.specs.List.{position_from};
 ghost use Rattle.bodega.specs.Replica.{null_instance, Instance, is_open};
 ghost use Rattle.bodega.specs.Localread.{last_put};
@@ -35,6 +35,16 @@ impl Window {
         ensures { result.0 ≡ self.start.0 + k }
     {
         Slot(self.start.0 + k as u64)
+    }
+
+    // Its first n slots; all of them, where there are no more.
+    pub fn first(self, n: usize) -> Window
+        ensures { (result.start ≡ self.start) × (result.held ≡ min n self.held) }
+    {
+        Window {
+            held: n.min(self.held),
+            start: self.start,
+        }
     }
 }
 
@@ -161,7 +171,8 @@ impl<'a> Insts<'a> {
     pub fn any_holds(self, window: Window) -> bool
         ensures { result ≡ any holds (insts_of window.start.0 window.held self.entry.words.now) }
     {
-        self.position(window, |slot| self.holds_reads(slot)).is_some()
+        self.position(window, |slot| self.holds_reads(slot))
+            .is_some()
     }
 }
 
@@ -175,7 +186,8 @@ impl<'a> InstsMut<'a> {
     }
 
     pub fn store(&mut self, slot: Slot, cell: Cell)
-        ensures { PutsShort self.old.words.now (place_of slot.0) (cell_of cell) self.new.words.now }
+        ensures same_reference { self.new.words.ghost_name ≡ self.old.words.ghost_name }
+        ensures puts { PutsShort self.old.words.now (place_of slot.0) (cell_of cell) self.new.words.now }
     {
         inst_cell::store(self.words, place(slot), cell);
     }
@@ -183,21 +195,24 @@ impl<'a> InstsMut<'a> {
     // The batch, as words of crate inst_reqs.
     pub fn put_batch(&mut self, slot: Slot, words: &[u64])
         requires { length words.now ≡ batch_words }
-        ensures { PutsBatch self.old.words.now (place_of slot.0) (requests_of words.now) self.new.words.now }
+        ensures same_reference { self.new.words.ghost_name ≡ self.old.words.ghost_name }
+        ensures puts { PutsBatch self.old.words.now (place_of slot.0) (requests_of words.now) self.new.words.now }
     {
         let a = batch_at(place(slot));
         self.words[a..a + layout::BATCH_WORDS].copy_from_slice(words);
     }
 
     fn clear_batch(&mut self, slot: Slot)
-        ensures { PutsBatch self.old.words.now (place_of slot.0) [] self.new.words.now }
+        ensures same_reference { self.new.words.ghost_name ≡ self.old.words.ghost_name }
+        ensures puts { PutsBatch self.old.words.now (place_of slot.0) [] self.new.words.now }
     {
         let a = batch_at(place(slot));
         inst_reqs::clear(&mut self.words[a..a + layout::BATCH_WORDS]);
     }
 
     pub fn clear_reads(&mut self, slot: Slot)
-        ensures { PutsReads self.old.words.now (place_of slot.0) [] self.new.words.now }
+        ensures same_reference { self.new.words.ghost_name ≡ self.old.words.ghost_name }
+        ensures puts { PutsReads self.old.words.now (place_of slot.0) [] self.new.words.now }
     {
         let a = reads_at(place(slot));
         inst_holding::clear(&mut self.words[a..a + layout::HELD_WORDS]);
@@ -206,7 +221,8 @@ impl<'a> InstsMut<'a> {
     // No reads wait where there is no notice book.
     #[tactic(auto, using(crate::proofs::Laws::book_missing, crate::proofs::Laws::book_there))]
     pub fn clear_unseen(&mut self, slot: Slot)
-        ensures { PutsReads self.old.words.now (place_of slot.0) (seen_reads (short_at self.old.words.now (place_of slot.0)).replica_bk (reads_at self.old.words.now (place_of slot.0))) self.new.words.now }
+        ensures same_reference { self.new.words.ghost_name ≡ self.old.words.ghost_name }
+        ensures puts { PutsReads self.old.words.now (place_of slot.0) (seen_reads (short_at self.old.words.now (place_of slot.0)).replica_bk (reads_at self.old.words.now (place_of slot.0))) self.new.words.now }
     {
         if !self.as_ref().has_book(slot) {
             self.clear_reads(slot);
@@ -216,7 +232,8 @@ impl<'a> InstsMut<'a> {
     // A read after the others that a slot holds.
     pub fn push_read(&mut self, slot: Slot, x: ReadReq)
         requires { length (reads_at self.old.words.now (place_of slot.0)) < held_places }
-        ensures { PutsReads self.old.words.now (place_of slot.0) (reads_at self.old.words.now (place_of slot.0) ++ (read_of x ∷ [])) self.new.words.now }
+        ensures same_reference { self.new.words.ghost_name ≡ self.old.words.ghost_name }
+        ensures puts { PutsReads self.old.words.now (place_of slot.0) (reads_at self.old.words.now (place_of slot.0) ++ (read_of x ∷ [])) self.new.words.now }
     {
         let a = reads_at(place(slot));
         inst_holding::push(&mut self.words[a..a + layout::HELD_WORDS], x);
@@ -225,7 +242,8 @@ impl<'a> InstsMut<'a> {
     // A null slot; the reads held there are not seen without a notice book.
     #[tactic(auto, using(crate::proofs::Laws::batch_after))]
     fn null_slot(&mut self, slot: Slot)
-        ensures { Puts self.old.words.now (place_of slot.0) null_short [] (reads_at self.old.words.now (place_of slot.0)) self.new.words.now }
+        ensures same_reference { self.new.words.ghost_name ≡ self.old.words.ghost_name }
+        ensures puts { Puts self.old.words.now (place_of slot.0) null_short [] (reads_at self.old.words.now (place_of slot.0)) self.new.words.now }
     {
         let cell = Cell {
             bal: Ballot(0),
@@ -240,7 +258,8 @@ impl<'a> InstsMut<'a> {
     // Null slots after those of the window, so that there are `to`.
     pub fn pad(&mut self, window: Window, to: usize)
         requires { (window.held ≤ to) × (to ≤ slot_places) }
-        ensures { (insts_of window.start.0 to self.new.words.now ≡ insts_of window.start.0 window.held self.old.words.now ++ replicate (to - window.held) null_instance) × (length self.new.words.now ≡ length self.old.words.now) }
+        ensures same_reference { self.new.words.ghost_name ≡ self.old.words.ghost_name }
+        ensures pads { (insts_of window.start.0 to self.new.words.now ≡ insts_of window.start.0 window.held self.old.words.now ++ replicate (to - window.held) null_instance) × (length self.new.words.now ≡ length self.old.words.now) }
     {
         for k in window.held..to {
             self.null_slot(window.slot(k));
@@ -248,7 +267,8 @@ impl<'a> InstsMut<'a> {
     }
 
     pub fn set_status(&mut self, slot: Slot, status: Status)
-        ensures { PutsShort self.old.words.now (place_of slot.0) (with_status (status_of status) (short_at self.old.words.now (place_of slot.0))) self.new.words.now }
+        ensures same_reference { self.new.words.ghost_name ≡ self.old.words.ghost_name }
+        ensures puts { PutsShort self.old.words.now (place_of slot.0) (with_status (status_of status) (short_at self.old.words.now (place_of slot.0))) self.new.words.now }
     {
         inst_cell::set_status(self.words, place(slot), status);
     }

@@ -205,6 +205,7 @@ impl<'a> Items<'a> {
     // False, and nothing changed, where no place is left.
     #[tactic(auto, unfolding(crate::specs::Area::put_item))]
     pub fn push(&mut self, item: Item) -> bool
+        ensures same_reference { self.new.area.ghost_name ≡ self.old.area.ghost_name }
         ensures put { ◌≡◌ {A = Put} (record { taken = result; area = self.new.area.now }) (put_item self.old.area.now self.old.count (item_of item)) }
         ensures counted { self.new.count ≡ self.old.count + (if result then 1 else 0) }
     {

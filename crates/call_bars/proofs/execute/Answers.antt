@@ -1,16 +1,13 @@
-use native.Mathlib.Omega.{arith}
+use Rattle.std.proofs.Common.{arith, refl, ◌∙◌}
 use Rattle.call_bars.proofs.Laws as law
 use Rattle.call_bars.proofs.execute.Goals as goal
 
-pub loop-i-init : goal.loop-i-init
-loop-i-init c = law.execute_start _ _
+pub loop-k-init : goal.loop-k-init
+loop-k-init c = record { same_reference = refl; executes = law.execute_start _ _ }
 
-pub set_status-requires : goal.set_status-requires
-set_status-requires c = (omega arith, omega (arith, c.loop-i.invariant.size))
-
-pub loop-i-preserved : goal.loop-i-preserved
-loop-i-preserved c =
-    let l = c.loop-i in law.execute_step _ l.i (omega arith) l.invariant c.set_status.ensures
-
-pub returns : goal.returns
-returns c = let l = c.loop-i in law.execute_end _ l.i _ (omega arith) (omega arith) l.invariant
+pub loop-k-preserved : goal.loop-k-preserved
+loop-k-preserved c =
+    let l = c.loop-k in record {
+      same_reference = c.set_status.ensures.same_reference ∙ l.invariant.same_reference;
+      executes = law.execute_step _ l.k (omega (arith, c.args.window.few)) l.invariant.executes (rw c.slot.ensures at c.set_status.ensures.puts);
+    }

@@ -1,5 +1,9 @@
+use Rattle.std.proofs.Common.{◌≡◌}
 use Rattle.call_bars.specs.Moves.{Executes}
 use Rattle.call_bars.proofs.execute.Given as goal
 
-abbrev pub invariant-loop-i : goal.invariant-loop-i
-invariant-loop-i l = Executes l.start.0 l.i l.initial.s l.s
+abbrev pub invariant-loop-k : goal.invariant-loop-k
+invariant-loop-k l = record {
+  same_reference : l.insts.words.ghost_name ≡ l.initial.insts.words.ghost_name;
+  executes : Executes l.window.start.0 l.k l.initial.insts.words.now l.insts.words.now;
+}

@@ -1,5 +1,10 @@
+use Rattle.std.proofs.Common.{rules}
 use Rattle.call_record.proofs.Laws as law
 use Rattle.call_record.proofs.accept.Goals as goal
 
 pub returns : goal.returns
-returns c = law.accepted _ _ c.args.slot.0 _ _ _ c.requires.2 c.padded-held.ensures c.accept_at.ensures
+returns c =
+    let z = law.accepted _ _ c.args.slot.0 _ _ _ c.requires.0 c.padded-held.ensures.pads c.accept_at.ensures.puts in
+    let n = c.accept_at.ensures.same_reference in
+    let m = c.padded-held.ensures.same_reference in
+    search rules

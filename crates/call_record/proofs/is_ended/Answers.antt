@@ -1,15 +1,14 @@
-use Rattle.std.proofs.Common.{sym, ◌∙◌}
-use borrow.Author.Tests.{le-ltb}
-use Rattle.std.proofs.lemmas.Map.Keys.{ge_from_not_lt}
+use Rattle.std.proofs.Common.{arith}
 use Rattle.call_record.proofs.Laws as law
 use Rattle.call_record.proofs.is_ended.Goals as goal
 
-pub returns-then-slot-start : goal.returns-then-slot-start
-returns-then-slot-start c =
+pub returns-then-lt-2 : goal.returns-then-lt-2
+returns-then-lt-2 c =
     let a = c.args in
-    law.held_slot a.start.0 a.n a.slot.0 a.s.now (ge_from_not_lt _ _ (sym c.if-lt.ensures)) c.if-slot-start.true _ c.is_open.ensures
+    law.held_slot a.window.start.0 a.window.held a.slot.0 a.insts.words.now (grind arith) (grind arith) _ c.is_open.ensures
 
-pub returns-else-slot-start : goal.returns-else-slot-start
-returns-else-slot-start c =
+pub returns-else-lt-2 : goal.returns-else-lt-2
+returns-else-lt-2 c =
     let a = c.args in
-    le-ltb _ _ c.if-slot-start.false ∙ law.past_end a.start.0 a.n a.slot.0 a.s.now (ge_from_not_lt _ _ (sym c.if-lt.ensures)) c.if-slot-start.false
+    let e = law.past_end a.window.start.0 a.window.held a.slot.0 a.insts.words.now (grind arith) (grind arith) in
+    grind arith
