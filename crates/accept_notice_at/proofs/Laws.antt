@@ -2,9 +2,11 @@
 use Rattle.std.specs.Prelude.{if◌then◌else◌}
 use mathlib.Core.Path.{◌≡◌, refl, sym, ap, ◌∙◌}
 use mathlib.Core.Bool.{Bool, true, false, not, ◌||◌, ◌&&◌}
-use mathlib.Core.List.{List, [], ◌++◌, append-nil}
+use mathlib.Core.List.{List, [], ◌++◌}
 use Rattle.std.specs.Prelude.{Option, None, Some}
-use Prim.Native.Nat.{ℕ, ◌+◌, ◌-◌, ◌%◌, ◌≤◌, ◌<◌}
+use Prim.Native.Nat.{ℕ, ◌+◌, ◌-◌, ◌*◌, ◌%◌, ◌≤◌, ◌<◌}
+use native.Mathlib.Nat.{add-zero}
+use native.Mathlib.Decide.{dec_lt}
 use native.Mathlib.Omega.{arith}
 use lib.Dec.{ltb, leb, eqb}
 use lib.ListN.{length, set, replicate, length-append, length-replicate}
@@ -12,10 +14,10 @@ use Rattle.std.specs.List.{slice_get}
 use Rattle.std.proofs.lemmas.Option.{slice_get_read}
 use Rattle.std.proofs.Math.Seq.{get_or-append_right}
 use Rattle.std.proofs.lemmas.List.{get_or-replicate}
-use borrow.Author.Tests.{lt-ltb, le-ltb, eq-eqb}
+use borrow.Author.Tests.{lt-ltb, le-ltb}
 use Rattle.words.specs.Choice.{if_none◌then◌else◌}
 use Rattle.words.specs.Writes.{writes}
-use Rattle.layout.specs.Layout.{slot_places, held_places, slot_words}
+use Rattle.layout.specs.Layout.{slot_places, held_places}
 use Rattle.bitmap.specs.Bitmap.{count}
 use Rattle.items.specs.Item.{Item, encode, places}
 use Rattle.bodega.specs.Replica as machine
@@ -25,16 +27,14 @@ use Rattle.inst_cell.specs.declared.Cell.{Cell}
 use Rattle.inst_cell.specs.declared.NoticeBook.{NoticeBook}
 use Rattle.accept_notices.specs.Book.{book_with}
 use Rattle.insts.specs.Slots.{short_at, batch_at, reads_at, seen_reads, book_of as slot_book, inst_of, inst_in, insts_of, Puts}
-use Rattle.insts.proofs.Laws.{puts_then, short_after, here_is, moved, inst_at_lem, length_insts}
+use Rattle.insts.proofs.Rest.{puts_same}
+use Rattle.insts.proofs.Laws.{puts_then, short_after, here_is, moved, inst_at_lem, length_insts, pad_start}
 use Rattle.release_held_reads.specs.Release.{holding_of, answers_of, emptied, Releases}
 use Rattle.release_held_reads.proofs.Laws.{length_answers}
 use Rattle.release_held_reads.proofs.Machine.{emptied_is}
-use Rattle.accept_notice_at.specs.Notices.{noticed_book, with_notice, applies, quorate, noticed_inst, noticed_items, padded, Noticed, noticed_at, Sets, Notes, NotesAt}
+use Rattle.accept_notice_at.specs.Notices.{noticed_book, with_notice, applies, quorate, noticed_inst, noticed_items, padded, Noticed, noticed_at, after, Sets, Notes, NotesAt}
 
 -- ---- the words of a place
-
-pub puts_same : (s : List ℕ) (c : ℕ) → Puts s c (short_at s c) (batch_at s c) (reads_at s c) s
-puts_same s c = record { short = refl; batch = refl; held = refl; others = λ d g f. record { short = refl; batch = refl; reads = refl }; size = refl }
 
 sets_by : {s t : List ℕ} {c : ℕ} {x : Short} {a : List machine.Request} {l : List machine.ReadReq} (i : machine.Instance) → Puts s c x a l t → inst_of x a l ≡ i → Sets s c i t
 sets_by i p e =
@@ -116,12 +116,12 @@ module _ (s : List ℕ) (c : ℕ) (cell : Cell) (e : cell_of cell ≡ short_at s
       pub due_none : 0 ≡ length items
       due_none = sym (ap length items_none)
 
-      pub notes_none : (area : List ℕ) → Notes quorum leader peer ballot last c s area 0 s area
+      pub notes_none : (place : ℕ) (area : List ℕ) → Notes quorum leader peer ballot last c place s area place s area
       unfolding encode
-      notes_none area =
+      notes_none place area =
           record {
-            count = due_none;
-            items = ap (λ (l : List Item). writes area 0 (encode l)) (sym items_none);
+            next = sym (ap (λ (l : List Item). place + length l) items_none ∙ add-zero place);
+            items = ap (λ (l : List Item). writes area (place * 6) (encode l)) (sym items_none);
             slot = rw (is_for, h) (same_set s c);
           }
 
@@ -157,12 +157,12 @@ module _ (s : List ℕ) (c : ℕ) (cell : Cell) (e : cell_of cell ≡ short_at s
           left_open : noted ≡ left
           left_open = rw (is_for, h, quorum_here, k)
 
-          pub notes_open : (area : List ℕ) → Notes quorum leader peer ballot last c s area 0 s₁ area
+          pub notes_open : (place : ℕ) (area : List ℕ) → Notes quorum leader peer ballot last c place s area place s₁ area
           unfolding encode
-          notes_open area =
+          notes_open place area =
               record {
-                count = sym (ap length items_open);
-                items = ap (λ (l : List Item). writes area 0 (encode l)) (sym items_open);
+                next = sym (ap (λ (l : List Item). place + length l) items_open ∙ add-zero place);
+                items = ap (λ (l : List Item). writes area (place * 6) (encode l)) (sym items_open);
                 slot = sets_as p left_open;
               }
 
@@ -173,22 +173,35 @@ module _ (s : List ℕ) (c : ℕ) (cell : Cell) (e : cell_of cell ≡ short_at s
           left_is : emptied (inst_in s₁ c) ≡ left
           left_is = rw (is_for, h, quorum_here, k) (ap (λ (i : machine.Instance). emptied i) p.inst)
 
-          module _ (area : List ℕ) where
-            pub release_room : (c < slot_places) × (slot_words ≤ length s) × (length items ≤ places area)
-                → (c < slot_places) × (slot_words ≤ length s₁) × (0 + length (holding_of (inst_in s₁ c)) ≤ places area)
+          module _ (place : ℕ) (area : List ℕ) where
+            pub release_room : place + length items ≤ places area → place + length (holding_of (inst_in s₁ c)) ≤ places area
             release_room w =
                 let many : length items ≡ length (holding_of (inst_in s₁ c)) = ap length items_are ∙ length_answers quorum leader (inst_in s₁ c) in
-                (w.0, omega (arith, p.puts.size, w.1), omega (arith, many, w.2))
+                omega (arith, many)
 
-            pub notes_released : (r : ℕ) (v area' : List ℕ) → Releases quorum leader c 0 s₁ area r v area' → Notes quorum leader peer ballot last c s area r v area'
+            pub notes_released : (r : ℕ) (v area' : List ℕ) → Releases quorum leader c place s₁ area r v area' → Notes quorum leader peer ballot last c place s area r v area'
             notes_released r v area' x =
                 record {
-                  count = x.count ∙ ap length (sym items_are);
-                  items = x.items ∙ ap (λ (l : List Item). writes area 0 (encode l)) (sym items_are);
+                  next = x.next ∙ ap (λ (l : List Item). place + length l) (sym items_are);
+                  items = x.items ∙ ap (λ (l : List Item). writes area (place * 6) (encode l)) (sym items_are);
                   slot = sets_then p (sets_as (released_sets x) left_is);
                 }
 
 -- ---- the k-th of the slots from start on
+
+after_more : (held k : ℕ) → (k < after held k) × (after held k - held ≡ k + 1 - held)
+after_more held k =
+    elim (dec_lt k held) [
+      | yes l ↦ rw (lt-ltb k held l) (l, omega arith)
+      | no l ↦ rw (le-ltb k held (omega arith)) (omega arith, omega arith)
+    ]
+
+pub after_range : (held k : ℕ) → held ≤ slot_places → k < slot_places → (held ≤ after held k) × (after held k ≤ slot_places)
+after_range held k h g =
+    elim (dec_lt k held) [
+      | yes l ↦ rw (lt-ltb k held l) (omega arith, h)
+      | no l ↦ rw (le-ltb k held (omega arith)) (omega arith, omega arith)
+    ]
 
 elem_null : (l : List machine.Instance) (k : ℕ) → length l ≤ k → slice_get (padded k l) k ≡ Some machine.null_instance
 elem_null l k h =
@@ -196,10 +209,10 @@ elem_null l k h =
     (sym (get_or-append_right l (replicate (k + 1 - length l) machine.null_instance) k machine.null_instance h ∙ get_or-replicate (k + 1 - length l) (k - length l) machine.null_instance machine.null_instance (omega arith)))
 
 module _ (quorum : ℕ) (leader : Option ℕ) (peer ballot : ℕ) where
-  noticed_by : (k : ℕ) (l p : List machine.Instance) (i : machine.Instance) (last : Bool) → padded k l ≡ p → slice_get p k ≡ Some i → eqb (k + 1) (length p) ≡ last
-      → noticed_at quorum leader peer ballot k l ≡ record { insts = set p k (noticed_inst quorum peer ballot last i); items = noticed_items quorum leader peer ballot last i }
+  noticed_by : (k : ℕ) (l : List machine.Instance) (i : machine.Instance) (last : Bool) → slice_get (padded k l) k ≡ Some i → eqb (k + 1) (length (padded k l)) ≡ last
+      → noticed_at quorum leader peer ballot k l ≡ record { insts = set (padded k l) k (noticed_inst quorum peer ballot last i); items = noticed_items quorum leader peer ballot last i }
   unfolding noticed_at
-  noticed_by k l p i last e f g = rw (e, f, g)
+  noticed_by k l i last f g = rw (f, g)
 
   abbrev new : machine.Instance
   new = with_notice peer ballot machine.null_instance
@@ -222,72 +235,47 @@ module _ (quorum : ℕ) (leader : Option ℕ) (peer ballot : ℕ) where
     abbrev Due : Noticed
     Due = noticed_at quorum leader peer ballot k insts
 
-    module _ (h : k < held) where
-      held_case : Due ≡ record { insts = set insts k (noticed_inst quorum peer ballot (eqb (k + 1) held) (inst_in s place)); items = noticed_items quorum leader peer ballot (eqb (k + 1) held) (inst_in s place) }
-      held_case =
-          let z : k + 1 - length insts ≡ 0 = omega (arith, length_insts start held s) in
-          let e : padded k insts ≡ insts = rw z (append-nil insts) in
-          noticed_by k insts insts (inst_in s place) (eqb (k + 1) held) e (inst_at_lem start held k s h) (ap (eqb (k + 1)) (length_insts start held s))
+    -- once there are null ones up to the k-th
+    module _ (s₁ : List ℕ) (to : ℕ) (e : to ≡ after held k) (x : insts_of start to s₁ ≡ insts ++ replicate (to - held) machine.null_instance) where
+      abbrev last : Bool
+      last = eqb (k + 1) to
 
-      pub due_held : (n : ℕ) → n ≡ length (noticed_items quorum leader peer ballot (eqb (k + 1) held) (inst_in s place)) → n ≡ length Due.items
-      due_held n e = e ∙ sym (ap (λ (w : Noticed). length w.items) held_case)
+      below : k < to
+      below = omega (arith, (after_more held k).0)
 
-      pub held_room : (area : List ℕ) → length Due.items ≤ places area → length (noticed_items quorum leader peer ballot (eqb (k + 1) held) (inst_in s place)) ≤ places area
-      held_room area g = rw (ap (λ (w : Noticed). length w.items) held_case) at g
+      all : insts_of start to s₁ ≡ padded k insts
+      all =
+          let z : to - held ≡ k + 1 - length insts = omega (arith, (after_more held k).1, length_insts start held s) in
+          x ∙ ap (λ (n : ℕ). insts ++ replicate n machine.null_instance) z
 
-      pub notes_held : (area t area' : List ℕ) (r : ℕ) → held ≤ slot_places → Notes quorum leader peer ballot (eqb (k + 1) held) place s area r t area'
-          → NotesAt quorum leader peer ballot start held k s area r t area'
+      due_is : Due ≡ record { insts = set (padded k insts) k (noticed_inst quorum peer ballot last (inst_in s₁ place)); items = noticed_items quorum leader peer ballot last (inst_in s₁ place) }
+      due_is =
+          noticed_by k insts (inst_in s₁ place) last (ap (λ (l : List machine.Instance). slice_get l k) (sym all) ∙ inst_at_lem start to k s₁ below)
+          (ap (λ (l : List machine.Instance). eqb (k + 1) (length l)) (sym all) ∙ ap (eqb (k + 1)) (length_insts start to s₁))
+
+      many : length Due.items ≡ length (noticed_items quorum leader peer ballot last (inst_in s₁ place))
+      many = ap (λ (w : Noticed). length w.items) due_is
+
+      pub room_in : (from : ℕ) (area : List ℕ) → from + length Due.items ≤ places area → from + length (noticed_items quorum leader peer ballot last (inst_in s₁ place)) ≤ places area
+      room_in from area g = omega (arith, many)
+
+      pub notes_at : (from r : ℕ) (area t area' : List ℕ) → length s₁ ≡ length s → to ≤ slot_places → Notes quorum leader peer ballot last place from s₁ area r t area'
+          → NotesAt quorum leader peer ballot start held k from s area r t area'
       unfolding inst_in
-      notes_held area t area' r w x =
+      notes_at from r area t area' l g y =
           record {
-            count = x.count ∙ sym (ap (λ (w : Noticed). length w.items) held_case);
-            items = x.items ∙ sym (ap (λ (w : Noticed). writes area 0 (encode w.items)) held_case);
+            next = y.next ∙ ap (λ (n : ℕ). from + n) (sym many);
+            items = y.items ∙ sym (ap (λ (w : Noticed). writes area (from * 6) (encode w.items)) due_is);
             insts =
-                ap (λ (b : Bool). insts_of start (if b then held else k + 1) t) (lt-ltb k held h) ∙ moved start held k x.slot.puts h w
-                ∙ ap (set insts k) x.slot.inst ∙ sym (ap (λ (w : Noticed). w.insts) held_case);
-            size = x.slot.puts.size;
+                ap (λ (n : ℕ). insts_of start n t) (sym e) ∙ moved start to k y.slot.puts below g ∙ ap (set (insts_of start to s₁) k) y.slot.inst
+                ∙ ap (λ (l : List machine.Instance). set l k (noticed_inst quorum peer ballot last (inst_in s₁ place))) all ∙ sym (ap (λ (w : Noticed). w.insts) due_is);
+            size = y.slot.puts.size ∙ l;
           }
 
-    module _ (h : held ≤ k) where
-      abbrev filled : List machine.Instance
-      filled = insts ++ replicate (k + 1 - held) machine.null_instance
+    pub due_held : k < held → (n : ℕ) → n ≡ length (noticed_items quorum leader peer ballot (eqb (k + 1) held) (inst_in s place)) → n ≡ length Due.items
+    due_held h n e = e ∙ sym (many s held (sym (ap (λ (b : Bool). if b then held else k + 1) (lt-ltb k held h))) (pad_start start held s))
 
-      filled_is : padded k insts ≡ filled
-      filled_is = ap (λ (n : ℕ). insts ++ replicate (k + 1 - n) machine.null_instance) (length_insts start held s)
-
-      elem_filled : slice_get filled k ≡ Some machine.null_instance
-      elem_filled = ap (λ (l : List machine.Instance). slice_get l k) (sym filled_is) ∙ elem_null insts k (omega (arith, length_insts start held s))
-
-      length_filled : length filled ≡ k + 1
-      length_filled = simp (length-append, length-replicate) (omega (arith, length_insts start held s))
-
-      null_case : Due ≡ record { insts = set filled k (noticed_inst quorum peer ballot true machine.null_instance); items = noticed_items quorum leader peer ballot true machine.null_instance }
-      null_case = noticed_by k insts filled machine.null_instance true filled_is elem_filled (eq-eqb (k + 1) (length filled) (sym length_filled))
-
-      pub due_null : 0 ≡ length Due.items
-      due_null = sym (ap (λ (w : Noticed). length w.items) null_case ∙ null_items true)
-
-      module _ (s₁ : List ℕ) (x : (insts_of start (k + 1) s₁ ≡ filled) × (length s₁ ≡ length s)) where
-        null_here : inst_in s₁ place ≡ machine.null_instance
-        null_here =
-            let f : Some (inst_in s₁ place) ≡ Some machine.null_instance = sym (inst_at_lem start (k + 1) k s₁ (omega arith)) ∙ ap (λ (l : List machine.Instance). slice_get l k) x.0 ∙ elem_filled in
-            cc
-
-        pub null_room : (area : List ℕ) → length Due.items ≤ places area → length (noticed_items quorum leader peer ballot true (inst_in s₁ place)) ≤ places area
-        null_room area g = rw null_here (rw (ap (λ (w : Noticed). length w.items) null_case) at g)
-
-        pub notes_null : (area t area' : List ℕ) (r : ℕ) → k < slot_places → Notes quorum leader peer ballot true place s₁ area r t area'
-            → NotesAt quorum leader peer ballot start held k s area r t area'
-        unfolding inst_in
-        notes_null area t area' r w y =
-            record {
-              count = y.count ∙ ap (λ (i : machine.Instance). length (noticed_items quorum leader peer ballot true i)) null_here ∙ sym (ap (λ (w : Noticed). length w.items) null_case);
-              items =
-                  y.items ∙ ap (λ (i : machine.Instance). writes area 0 (encode (noticed_items quorum leader peer ballot true i))) null_here
-                  ∙ sym (ap (λ (w : Noticed). writes area 0 (encode w.items)) null_case);
-              insts =
-                  ap (λ (b : Bool). insts_of start (if b then held else k + 1) t) (le-ltb k held h) ∙ moved start (k + 1) k y.slot.puts (omega arith) (omega arith)
-                  ∙ ap (set (insts_of start (k + 1) s₁) k) y.slot.inst ∙ ap (λ (l : List machine.Instance). set l k (noticed_inst quorum peer ballot true (inst_in s₁ place))) x.0
-                  ∙ ap (λ (i : machine.Instance). set filled k (noticed_inst quorum peer ballot true i)) null_here ∙ sym (ap (λ (w : Noticed). w.insts) null_case);
-              size = y.slot.puts.size ∙ x.1;
-            }
+    pub due_null : held ≤ k → 0 ≡ length Due.items
+    due_null h =
+        let last : Bool = eqb (k + 1) (length (padded k insts)) in
+        sym (ap (λ (w : Noticed). length w.items) (noticed_by k insts machine.null_instance last (elem_null insts k (omega (arith, length_insts start held s))) refl) ∙ null_items last)

@@ -1,6 +1,6 @@
 -- Bridge: `handle_msg_accept_notice` at the slot of a notice, over what it reads of the replica: quorum, leader and
 -- the instances; tied to `handle_msg_accept_notice` by proofs/Machine and call_notice/proofs/Laws.
-use Rattle.std.specs.Prelude.{◌≡◌, Bool, false, ◌&&◌, ◌||◌, not, List, [], ◌++◌, ℕ, ◌+◌, ◌-◌, ltb, leb, eqb, length, set, replicate, if◌then◌else◌}
+use Rattle.std.specs.Prelude.{◌≡◌, Bool, false, ◌&&◌, ◌||◌, not, List, [], ◌++◌, ℕ, ◌+◌, ◌-◌, ◌*◌, ltb, leb, eqb, length, set, replicate, if◌then◌else◌}
 use Rattle.std.specs.Prelude.{Option}
 use Rattle.std.specs.Prelude.{slice_get}
 use Rattle.words.specs.Choice.{if_none◌then◌else◌}
@@ -69,15 +69,15 @@ pub record Sets (s : List ℕ) (c : ℕ) (i : Instance) (t : List ℕ) : Type 0 
   pub inst : inst_in t c ≡ i
   pub puts : Puts s c (short_at t c) (batch_at t c) (reads_at t c) t
 
--- what a notice at the slot of place c leaves: so many items r, the slots' words t, and the area after
-pub record Notes (quorum : ℕ) (leader : Option ℕ) (peer ballot : ℕ) (last : Bool) (c : ℕ) (s area : List ℕ) (r : ℕ) (t area' : List ℕ) : Type 0 where
-  pub count : r ≡ length (noticed_items quorum leader peer ballot last (inst_in s c))
-  pub items : area' ≡ writes area 0 (encode (noticed_items quorum leader peer ballot last (inst_in s c)))
+-- what a notice at the slot of place c leaves: the next place r of the area, the slots' words t, and the area after
+pub record Notes (quorum : ℕ) (leader : Option ℕ) (peer ballot : ℕ) (last : Bool) (c place : ℕ) (s area : List ℕ) (r : ℕ) (t area' : List ℕ) : Type 0 where
+  pub next : r ≡ place + length (noticed_items quorum leader peer ballot last (inst_in s c))
+  pub items : area' ≡ writes area (place * 6) (encode (noticed_items quorum leader peer ballot last (inst_in s c)))
   pub slot : Sets s c (noticed_inst quorum peer ballot last (inst_in s c)) t
 
 -- what one at the k-th of the slots held leaves
-pub record NotesAt (quorum : ℕ) (leader : Option ℕ) (peer ballot start held k : ℕ) (s area : List ℕ) (r : ℕ) (t area' : List ℕ) : Type 0 where
-  pub count : r ≡ length (noticed_at quorum leader peer ballot k (insts_of start held s)).items
-  pub items : area' ≡ writes area 0 (encode (noticed_at quorum leader peer ballot k (insts_of start held s)).items)
+pub record NotesAt (quorum : ℕ) (leader : Option ℕ) (peer ballot start held k place : ℕ) (s area : List ℕ) (r : ℕ) (t area' : List ℕ) : Type 0 where
+  pub next : r ≡ place + length (noticed_at quorum leader peer ballot k (insts_of start held s)).items
+  pub items : area' ≡ writes area (place * 6) (encode (noticed_at quorum leader peer ballot k (insts_of start held s)).items)
   pub insts : insts_of start (after held k) t ≡ (noticed_at quorum leader peer ballot k (insts_of start held s)).insts
   pub size : length t ≡ length s

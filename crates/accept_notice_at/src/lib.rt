@@ -1,26 +1,38 @@
-// `handle_msg_accept_notice` at the slot of a notice. The slots stand in lent words of crate insts.
+// `handle_msg_accept_notice` at the slot of a notice.
 #![tactic(auto)]
 
 ghost use Rattle.std.specs.Prelude.{◌≡◌, ◌&&◌, ◌||◌, List, ℕ, ◌+◌, ◌≤◌, ◌<◌, eqb, length};
 ghost use Rattle.std.specs.Prelude.{Option};
 ghost use Rattle.ids.specs.Leader.{leader_of};
-ghost use Rattle.ids.specs.Limits.{top};
-ghost use Rattle.layout.specs.Layout.{slot_places, slot_words};
+ghost use Rattle.layout.specs.Layout.{slot_places};
 ghost use Rattle.items.specs.Item.{places};
 ghost use Rattle.bodega.specs.Replica.{ReadReq};
 ghost use Rattle.inst_cell.specs.Cell.{book_of};
 ghost use Rattle.accept_notices.specs.Book.{book_with};
-ghost use Rattle.insts.specs.Slots.{seen_reads, book_of as slot_book, inst_in, insts_of};
+ghost use Rattle.insts.specs.Slots.{place_of, seen_reads, book_of as slot_book, inst_in, insts_of};
 ghost use Rattle.accept_notice_at.specs.Notices.{noticed_book, applies, with_notice, noticed_items, noticed_at, after, Sets, Notes, NotesAt};
 
 use ids::{Ballot, Replica, Slot};
 use inst_cell::{Cell, NoticeBook};
+use insts::{Insts, InstsMut, Window};
+use items::Items;
+
+// A peer has accepted a slot at a ballot.
+#[derive(Clone, Copy)]
+pub struct Notice {
+    pub peer: Replica,
+    pub ballot: Ballot,
+}
 
 // A slot's book takes a notice, a new one where there is none.
-fn noticed_book(book: Option<NoticeBook>, peer: Replica, ballot: Ballot) -> NoticeBook
-    ensures { (held : List ReadReq) → book_with result (seen_reads (book_of book) held) ≡ noticed_book peer.0 ballot.0 (slot_book (book_of book) held) }
+fn noticed_book(book: Option<NoticeBook>, notice: Notice) -> NoticeBook
+    ensures { (held : List ReadReq) → book_with result (seen_reads (book_of book) held) ≡ noticed_book notice.peer.0 notice.ballot.0 (slot_book (book_of book) held) }
 {
-    accept_notices::noticed(book.unwrap_or(accept_notices::fresh()), peer, ballot)
+    accept_notices::noticed(
+        book.unwrap_or(accept_notices::fresh()),
+        notice.peer,
+        notice.ballot,
+    )
 }
 
 // Whether a notice is one for a slot: of its ballot, or the slot has none yet and is the last.
@@ -30,56 +42,55 @@ fn is_for(bal: Ballot, ballot: Ballot, last: bool) -> bool
     ballot == bal || bal.0 == 0 && last
 }
 
-// The slot at place c with the notice.
-fn put_notice(s: &mut [u64], c: usize, peer: Replica, ballot: Ballot)
-    requires { (c < slot_places) × (slot_words ≤ length s.old) }
-    ensures { Sets s.old c (with_notice peer.0 ballot.0 (inst_in s.old c)) s.new }
+// A slot with the notice.
+fn put_notice(insts: &mut InstsMut<'_>, slot: Slot, notice: Notice)
+    ensures same_reference { insts.new.words.ghost_name ≡ insts.old.words.ghost_name }
+    ensures sets { Sets insts.old.words.now (place_of slot.0) (with_notice notice.peer.0 notice.ballot.0 (inst_in insts.old.words.now (place_of slot.0))) insts.new.words.now }
 {
-    let cell = insts::load(s, c);
-    insts::clear_unseen(s, c);
-    let replica_bk = Some(noticed_book(cell.replica_bk, peer, ballot));
-    insts::store(s, c, Cell { replica_bk, ..cell });
+    let cell = insts.as_ref().load(slot);
+    insts.clear_unseen(slot);
+    let replica_bk = Some(noticed_book(cell.replica_bk, notice));
+    insts.store(slot, Cell { replica_bk, ..cell });
 }
 
-// How many items a notice has at the slot of place c.
-fn due_in(s: &[u64], c: usize, last: bool, quorum: u8, peer: Replica, ballot: Ballot) -> usize
-    requires { (c < slot_places) × (slot_words ≤ length s.now) }
-    ensures { (leader : Option ℕ) → result ≡ length (noticed_items quorum leader peer.0 ballot.0 last (inst_in s.now c)) }
+// How many items a notice has at a slot.
+#[tactic(auto, using(crate::proofs::Laws::due_none, crate::proofs::Laws::due_open, crate::proofs::Laws::due_reads))]
+fn due_in(insts: Insts<'_>, slot: Slot, last: bool, quorum: u8, notice: Notice) -> usize
+    ensures { (leader : Option ℕ) → result ≡ length (noticed_items quorum leader notice.peer.0 notice.ballot.0 last (inst_in insts.entry.words.now (place_of slot.0))) }
 {
-    let cell = insts::load(s, c);
-    if !is_for(cell.bal, ballot, last) {
+    let cell = insts.load(slot);
+    if !is_for(cell.bal, notice.ballot, last) {
         return 0;
     }
-    let book = noticed_book(cell.replica_bk, peer, ballot);
+    let book = noticed_book(cell.replica_bk, notice);
     if release_held_reads::has_quorum(Some(book), quorum) {
-        release_held_reads::holding(s, c)
+        release_held_reads::holding(insts, slot)
     } else {
         0
     }
 }
 
-// The notice taken at the slot of place c, and its reads released at a quorum of notices. Returns how many items.
+// The notice taken at a slot, and its reads released at a quorum of notices.
 fn notice_in(
-    s: &mut [u64],
-    c: usize,
+    insts: &mut InstsMut<'_>,
+    slot: Slot,
     last: bool,
     quorum: u8,
     leader: Option<Replica>,
-    peer: Replica,
-    ballot: Ballot,
-    area: &mut [u64],
-) -> usize
-    requires { (c < slot_places) × (slot_words ≤ length s.old) × (length (noticed_items quorum (leader_of leader) peer.0 ballot.0 last (inst_in s.old c)) ≤ places area.old) }
-    ensures { Notes quorum (leader_of leader) peer.0 ballot.0 last c s.old area.old result s.new area.new }
+    notice: Notice,
+    items: &mut Items<'_>,
+)
+    requires { items.old.count + length (noticed_items quorum (leader_of leader) notice.peer.0 notice.ballot.0 last (inst_in insts.old.words.now (place_of slot.0))) ≤ places items.old.area.now }
+    ensures same_words { insts.new.words.ghost_name ≡ insts.old.words.ghost_name }
+    ensures same_area { items.new.area.ghost_name ≡ items.old.area.ghost_name }
+    ensures notes { Notes quorum (leader_of leader) notice.peer.0 notice.ballot.0 last (place_of slot.0) items.old.count insts.old.words.now items.old.area.now items.new.count insts.new.words.now items.new.area.now }
 {
-    if !is_for(insts::load(s, c).bal, ballot, last) {
-        return 0;
+    if !is_for(insts.as_ref().load(slot).bal, notice.ballot, last) {
+        return;
     }
-    put_notice(s, c, peer, ballot);
-    if release_held_reads::has_quorum(insts::load(s, c).replica_bk, quorum) {
-        release_held_reads::release(s, c, quorum, leader, area, 0)
-    } else {
-        0
+    put_notice(insts, slot, notice);
+    if release_held_reads::has_quorum(insts.as_ref().load(slot).replica_bk, quorum) {
+        release_held_reads::release(insts, slot, quorum, leader, items);
     }
 }
 
@@ -91,45 +102,36 @@ pub fn held_after(held: usize, k: usize) -> usize
     held.max(k + 1)
 }
 
-// How many items a notice has at the k-th of the slots from start on.
-pub fn due(
-    s: &[u64],
-    start: Slot,
-    held: usize,
-    k: usize,
-    quorum: u8,
-    peer: Replica,
-    ballot: Ballot,
-) -> usize
-    requires { (start.0 ≤ top) × (held ≤ slot_places) × (k < slot_places) × (slot_words ≤ length s.now) }
-    ensures { (leader : Option ℕ) → result ≡ length (noticed_at quorum leader peer.0 ballot.0 k (insts_of start.0 held s.now)).items }
+// How many items a notice has at the k-th slot of the window.
+#[tactic(auto, using(crate::proofs::Laws::due_null))]
+pub fn due(insts: Insts<'_>, window: Window, k: usize, quorum: u8, notice: Notice) -> usize
+    requires { k < slot_places }
+    ensures { (leader : Option ℕ) → result ≡ length (noticed_at quorum leader notice.peer.0 notice.ballot.0 k (insts_of window.start.0 window.held insts.entry.words.now)).items }
 {
-    if held <= k {
+    if window.held <= k {
         return 0;
     }
-    let c = ((start.0 + k as u64) % layout::PLACES) as usize;
-    due_in(s, c, k + 1 == held, quorum, peer, ballot)
+    due_in(insts, window.slot(k), k + 1 == window.held, quorum, notice)
 }
 
-// The notice taken at the k-th of the slots from start on, null ones filled in up to it. Returns how many items.
+// The notice taken at the k-th slot of the window, null ones filled in up to it.
 pub fn notice_at(
-    s: &mut [u64],
-    start: Slot,
-    held: usize,
+    insts: &mut InstsMut<'_>,
+    window: Window,
     k: usize,
     quorum: u8,
     leader: Option<Replica>,
-    peer: Replica,
-    ballot: Ballot,
-    area: &mut [u64],
-) -> usize
-    requires { (start.0 ≤ top) × (held ≤ slot_places) × (k < slot_places) × (slot_words ≤ length s.old) × (length (noticed_at quorum (leader_of leader) peer.0 ballot.0 k (insts_of start.0 held s.old)).items ≤ places area.old) }
-    ensures { NotesAt quorum (leader_of leader) peer.0 ballot.0 start.0 held k s.old area.old result s.new area.new }
+    notice: Notice,
+    items: &mut Items<'_>,
+)
+    requires below { k < slot_places }
+    requires room { items.old.count + length (noticed_at quorum (leader_of leader) notice.peer.0 notice.ballot.0 k (insts_of window.start.0 window.held insts.old.words.now)).items ≤ places items.old.area.now }
+    ensures same_words { insts.new.words.ghost_name ≡ insts.old.words.ghost_name }
+    ensures same_area { items.new.area.ghost_name ≡ items.old.area.ghost_name }
+    ensures notes { NotesAt quorum (leader_of leader) notice.peer.0 notice.ballot.0 window.start.0 window.held k items.old.count insts.old.words.now items.old.area.now items.new.count insts.new.words.now items.new.area.now }
 {
-    let c = ((start.0 + k as u64) % layout::PLACES) as usize;
-    if k < held {
-        return notice_in(s, c, k + 1 == held, quorum, leader, peer, ballot, area);
-    }
-    insts::pad(s, start, held, k + 1);
-    notice_in(s, c, true, quorum, leader, peer, ballot, area)
+    let held = held_after(window.held, k);
+    insts.pad(window, held);
+    let last = k + 1 == held;
+    notice_in(insts, window.slot(k), last, quorum, leader, notice, items);
 }

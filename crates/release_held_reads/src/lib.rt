@@ -73,7 +73,8 @@ fn put_answers(
     items: &mut Items<'_>,
 )
     requires { items.old.count + length (holding_of (inst_in insts.words.now (place_of slot.0))) ≤ places items.old.area.now }
-    ensures { Answered items.old.count items.old.area.now (answers_of quorum (leader_of leader) (inst_in insts.entry.words.now (place_of slot.0))) items.new.count items.new.area.now }
+    ensures same_reference { items.new.area.ghost_name ≡ items.old.area.ghost_name }
+    ensures put { Answered items.old.count items.old.area.now (answers_of quorum (leader_of leader) (inst_in insts.entry.words.now (place_of slot.0))) items.new.count items.new.area.now }
 {
     let bound = is_bound(insts.load(slot), quorum);
     let batch = insts.batch(slot);
@@ -94,7 +95,8 @@ pub fn holding(insts: Insts<'_>, slot: Slot) -> usize
     }
 }
 
-// `release_held_read_reqs` for a slot: its items after those that are put, and its queue emptied.
+// `release_held_read_reqs` for a slot: its items after those that are put, and its queue emptied. The quorum and the
+// leader are two arguments: a struct of both would be made at each call only to be taken apart here.
 pub fn release(
     insts: &mut InstsMut<'_>,
     slot: Slot,
@@ -103,7 +105,9 @@ pub fn release(
     items: &mut Items<'_>,
 )
     requires { items.old.count + length (holding_of (inst_in insts.old.words.now (place_of slot.0))) ≤ places items.old.area.now }
-    ensures { Releases quorum (leader_of leader) (place_of slot.0) items.old.count insts.old.words.now items.old.area.now items.new.count insts.new.words.now items.new.area.now }
+    ensures same_words { insts.new.words.ghost_name ≡ insts.old.words.ghost_name }
+    ensures same_area { items.new.area.ghost_name ≡ items.old.area.ghost_name }
+    ensures releases { Releases quorum (leader_of leader) (place_of slot.0) items.old.count insts.old.words.now items.old.area.now items.new.count insts.new.words.now items.new.area.now }
 {
     put_answers(insts.as_ref(), slot, quorum, leader, items);
     insts.clear_reads(slot);

@@ -1,19 +1,28 @@
-use Rattle.ids.specs.Leader.{leader_of}
 use Rattle.std.proofs.Common.{rules}
+use Rattle.ids.specs.Leader.{leader_of}
+use Rattle.insts.specs.Slots.{place_of}
 use Rattle.accept_notice_at.proofs.Laws as law
 use Rattle.accept_notice_at.proofs.notice_in.Goals as goal
 
-pub returns-then-not-is_for : goal.returns-then-not-is_for
-returns-then-not-is_for c = search (rules, law.notes_none)
+pub returns-then-not-is_for-clause-notes : goal.returns-then-not-is_for-clause-notes
+returns-then-not-is_for-clause-notes c = let e = rw c.as_ref.ensures at c.load.ensures in search (rules, law.notes_none, e)
 
 pub release-requires : goal.release-requires
 release-requires c =
     let a = c.args in
-    law.release_room a.s.now a.c c.load.result c.load.ensures a.peer.0 a.ballot.0 a.quorum (leader_of a.leader) a.last _ c.is_for.ensures c.if-not-is_for.false
-    _ c.put_notice.ensures c.load-2.result c.load-2.ensures _ c.has_quorum.ensures c.if-has_quorum.true a.area.now c.requires
+    let e = rw c.as_ref.ensures at c.load.ensures in
+    let f = rw c.as_ref-2.ensures at c.load-2.ensures in
+    law.release_room a.insts.now.words.now (place_of a.slot.0) c.load.result e a.notice.peer.0 a.notice.ballot.0 a.quorum (leader_of a.leader) a.last _ c.is_for.ensures c.if-not-is_for.false
+    _ c.put_notice.ensures.sets c.load-2.result f _ c.has_quorum.ensures c.if-has_quorum.true _ a.items.now.area.now c.requires
 
-pub returns-then-has_quorum : goal.returns-then-has_quorum
-returns-then-has_quorum c = search (rules, law.notes_released)
+pub returns-then-has_quorum-clause-notes : goal.returns-then-has_quorum-clause-notes
+returns-then-has_quorum-clause-notes c =
+    let e = rw c.as_ref.ensures at c.load.ensures in
+    let f = rw c.as_ref-2.ensures at c.load-2.ensures in
+    search (rules, law.notes_released, e, f)
 
-pub returns-else-has_quorum : goal.returns-else-has_quorum
-returns-else-has_quorum c = search (rules, law.notes_open)
+pub returns-else-has_quorum-clause-notes : goal.returns-else-has_quorum-clause-notes
+returns-else-has_quorum-clause-notes c =
+    let e = rw c.as_ref.ensures at c.load.ensures in
+    let f = rw c.as_ref-2.ensures at c.load-2.ensures in
+    search (rules, law.notes_open, e, f)
