@@ -5,7 +5,7 @@
 ghost use Rattle.std.specs.Prelude.{◌≡◌, true, ℕ, ◌+◌, ◌-◌, ◌*◌, ◌≤◌, ◌<◌, length, drop};
 ghost use Rattle.std.specs.Prelude.{Option, None};
 ghost use Rattle.ids.specs.Leader.{leader_of};
-ghost use Rattle.layout.specs.Layout.{slot_places, held_places};
+ghost use Rattle.layout.specs.Layout.{slot_places, held_places, slot_words};
 ghost use Rattle.items.specs.Item.{places};
 ghost use Rattle.bodega.specs.Conflease.{first_open, last_open, any_open, prelogs};
 ghost use Rattle.insts.specs.Slots.{inst_in, insts_of, place_of};
@@ -149,30 +149,31 @@ fn release_all(
     }
 }
 
-// The slots and the items of a step-up. Gives how many slots are held after it: one more where none was open.
+// The slots and the items of a step-up. Gives how many slots are held after it: one more where none was open. The words
+// come whole: a struct made of a part of a buffer would lose what became of the part.
 pub fn become_a_leader(
-    insts: &mut InstsMut<'_>,
+    words: &mut [u64],
     window: Window,
     quorum: u8,
     leader: Option<Replica>,
     ballot: Ballot,
     items: &mut Items<'_>,
 ) -> usize
-    requires { (slots_after window.held (insts_of window.start.0 window.held insts.old.words.now) ≤ slot_places) × (items.old.count + length (step_up window.start.0 quorum (leader_of leader) ballot.0 (insts_of window.start.0 window.held insts.old.words.now)).items ≤ places items.old.area.now) }
-    ensures same_words { insts.new.words.ghost_name ≡ insts.old.words.ghost_name }
+    requires { (slot_words ≤ length words.old) × (slots_after window.held (insts_of window.start.0 window.held words.old) ≤ slot_places) × (items.old.count + length (step_up window.start.0 quorum (leader_of leader) ballot.0 (insts_of window.start.0 window.held words.old)).items ≤ places items.old.area.now) }
     ensures same_area { items.new.area.ghost_name ≡ items.old.area.ghost_name }
-    ensures held { result ≡ slots_after window.held (insts_of window.start.0 window.held insts.old.words.now) }
-    ensures steps { StepsUp items.old.count window.start.0 window.held quorum (leader_of leader) ballot.0 insts.old.words.now items.old.area.now items.new.count insts.new.words.now items.new.area.now }
+    ensures held { result ≡ slots_after window.held (insts_of window.start.0 window.held words.old) }
+    ensures steps { StepsUp items.old.count window.start.0 window.held quorum (leader_of leader) ballot.0 words.old items.old.area.now items.new.count words.new items.new.area.now }
 {
-    let window = open_one(insts, window);
+    let mut insts = InstsMut { words };
+    let window = open_one(&mut insts, window);
     let open = open_range(insts.as_ref(), window);
     let prepare = Item::Prepare {
         slot: window.slot(open.start),
         ballot,
     };
     items.push(Item::Lead(true));
-    prelog_all(insts, window, ballot, items);
-    release_all(insts, window, open, quorum, leader, items);
+    prelog_all(&mut insts, window, ballot, items);
+    release_all(&mut insts, window, open, quorum, leader, items);
     items.push(prepare);
     window.held
 }

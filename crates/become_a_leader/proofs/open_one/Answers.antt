@@ -1,4 +1,4 @@
-use Rattle.std.proofs.Common.{arith, refl}
+use Rattle.std.proofs.Common.{arith}
 use Rattle.become_a_leader.proofs.Laws as law
 use Rattle.become_a_leader.proofs.open_one.Goals as goal
 
