@@ -4,6 +4,7 @@
 
 ghost use Rattle.std.specs.Prelude.{◌≡◌, ◌+◌, ◌-◌, ◌≤◌, min, length};
 ghost use Rattle.items.specs.Item.{item_of, places};
+ghost use Rattle.layout.specs.Layout.{slot_words};
 ghost use Rattle.inst_cell.specs.Cell.{Short, cell_of};
 ghost use Rattle.insts.specs.Slots.{inst_in, place_of};
 ghost use Rattle.advance_commit_bar.specs.Walk.{stops_at, one_if_open, ChangesOpen, Marks, walked, Advances};
@@ -33,7 +34,9 @@ pub fn change_open<F: Fn(Cell) -> Cell>(
     ghost changed: { Short → Short }
     requires changes { F.IsAlwaysCallable change × ((x y : Cell) → F.post change x y → cell_of y ≡ changed (cell_of x)) }
     requires room { items.old.count + one_if_open (inst_in insts.old.words.now (place_of slot.0)) ≤ places items.old.area.now }
-    ensures { ChangesOpen changed (item_of item) (place_of slot.0) items.old.count insts.old.words.now items.old.area.now items.new.count insts.new.words.now items.new.area.now }
+    ensures same_words { insts.new.words.ghost_name ≡ insts.old.words.ghost_name }
+    ensures same_area { items.new.area.ghost_name ≡ items.old.area.ghost_name }
+    ensures changes { ChangesOpen changed (item_of item) (place_of slot.0) items.old.count insts.old.words.now items.old.area.now items.new.count insts.new.words.now items.new.area.now }
 {
     if insts.as_ref().is_open(slot) {
         let cell = change(insts.as_ref().load(slot));
@@ -45,7 +48,9 @@ pub fn change_open<F: Fn(Cell) -> Cell>(
 // A slot that the walk passes: marked Committed, with its item, unless it was already.
 fn mark(insts: &mut InstsMut<'_>, slot: Slot, items: &mut Items<'_>)
     requires { items.old.count + one_if_open (inst_in insts.old.words.now (place_of slot.0)) ≤ places items.old.area.now }
-    ensures { Marks (place_of slot.0) items.old.count slot.0 insts.old.words.now items.old.area.now items.new.count insts.new.words.now items.new.area.now }
+    ensures same_words { insts.new.words.ghost_name ≡ insts.old.words.ghost_name }
+    ensures same_area { items.new.area.ghost_name ≡ items.old.area.ghost_name }
+    ensures marks { Marks (place_of slot.0) items.old.count slot.0 insts.old.words.now items.old.area.now items.new.count insts.new.words.now items.new.area.now }
 {
     change_open(
         insts,
@@ -87,24 +92,27 @@ pub fn count_commits(
         .count()
 }
 
-// The walk, with its items.
+// The walk, with its items. The words come whole: a struct made of a part of a buffer would lose what became of the
+// part.
 pub fn advance(
-    insts: &mut InstsMut<'_>,
+    words: &mut [u64],
     window: Window,
     commit: Slot,
     ballot: Ballot,
     bar: Slot,
     items: &mut Items<'_>,
 )
-    requires { (window.start.0 ≤ commit.0) × (commit.0 ≤ window.start.0 + window.held) × (items.old.count + length (walked window.start.0 window.held commit.0 ballot.0 bar.0 insts.old.words.now).items ≤ places items.old.area.now) }
-    ensures { Advances items.old.count window.start.0 window.held commit.0 ballot.0 bar.0 insts.old.words.now items.old.area.now items.new.count insts.new.words.now items.new.area.now }
+    requires { (slot_words ≤ length words.old) × (window.start.0 ≤ commit.0) × (commit.0 ≤ window.start.0 + window.held) × (items.old.count + length (walked window.start.0 window.held commit.0 ballot.0 bar.0 words.old).items ≤ places items.old.area.now) }
+    ensures same_area { items.new.area.ghost_name ≡ items.old.area.ghost_name }
+    ensures advances { Advances items.old.count window.start.0 window.held commit.0 ballot.0 bar.0 words.old items.old.area.now items.new.count words.new items.new.area.now }
 {
     let from = (commit.0 - window.start.0) as usize;
+    let mut insts = InstsMut { words };
     for k in from..reach(window, bar) {
         let slot = window.slot(k);
         if stops(insts.as_ref(), slot, ballot) {
             return;
         }
-        mark(insts, slot, items);
+        mark(&mut insts, slot, items);
     }
 }

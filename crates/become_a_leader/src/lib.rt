@@ -5,7 +5,7 @@
 ghost use Rattle.std.specs.Prelude.{◌≡◌, true, ℕ, ◌+◌, ◌-◌, ◌*◌, ◌≤◌, ◌<◌, length, drop};
 ghost use Rattle.std.specs.Prelude.{Option, None};
 ghost use Rattle.ids.specs.Leader.{leader_of};
-ghost use Rattle.layout.specs.Layout.{slot_places, held_places};
+ghost use Rattle.layout.specs.Layout.{slot_places, held_places, slot_words};
 ghost use Rattle.items.specs.Item.{places};
 ghost use Rattle.bodega.specs.Conflease.{first_open, last_open, any_open, prelogs};
 ghost use Rattle.insts.specs.Slots.{inst_in, insts_of, place_of};
@@ -82,7 +82,9 @@ pub fn count_items(insts: Insts<'_>, window: Window) -> usize
 // A null slot after those that are held, where none is open.
 fn open_one(insts: &mut InstsMut<'_>, window: Window) -> Window
     requires { slots_after window.held (insts_of window.start.0 window.held insts.old.words.now) ≤ slot_places }
-    ensures { (result.start ≡ window.start) × Opens window.start.0 window.held insts.old.words.now result.held insts.new.words.now }
+    ensures same_words { insts.new.words.ghost_name ≡ insts.old.words.ghost_name }
+    ensures starts { result.start ≡ window.start }
+    ensures opens { Opens window.start.0 window.held insts.old.words.now result.held insts.new.words.now }
 {
     if insts.as_ref().any_open(window) {
         return window;
@@ -98,7 +100,9 @@ fn open_one(insts: &mut InstsMut<'_>, window: Window) -> Window
 // A slot Preparing at the ballot, with empty acks, and with its item, if it is open.
 fn prelog(insts: &mut InstsMut<'_>, slot: Slot, ballot: Ballot, items: &mut Items<'_>)
     requires { items.old.count + one_if_open (inst_in insts.old.words.now (place_of slot.0)) ≤ places items.old.area.now }
-    ensures { Prelogs (place_of slot.0) items.old.count slot.0 ballot.0 insts.old.words.now items.old.area.now items.new.count insts.new.words.now items.new.area.now }
+    ensures same_words { insts.new.words.ghost_name ≡ insts.old.words.ghost_name }
+    ensures same_area { items.new.area.ghost_name ≡ items.old.area.ghost_name }
+    ensures prelogs { Prelogs (place_of slot.0) items.old.count slot.0 ballot.0 insts.old.words.now items.old.area.now items.new.count insts.new.words.now items.new.area.now }
 {
     advance_commit_bar::change_open(
         insts,
@@ -117,7 +121,9 @@ fn prelog(insts: &mut InstsMut<'_>, slot: Slot, ballot: Ballot, items: &mut Item
 // All open slots prepared anew, with their items.
 fn prelog_all(insts: &mut InstsMut<'_>, window: Window, ballot: Ballot, items: &mut Items<'_>)
     requires { items.old.count + length (prelogs window.start.0 (insts_of window.start.0 window.held insts.old.words.now)) ≤ places items.old.area.now }
-    ensures { Passes (prepared_anew window.start.0 ballot.0 (insts_of window.start.0 window.held insts.old.words.now)) items.old.count window.start.0 window.held 0 insts.old.words.now items.old.area.now items.new.count insts.new.words.now items.new.area.now }
+    ensures same_words { insts.new.words.ghost_name ≡ insts.old.words.ghost_name }
+    ensures same_area { items.new.area.ghost_name ≡ items.old.area.ghost_name }
+    ensures passes { Passes (prepared_anew window.start.0 ballot.0 (insts_of window.start.0 window.held insts.old.words.now)) items.old.count window.start.0 window.held 0 insts.old.words.now items.old.area.now items.new.count insts.new.words.now items.new.area.now }
 {
     for k in 0..window.held {
         prelog(insts, window.slot(k), ballot, items);
@@ -134,34 +140,40 @@ fn release_all(
     items: &mut Items<'_>,
 )
     requires { (numbers.start ≤ numbers.end) × (numbers.end ≤ window.held) × (items.old.count + length (released_from quorum (leader_of leader) (numbers.end - numbers.start) (drop numbers.start (insts_of window.start.0 window.held insts.old.words.now))).items ≤ places items.old.area.now) }
-    ensures { Passes (released_from quorum (leader_of leader) (numbers.end - numbers.start) (drop numbers.start (insts_of window.start.0 window.held insts.old.words.now))) items.old.count window.start.0 window.held numbers.start insts.old.words.now items.old.area.now items.new.count insts.new.words.now items.new.area.now }
+    ensures same_words { insts.new.words.ghost_name ≡ insts.old.words.ghost_name }
+    ensures same_area { items.new.area.ghost_name ≡ items.old.area.ghost_name }
+    ensures passes { Passes (released_from quorum (leader_of leader) (numbers.end - numbers.start) (drop numbers.start (insts_of window.start.0 window.held insts.old.words.now))) items.old.count window.start.0 window.held numbers.start insts.old.words.now items.old.area.now items.new.count insts.new.words.now items.new.area.now }
 {
     for k in numbers.start..numbers.end {
         release_held_reads::release(insts, window.slot(k), quorum, leader, items);
     }
 }
 
-// The slots and the items of a step-up. Gives how many slots are held after it: one more where none was open.
+// The slots and the items of a step-up. Gives how many slots are held after it: one more where none was open. The words
+// come whole: a struct made of a part of a buffer would lose what became of the part.
 pub fn become_a_leader(
-    insts: &mut InstsMut<'_>,
+    words: &mut [u64],
     window: Window,
     quorum: u8,
     leader: Option<Replica>,
     ballot: Ballot,
     items: &mut Items<'_>,
 ) -> usize
-    requires { (slots_after window.held (insts_of window.start.0 window.held insts.old.words.now) ≤ slot_places) × (items.old.count + length (step_up window.start.0 quorum (leader_of leader) ballot.0 (insts_of window.start.0 window.held insts.old.words.now)).items ≤ places items.old.area.now) }
-    ensures { (result ≡ slots_after window.held (insts_of window.start.0 window.held insts.old.words.now)) × StepsUp items.old.count window.start.0 window.held quorum (leader_of leader) ballot.0 insts.old.words.now items.old.area.now items.new.count insts.new.words.now items.new.area.now }
+    requires { (slot_words ≤ length words.old) × (slots_after window.held (insts_of window.start.0 window.held words.old) ≤ slot_places) × (items.old.count + length (step_up window.start.0 quorum (leader_of leader) ballot.0 (insts_of window.start.0 window.held words.old)).items ≤ places items.old.area.now) }
+    ensures same_area { items.new.area.ghost_name ≡ items.old.area.ghost_name }
+    ensures held { result ≡ slots_after window.held (insts_of window.start.0 window.held words.old) }
+    ensures steps { StepsUp items.old.count window.start.0 window.held quorum (leader_of leader) ballot.0 words.old items.old.area.now items.new.count words.new items.new.area.now }
 {
-    let window = open_one(insts, window);
+    let mut insts = InstsMut { words };
+    let window = open_one(&mut insts, window);
     let open = open_range(insts.as_ref(), window);
     let prepare = Item::Prepare {
         slot: window.slot(open.start),
         ballot,
     };
     items.push(Item::Lead(true));
-    prelog_all(insts, window, ballot, items);
-    release_all(insts, window, open, quorum, leader, items);
+    prelog_all(&mut insts, window, ballot, items);
+    release_all(&mut insts, window, open, quorum, leader, items);
     items.push(prepare);
     window.held
 }

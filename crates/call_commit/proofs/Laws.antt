@@ -6,14 +6,14 @@ use mathlib.Core.List.{List}
 use Prim.Native.Nat.{ℕ, ◌+◌, ◌≤◌, ◌<◌}
 use native.Mathlib.Nat.{zero-add}
 use native.Mathlib.Omega.{arith}
-use lib.ListN.{length, take, drop}
+use lib.ListN.{length}
 use lib.Dec.{eqb}
 use borrow.Author.Tests.{not-true, not-false}
 use Rattle.words.specs.Part.{part, splice, length_part}
 use Rattle.ids.specs.Refusal.{number_of}
 use Rattle.ids.specs.declared.Refusal.{Refusal}
 use Rattle.ids.specs.declared.Refusal.TheVariants.{AreaTooSmall}
-use Rattle.layout.specs.Layout.{slot_places, slot_words, slots_at}
+use Rattle.layout.specs.Layout.{slot_words, slots_at, node_words}
 use Rattle.items.specs.Item.{Item, places}
 use Rattle.bodega.specs.Replica as machine
 use Rattle.bodega.specs.Heartbeat.{heard_commit_notice, advance_commit_bar}
@@ -35,7 +35,7 @@ module _ (n : Node) (m area : List ℕ) (peer ballot bar : ℕ) (y : ready n m �
   call = machine.CommitNotice peer ballot bar
 
   abbrev words : List ℕ
-  words = take slot_words (drop slots_at m)
+  words = part m slots_at slot_words
 
   abbrev items : List Item
   items = (walked n.start_slot.0 n.slots n.commit_bar.0 ballot bar words).items
@@ -44,14 +44,16 @@ module _ (n : Node) (m area : List ℕ) (peer ballot bar : ℕ) (y : ready n m �
   r = is_ready n m true (sym y) refl
 
   words_long : length words ≡ slot_words
-  unfolding part
   words_long = length_part m slots_at slot_words (omega (arith, r.long))
 
   pub long : slots_at + slot_words ≤ length m
   long = omega (arith, r.long)
 
-  pub asked : (n.start_slot.0 ≤ n.commit_bar.0) × (n.commit_bar.0 ≤ n.start_slot.0 + n.slots) × (n.start_slot.0 ≤ 281474976710655) × (n.slots ≤ slot_places) × (slot_words ≤ length words)
-  asked = let a = r.start_exec_lem in let b = r.exec_commit_lem in (omega arith, r.commit_end_lem, r.start_low_lem, r.window, omega (arith, words_long))
+  pub whole : node_words ≤ length m
+  whole = r.long
+
+  pub asked : (n.start_slot.0 ≤ n.commit_bar.0) × (n.commit_bar.0 ≤ n.start_slot.0 + n.slots)
+  asked = let a = r.start_exec_lem in let b = r.exec_commit_lem in (omega arith, r.commit_end_lem)
 
   pub commit_refused : (x : Refusal) (z : Result Taken Refusal) → number_of x ≡ commit_refusal n.population peer bar → IsErrAnd z (λ u. u ≡ x)
       → Answers ready view call n m area (given_of n z) m area
@@ -73,8 +75,8 @@ module _ (n : Node) (m area : List ℕ) (peer ballot bar : ℕ) (y : ready n m �
       commit_20 h = few_places call n m g area true (sym y) refl (rw walks (rw q at h))
 
       pub room : c ≤ places area
-          → (n.start_slot.0 ≤ n.commit_bar.0) × (n.commit_bar.0 ≤ n.start_slot.0 + n.slots) × (n.start_slot.0 ≤ 281474976710655) × (n.slots ≤ slot_places) × (slot_words ≤ length words) × (0 + length items ≤ places area)
-      room h = let a = asked in (a.0, a.1, a.2, a.3, a.4, rw (zero-add (length items), ← q) h)
+          → (slot_words ≤ length words) × (n.start_slot.0 ≤ n.commit_bar.0) × (n.commit_bar.0 ≤ n.start_slot.0 + n.slots) × (0 + length items ≤ places area)
+      room h = (omega (arith, words_long), asked.0, asked.1, rw (zero-add (length items), ← q) h)
 
       pub commit_taken : c ≤ places area → (s' area' : List ℕ) (x : ℕ) → Advances 0 n.start_slot.0 n.slots n.commit_bar.0 ballot bar words area x s' area'
           → Answers ready view call n m area (given_of n (Ok (record { node = n; count = c }))) (splice m slots_at slot_words s') area'

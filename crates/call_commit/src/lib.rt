@@ -9,6 +9,7 @@ ghost use Rattle.call_commit.specs.Commit.{commit_refusal};
 ghost use Rattle.ids.specs.Refusal.{refused_by};
 
 use ids::{Ballot, Refusal, Replica, Slot};
+use items::Items;
 use node::{Node, Taken};
 
 // Refusals 3 and 8.
@@ -41,10 +42,10 @@ pub fn commit(
     if ballot != node.bal_max_seen {
         return Ok(Taken { node, count: 0 });
     }
+    let window = node::window(node, mem);
     let count = advance_commit_bar::count_commits(
-        &mem[layout::SLOTS_AT..layout::WRITTEN_AT],
-        node.start_slot,
-        node.slots,
+        node::insts(mem),
+        window,
         node.commit_bar,
         ballot,
         bar,
@@ -54,13 +55,11 @@ pub fn commit(
     }
     advance_commit_bar::advance(
         &mut mem[layout::SLOTS_AT..layout::WRITTEN_AT],
-        area,
-        0,
-        node.start_slot,
-        node.slots,
+        window,
         node.commit_bar,
         ballot,
         bar,
+        &mut Items { area, count: 0 },
     );
     Ok(Taken { node, count })
 }

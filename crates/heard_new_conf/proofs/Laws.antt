@@ -22,12 +22,11 @@ use Rattle.roster_conf.specs.declared.RespondersConf.{RespondersConf}
 use Rattle.bodega.specs.Replica as machine
 use Rattle.bodega.specs.Conflease.{update_peer_accept_max, adopted, become_a_leader, heard_new_conf}
 use Rattle.bodega.specs.Heartbeat.{Walk}
-use Rattle.bodega.specs.Answers.{Given}
 use Rattle.peer_accept_bar.specs.Pairs.{pairs_of, accept_max}
 use Rattle.insts.specs.Slots.{insts_of}
 use Rattle.insts.proofs.Laws.{length_insts}
 use Rattle.become_a_leader.specs.StepUp.{slots_after, step_up, StepsUp}
-use Rattle.become_a_leader.proofs.Laws.{grows}
+use Rattle.bodega.specs.Conflease.{any_open}
 use Rattle.become_a_leader.proofs.Machine.{step_up_is}
 use Rattle.node.specs.declared.Node.{Node}
 use Rattle.node.specs.View.{view, ready, leads_it}
@@ -140,8 +139,14 @@ forgets s h =
 
 -- ---- a step-up
 
-pub slots_long : (m : List ℕ) → node_words ≤ length m → length (take slot_words (drop slots_at m)) ≡ slot_words
-unfolding part
+grows : (n : ℕ) (l : List machine.Instance) → n ≤ slots_after n l
+grows n l = go (any_open l)
+  where
+    go : (b : Bool) → n ≤ (if b then n else n + 1)
+    go true = omega arith
+    go false = omega arith
+
+slots_long : (m : List ℕ) → node_words ≤ length m → length (part m slots_at slot_words) ≡ slot_words
 slots_long m h = length_part m slots_at slot_words (omega arith)
 
 abbrev pub leading : Node → Ballot → ℕ → Node
@@ -158,7 +163,7 @@ module _ (n : Node) (m area : List ℕ) (e : ready n m ≡ true) where
   leader = leader_of n.bodega_conf.leader
 
   abbrev insts : List machine.Instance
-  insts = insts_of start n.slots (take slot_words (drop slots_at m))
+  insts = insts_of start n.slots (part m slots_at slot_words)
 
   abbrev up : Walk
   up = step_up start n.quorum leader n.bal_max_seen.0 insts
@@ -172,20 +177,17 @@ module _ (n : Node) (m area : List ℕ) (e : ready n m ≡ true) where
   unfolding view part roster_of
   steps_up = step_up_is (view n m)
 
-  pub slots_there : (start ≤ 281474976710655) × (n.slots ≤ slot_places) × (slot_words ≤ length (take slot_words (drop slots_at m)))
-  slots_there = (ok.start_low_lem, ok.window, omega (arith, slots_long m ok.long))
-
   module _ (few : slots_after n.slots (view n m).insts ≤ slot_places) where
     few_after : slots_after n.slots insts ≤ slot_places
-    unfolding view part
+    unfolding view
     few_after = few
 
-    pub step_up_room : length (become_a_leader (view n m)).items ≤ places area
-        → (start ≤ 281474976710655) × (slots_after n.slots insts ≤ slot_places) × (n.slots ≤ slot_places) × (slot_words ≤ length (take slot_words (drop slots_at m))) × (length up.items ≤ places area)
-    step_up_room h = (slots_there.0, few_after, slots_there.1, slots_there.2, rw steps_up at h)
+    pub step_up_room : (place : ℕ) → place + length (become_a_leader (view n m)).items ≤ places area
+        → (slot_words ≤ length (part m slots_at slot_words)) × (slots_after n.slots insts ≤ slot_places) × (place + length up.items ≤ places area)
+    step_up_room place h = (omega (arith, slots_long m ok.long), few_after, rw steps_up at h)
 
-    module _ (k : ℕ) (v : k ≡ slots_after n.slots insts) (s area' : List ℕ) (count : ℕ)
-        (x : StepsUp start n.slots n.quorum leader n.bal_max_seen.0 (take slot_words (drop slots_at m)) area count s area') where
+    module _ (k : ℕ) (v : k ≡ slots_after n.slots insts) (s area' : List ℕ) (place count : ℕ)
+        (x : StepsUp place start n.slots n.quorum leader n.bal_max_seen.0 (part m slots_at slot_words) area count s area') where
       abbrev with_slots : List ℕ
       with_slots = splice m slots_at slot_words s
 
@@ -237,8 +239,8 @@ module _ (n : Node) (m area : List ℕ) (e : ready n m ≡ true) where
               commit_end_lem = omega (arith, v, grows n.slots insts, ok.commit_end_lem);
             })
 
-        pub becomes : (z : Ballot) → z.0 ≡ 0 → Does (become_a_leader (view n m)) 0 m area (record { number = 0; count = count; node = leading n z k }) mem' area'
-        becomes z i = rw steps_up (record { number = refl; count = x.count; next = step_up_view z i; items = x.items; size = step_up_size; beyond = step_up_beyond; ready_again = step_up_ready z })
+        pub becomes : (z : Ballot) → z.0 ≡ 0 → Does (become_a_leader (view n m)) place m area (leading n z k) count mem' area'
+        becomes z i = rw steps_up (record { count = x.next; next = step_up_view z i; items = x.items; size = step_up_size; beyond = step_up_beyond; ready_again = step_up_ready z })
 
 -- ---- the whole
 
@@ -252,11 +254,11 @@ module _ (n : Node) (m area : List ℕ) (b : Ballot) (c : RespondersConf) (rows 
   leads_by u f = leads_is c rows n.id.0 ∙ sym e ∙ f
 
   module _ (d : Node) (m' : List ℕ) (a : (view d m' ≡ adopted (view n m) b.0 (roster_of c rows)) × (length m' ≡ length m) × (ready d m' ≡ true) × Untouched node_words m m') where
-    pub follows : t ≡ false → Does (heard_new_conf (view n m) b.0 (roster_of c rows)) 0 m area (record { number = 0; count = 0; node = d }) m' area
+    pub follows : t ≡ false → (place : ℕ) → Does (heard_new_conf (view n m) b.0 (roster_of c rows)) place m area d place m' area
     unfolding encode
-    follows f =
+    follows f place =
         rw (heard_following (view n m) b.0 (roster_of c rows) (leads_by false (f)))
-        (record { number = refl; count = refl; next = a.0; items = refl; size = a.1; beyond = a.3; ready_again = a.2 })
+        (record { count = (let z : place ≡ place + 0 = omega arith in z); next = a.0; items = refl; size = a.1; beyond = a.3; ready_again = a.2 })
 
     module _ (f : t ≡ true) where
       is_leading : heard_new_conf (view n m) b.0 (roster_of c rows) ≡ become_a_leader (view d m')
@@ -278,30 +280,30 @@ module _ (n : Node) (m area : List ℕ) (b : Ballot) (c : RespondersConf) (rows 
           let i = ap (λ (l : List machine.Instance). slots_after n.slots l) same_insts in
           omega (arith, l, i, h)
 
-      pub leads_room : (leads (roster_of c rows) n.id.0 ≡ true → slots_after n.slots (view n m).insts ≤ slot_places) × (length (heard_new_conf (view n m) b.0 (roster_of c rows)).items ≤ places area)
-          → (ready d m' ≡ true) × (slots_after d.slots (view d m').insts ≤ slot_places) × (length (become_a_leader (view d m')).items ≤ places area)
+      pub leads_room : (place : ℕ) → (leads (roster_of c rows) n.id.0 ≡ true → slots_after n.slots (view n m).insts ≤ slot_places) × (place + length (heard_new_conf (view n m) b.0 (roster_of c rows)).items ≤ places area)
+          → (ready d m' ≡ true) × (slots_after d.slots (view d m').insts ≤ slot_places) × (place + length (become_a_leader (view d m')).items ≤ places area)
       unfolding view
-      leads_room h = (a.2, few_after_it (h.0 (leads_by true (f))), rw (← is_leading) h.1)
+      leads_room place h = (a.2, few_after_it (h.0 (leads_by true (f))), rw (← is_leading) h.1)
 
-      pub leads_then : (g : Given Node) (m'' area' : List ℕ) → Does (become_a_leader (view d m')) 0 m' area g m'' area' → Does (heard_new_conf (view n m) b.0 (roster_of c rows)) 0 m area g m'' area'
-      leads_then g m'' area' x =
+      pub leads_then : (place r : ℕ) (g : Node) (m'' area' : List ℕ) → Does (become_a_leader (view d m')) place m' area g r m'' area' → Does (heard_new_conf (view n m) b.0 (roster_of c rows)) place m area g r m'' area'
+      leads_then place r g m'' area' x =
           rw is_leading
-          (record { number = x.number; count = x.count; next = x.next; items = x.items; size = x.size ∙ a.1; beyond = λ j l. x.beyond j l ∙ a.3 j l; ready_again = x.ready_again })
+          (record { count = x.count; next = x.next; items = x.items; size = x.size ∙ a.1; beyond = λ j l. x.beyond j l ∙ a.3 j l; ready_again = x.ready_again })
 
 -- how many items
 module _ (n : Node) (m : List ℕ) (c : RespondersConf) (t : Bool) (e : t ≡ leads_it (leader_of c.leader) n.id.0) where
   counted : (u : Bool) → t ≡ u → (b : ℕ) (rows : List ℕ) → length (heard_new_conf (view n m) b (roster_of c rows)).items
-      ≡ (if u then length (step_up n.start_slot.0 n.quorum (leader_of c.leader) b (insts_of n.start_slot.0 n.slots (take slot_words (drop slots_at m)))).items else 0)
-  unfolding view part roster_of
+      ≡ (if u then length (step_up n.start_slot.0 n.quorum (leader_of c.leader) b (insts_of n.start_slot.0 n.slots (part m slots_at slot_words))).items else 0)
+  unfolding view roster_of
   counted u f b rows =
       heard_count (view n m) b (roster_of c rows)
-      ∙ ap (λ (y : Bool). if y then length (step_up n.start_slot.0 n.quorum (leader_of c.leader) b (insts_of n.start_slot.0 n.slots (take slot_words (drop slots_at m)))).items else 0)
+      ∙ ap (λ (y : Bool). if y then length (step_up n.start_slot.0 n.quorum (leader_of c.leader) b (insts_of n.start_slot.0 n.slots (part m slots_at slot_words))).items else 0)
       (sym e ∙ f)
 
   pub counts_none : t ≡ false → (b : ℕ) (rows : List ℕ) → 0 ≡ length (heard_new_conf (view n m) b (roster_of c rows)).items
   counts_none f b rows = sym (counted false (f) b rows)
 
   pub counts_all : t ≡ true → (r : ℕ)
-      → ((quorum : ℕ) (leader : Option ℕ) (ballot : ℕ) → r ≡ length (step_up n.start_slot.0 quorum leader ballot (insts_of n.start_slot.0 n.slots (take slot_words (drop slots_at m)))).items)
+      → ((quorum : ℕ) (leader : Option ℕ) (ballot : ℕ) → r ≡ length (step_up n.start_slot.0 quorum leader ballot (insts_of n.start_slot.0 n.slots (part m slots_at slot_words))).items)
       → (b : ℕ) (rows : List ℕ) → r ≡ length (heard_new_conf (view n m) b (roster_of c rows)).items
   counts_all f r g b rows = g n.quorum (leader_of c.leader) b ∙ sym (counted true (f) b rows)

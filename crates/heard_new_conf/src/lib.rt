@@ -2,7 +2,7 @@
 // adopt one.
 #![tactic(auto)]
 
-ghost use Rattle.std.specs.Prelude.{◌≡◌, true, List, ℕ, ◌≤◌, ◌<◌, length, set};
+ghost use Rattle.std.specs.Prelude.{◌≡◌, true, List, ℕ, ◌+◌, ◌≤◌, ◌<◌, length, set};
 ghost use Rattle.words.specs.Part.{Untouched};
 ghost use Rattle.ids.specs.Limits.{replicas};
 ghost use Rattle.layout.specs.Layout.{replica_places, slot_places, pair_words, node_words};
@@ -13,12 +13,13 @@ ghost use Rattle.bodega.specs.Replica.{pair};
 ghost use Rattle.bodega.specs.Conflease.{adopted, become_a_leader, heard_new_conf};
 ghost use Rattle.peer_accept_bar.specs.Pairs.{pairs_of, accept_max};
 ghost use Rattle.become_a_leader.specs.StepUp.{slots_after};
-ghost use Rattle.node.specs.View.{view, ready, taken_of};
+ghost use Rattle.node.specs.View.{view, ready};
 ghost use Rattle.heard_new_conf.specs.Does.{Does, whole};
 ghost use Rattle.heard_new_conf.specs.Forgets.{Forgets};
 
 use ids::{Ballot, Replica, Slot};
-use node::{Node, Taken};
+use items::Items;
+use node::Node;
 use peer_accept_bar::Pair;
 use roster_conf::RespondersConf;
 
@@ -65,6 +66,7 @@ fn adopt(node: Node, mem: &mut [u64], ballot: Ballot, conf: RespondersConf, rows
 }
 
 // What is known of the peers' exec bars is forgotten.
+#[tactic(auto, using(crate::proofs::Laws::forgets))]
 fn forget(execs: &mut [u64])
     requires { replica_places ≤ length execs.old }
     ensures { Forgets execs.old execs.new }
@@ -73,33 +75,26 @@ fn forget(execs: &mut [u64])
 }
 
 // The slots and the items of a step-up, at the ballot that is seen, which is not prepared yet.
-fn become_a_leader(node: Node, mem: &mut [u64], area: &mut [u64]) -> Taken
-    requires { (ready node mem.old ≡ true) × (slots_after node.slots (view node mem.old).insts ≤ slot_places) × (length (become_a_leader (view node mem.old)).items ≤ places area.old) }
-    ensures { Does (become_a_leader (view node mem.old)) 0 mem.old area.old (taken_of result) mem.new area.new }
+fn become_a_leader(node: Node, mem: &mut [u64], items: &mut Items<'_>) -> Node
+    requires { (ready node mem.old ≡ true) × (slots_after node.slots (view node mem.old).insts ≤ slot_places) × (items.old.count + length (become_a_leader (view node mem.old)).items ≤ places items.old.area.now) }
+    ensures same_area { items.new.area.ghost_name ≡ items.old.area.ghost_name }
+    ensures does { Does (become_a_leader (view node mem.old)) items.old.count mem.old items.old.area.now result items.new.count mem.new items.new.area.now }
 {
-    let slots = become_a_leader::slots_after(
-        &mem[layout::SLOTS_AT..layout::WRITTEN_AT],
-        node.start_slot,
-        node.slots,
-    );
-    let count = become_a_leader::become_a_leader(
+    let window = node::window(node, mem);
+    let slots = become_a_leader::become_a_leader(
         &mut mem[layout::SLOTS_AT..layout::WRITTEN_AT],
-        area,
-        node.start_slot,
-        node.slots,
+        window,
         node.quorum,
         node.bodega_conf.leader,
         node.bal_max_seen,
+        items,
     );
     forget(&mut mem[layout::EXECS_AT..layout::ROWS_AT]);
-    Taken {
-        node: Node {
-            bal_prep_sent: node.bal_max_seen,
-            bal_prepared: Ballot(0),
-            slots,
-            ..node
-        },
-        count,
+    Node {
+        bal_prep_sent: node.bal_max_seen,
+        bal_prepared: Ballot(0),
+        slots,
+        ..node
     }
 }
 
@@ -111,32 +106,26 @@ pub fn count_new_conf(node: Node, mem: &[u64], conf: RespondersConf) -> usize
     if !node::leads(conf.leader, node.id) {
         return 0;
     }
-    become_a_leader::count_items(
-        &mem[layout::SLOTS_AT..layout::WRITTEN_AT],
-        node.start_slot,
-        node.slots,
-    )
+    become_a_leader::count_items(node::insts(mem), node::window(node, mem))
 }
 
 // An adoption, with a step-up where the roster names the replica leader.
 pub fn heard_new_conf(
     node: Node,
     mem: &mut [u64],
-    area: &mut [u64],
     ballot: Ballot,
     conf: RespondersConf,
     rows: &[u64],
-) -> Taken
-    requires { (ready node mem.old ≡ true) × (whole conf.count rows.now ≡ true) × (leads (roster_of conf rows.now) node.id.0 ≡ true → slots_after node.slots (view node mem.old).insts ≤ slot_places) × (length (heard_new_conf (view node mem.old) ballot.0 (roster_of conf rows.now)).items ≤ places area.old) }
-    ensures { Does (heard_new_conf (view node mem.old) ballot.0 (roster_of conf rows.now)) 0 mem.old area.old (taken_of result) mem.new area.new }
+    items: &mut Items<'_>,
+) -> Node
+    requires { (ready node mem.old ≡ true) × (whole conf.count rows.now ≡ true) × (leads (roster_of conf rows.now) node.id.0 ≡ true → slots_after node.slots (view node mem.old).insts ≤ slot_places) × (items.old.count + length (heard_new_conf (view node mem.old) ballot.0 (roster_of conf rows.now)).items ≤ places items.old.area.now) }
+    ensures same_area { items.new.area.ghost_name ≡ items.old.area.ghost_name }
+    ensures does { Does (heard_new_conf (view node mem.old) ballot.0 (roster_of conf rows.now)) items.old.count mem.old items.old.area.now result items.new.count mem.new items.new.area.now }
 {
     let next = adopt(node, mem, ballot, conf, rows);
     if node::leads(conf.leader, node.id) {
-        become_a_leader(next, mem, area)
+        become_a_leader(next, mem, items)
     } else {
-        Taken {
-            node: next,
-            count: 0,
-        }
+        next
     }
 }

@@ -1,5 +1,10 @@
+use Rattle.std.proofs.Common.{◌≡◌}
 use Rattle.become_a_leader.proofs.Laws as law
 use Rattle.become_a_leader.proofs.prelog_all.Given as goal
 
 abbrev pub invariant-loop-k : goal.invariant-loop-k
-invariant-loop-k l = law.Prelogging l.window.start.0 l.window.held l.ballot.0 l.initial.items.count l.initial.insts.words.now l.initial.items.area.now l.k l.items.count l.insts.words.now l.items.area.now
+invariant-loop-k l = record {
+  same_words : l.insts.words.ghost_name ≡ l.initial.insts.words.ghost_name;
+  same_area : l.items.area.ghost_name ≡ l.initial.items.area.ghost_name;
+  going : law.Prelogging l.window.start.0 l.window.held l.ballot.0 l.initial.items.count l.initial.insts.words.now l.initial.items.area.now l.k l.items.count l.insts.words.now l.items.area.now;
+}

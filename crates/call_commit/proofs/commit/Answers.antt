@@ -1,4 +1,6 @@
-use mathlib.Core.Path.{sym, refl}
+use Rattle.std.proofs.Common.{rules, sym, refl, ap}
+use Rattle.ids.specs.declared.Slot.{Slot}
+use Rattle.words.specs.Part.{part}
 use Rattle.bodega.specs.Replica.{CommitNotice}
 use Rattle.node.proofs.Calls.{not_ready}
 use Rattle.call_commit.proofs.Laws as law
@@ -14,34 +16,43 @@ returns-in_err-commit_refusal c =
     let a = c.args in
     law.commit_refused a.node a.mem.now a.area.now a.peer.0 a.ballot.0 a.bar.0 (sym c.if-not-is_ready.ensures) _ _ c.in_err-commit_refusal.ensures c.from_residual.ensures.1
 
-pub slice_bounds-count_commits-end : goal.slice_bounds-count_commits-end
-slice_bounds-count_commits-end c =
-    let a = c.args in law.long a.node a.mem.now a.area.now a.peer.0 a.ballot.0 a.bar.0 (sym c.if-not-is_ready.ensures)
+pub returns-then-ne : goal.returns-then-ne
+returns-then-ne c =
+    let a = c.args in
+    law.other_ballot a.node a.mem.now a.area.now a.peer.0 a.ballot.0 a.bar.0 (sym c.if-not-is_ready.ensures) c.in_ok-commit_refusal.ensures c.if-ne.ensures
+
+pub insts-requires : goal.insts-requires
+insts-requires c =
+    let a = c.args in law.whole a.node a.mem.now a.area.now a.peer.0 a.ballot.0 a.bar.0 (sym c.if-not-is_ready.ensures)
 
 pub count_commits-count-requires : goal.count_commits-count-requires
 count_commits-count-requires c =
-    let a = c.args in law.asked a.node a.mem.now a.area.now a.peer.0 a.ballot.0 a.bar.0 (sym c.if-not-is_ready.ensures)
+    let a = c.args in
+    rw (ap (λ (x : Slot). x.0) c.window-window.ensures.0, c.window-window.ensures.1) (law.asked a.node a.mem.now a.area.now a.peer.0 a.ballot.0 a.bar.0 (sym c.if-not-is_ready.ensures))
+
+pub returns-then-area-count : goal.returns-then-area-count
+returns-then-area-count c =
+    let a = c.args in
+    let e = rw (ap (λ (x : Slot). x.0) c.window-window.ensures.0, c.window-window.ensures.1, c.insts.ensures) at c.count_commits-count.ensures in
+    law.commit_20 a.node a.mem.now a.area.now a.peer.0 a.ballot.0 a.bar.0 (sym c.if-not-is_ready.ensures) c.in_ok-commit_refusal.ensures c.if-ne.ensures _ e c.if-area-count.true
 
 pub slice_bounds-advance-end : goal.slice_bounds-advance-end
 slice_bounds-advance-end c =
     let a = c.args in law.long a.node a.mem.now a.area.now a.peer.0 a.ballot.0 a.bar.0 (sym c.if-not-is_ready.ensures)
 
 pub advance-requires : goal.advance-requires
+unfolding part
 advance-requires c =
     let a = c.args in
-    law.room a.node a.mem.now a.area.now a.peer.0 a.ballot.0 a.bar.0 (sym c.if-not-is_ready.ensures) c.in_ok-commit_refusal.ensures c.if-ne.ensures _ c.count_commits-count.ensures c.if-area-count.false
-
-pub returns-then-ne : goal.returns-then-ne
-returns-then-ne c =
-    let a = c.args in
-    law.other_ballot a.node a.mem.now a.area.now a.peer.0 a.ballot.0 a.bar.0 (sym c.if-not-is_ready.ensures) c.in_ok-commit_refusal.ensures c.if-ne.ensures
-
-pub returns-then-area-count : goal.returns-then-area-count
-returns-then-area-count c =
-    let a = c.args in
-    law.commit_20 a.node a.mem.now a.area.now a.peer.0 a.ballot.0 a.bar.0 (sym c.if-not-is_ready.ensures) c.in_ok-commit_refusal.ensures c.if-ne.ensures _ c.count_commits-count.ensures c.if-area-count.true
+    let e = rw (ap (λ (x : Slot). x.0) c.window-window.ensures.0, c.window-window.ensures.1, c.insts.ensures) at c.count_commits-count.ensures in
+    rw (ap (λ (x : Slot). x.0) c.window-window.ensures.0, c.window-window.ensures.1)
+    (law.room a.node a.mem.now a.area.now a.peer.0 a.ballot.0 a.bar.0 (sym c.if-not-is_ready.ensures) c.in_ok-commit_refusal.ensures c.if-ne.ensures _ e c.if-area-count.false)
 
 pub returns : goal.returns
+unfolding part
 returns c =
     let a = c.args in
-    law.commit_taken a.node a.mem.now a.area.now a.peer.0 a.ballot.0 a.bar.0 (sym c.if-not-is_ready.ensures) c.in_ok-commit_refusal.ensures c.if-ne.ensures _ c.count_commits-count.ensures c.if-area-count.false _ _ _ c.advance.ensures
+    let e = rw (ap (λ (x : Slot). x.0) c.window-window.ensures.0, c.window-window.ensures.1, c.insts.ensures) at c.count_commits-count.ensures in
+    let f = rw (ap (λ (x : Slot). x.0) c.window-window.ensures.0, c.window-window.ensures.1) at c.advance.ensures.advances in
+    let p = law.commit_taken a.node a.mem.now a.area.now a.peer.0 a.ballot.0 a.bar.0 (sym c.if-not-is_ready.ensures) c.in_ok-commit_refusal.ensures c.if-ne.ensures _ e c.if-area-count.false _ _ _ f in
+    search rules
