@@ -2,15 +2,15 @@
 #![tactic(auto)]
 
 ghost use Rattle.std.specs.Prelude.{◌≡◌, ◌<◌, ◌≤◌, length};
-ghost use Rattle.layout.specs.Layout.{request_places, batch_words, roster_words};
+ghost use Rattle.layout.specs.Layout.{roster_words};
 ghost use Rattle.key_words.specs.Key.{bytes_of};
-ghost use Rattle.inst_reqs.specs.Batch.{request_at, requests_of};
+ghost use Rattle.inst_reqs.specs.Batch.{request_of, requests_of};
 ghost use Rattle.bodega.specs.Localread.{acked, commit_condition};
 ghost use Rattle.roster_conf.specs.Conf.{get_responders_by_key};
 ghost use Rattle.roster_conf.specs.Edits.{view};
 ghost use Rattle.commit_condition.specs.Acked.{write_acked};
 
-use inst_reqs::Command;
+use inst_reqs::{Batch, Command, Request};
 use key_words::Key;
 use roster_conf::RespondersConf;
 
@@ -32,13 +32,11 @@ fn write_acked(acks: u64, key: Key, conf: RespondersConf, rows: &[u64]) -> bool
     responders_by_key(key, conf, rows).is_none_or(|mask| bitmap::is_superset(acks, mask))
 }
 
-// The same of the i-th request; a Get asks nothing.
-#[tactic(auto, using(crate::proofs::Laws::get_asks, crate::proofs::Laws::put_asks))]
-fn acked(acks: u64, batch: &[u64], i: usize, conf: RespondersConf, rows: &[u64]) -> bool
-    requires { (i < request_places) × (batch_words ≤ length batch.now) × (roster_words ≤ length rows.now) × (conf.count ≤ 64) }
-    ensures { result ≡ acked (view conf rows.now) acks (request_at batch.now i) }
+// The same of a request; a Get asks nothing.
+fn acked(acks: u64, q: Request, conf: RespondersConf, rows: &[u64]) -> bool
+    requires { (roster_words ≤ length rows.now) × (conf.count ≤ 64) }
+    ensures { result ≡ acked (view conf rows.now) acks (request_of q) }
 {
-    let q = inst_reqs::get(batch, i);
     match q.command {
         Command::Get => true,
         Command::Put(_) => write_acked(acks, q.key, conf, rows),
@@ -49,21 +47,14 @@ fn acked(acks: u64, batch: &[u64], i: usize, conf: RespondersConf, rows: &[u64])
 // quorum only.
 pub fn commit_condition(
     acks: u64,
-    batch: &[u64],
+    batch: Batch<'_>,
     quorum: u8,
     conf: RespondersConf,
     rows: &[u64],
 ) -> bool
-    requires { (batch_words ≤ length batch.now) × (roster_words ≤ length rows.now) × (conf.count ≤ 64) }
-    ensures { result ≡ commit_condition acks (requests_of batch.now) quorum (view conf rows.now) }
+    requires { (roster_words ≤ length rows.now) × (conf.count ≤ 64) }
+    ensures { result ≡ commit_condition acks (requests_of batch.entry.words.now) quorum (view conf rows.now) }
 {
-    if bitmap::count(acks) < u64::from(quorum) {
-        return false;
-    }
-    for i in 0..inst_reqs::count(batch) {
-        if !acked(acks, batch, i, conf, rows) {
-            return false;
-        }
-    }
-    true
+    u64::from(quorum) <= bitmap::count(acks)
+        && (0..batch.count()).all(|i| acked(acks, batch.get(i), conf, rows))
 }

@@ -1,71 +1,52 @@
 -- The written keys: a search over the entries, and a write noted in place or after the others.
-use Rattle.std.specs.Prelude.{if◌then◌else◌}
+use Rattle.std.specs.Prelude.{Option, None, Some, MatchOption, if◌then◌else◌}
 use mathlib.Core.Path.{◌≡◌, refl, sym, ap, ◌∙◌}
 use mathlib.Core.Bool.{Bool, true, false, true≢false}
-use mathlib.Core.Logic.{inl, inr, ⊎_elim}
 use mathlib.Core.List.{List, [], ◌∷◌, ◌++◌}
-use Rattle.std.specs.Prelude.{None, Some}
-use Prim.Native.Nat.{ℕ, suc, ◌+◌, ◌-◌, ◌*◌, ◌≤◌, ◌<◌, max, min}
-use native.Mathlib.Nat.{add-zero, zero-add, sub-zero}
+use Prim.Native.Nat.{ℕ, zero, suc, ◌+◌, ◌≤◌, ◌<◌, max}
+use native.Mathlib.Nat.{add-zero, zero-add}
+use native.Mathlib.Decide.{dec_lt}
 use native.Mathlib.Omega.{arith}
 use borrow.Author.Tests.{le-leb}
-use lib.ListN.{length, get_or, set, length-append, length-set}
-use lib.Seq.{get_or-set_same, get_or-set_other}
+use lib.ListN.{length, get_or, set}
 use Rattle.words.specs.Tab.{tab, get_or_tab}
-use Rattle.words.specs.Counted.{count_of, length_counted, counted_push, counted_set}
-use Rattle.words.specs.Writes.{writes, Agrees, writes_other}
-use Rattle.layout.specs.Layout.{written_places, written_row, written_words}
+use Rattle.words.specs.Counted.{counted, count_of, length_counted}
+use Rattle.table.specs.Table.{Pushes, Sets}
+use Rattle.table.proofs.Laws.{below}
+use Rattle.layout.specs.Layout.{written_places, written_row}
 use Rattle.keys.specs.Same.{same_bytes}
-use Rattle.key_words.specs.Key.{key_at, words_of, bytes_of}
+use Rattle.key_words.specs.Key.{bytes_of}
 use Rattle.key_words.specs.declared.Key.{Key}
-use Rattle.key_words.proofs.Laws.{key_at_agrees, key_at_writes}
 use Rattle.bodega.specs.Localread.{raise, highest_of}
 use Rattle.bodega.specs.Replica as machine
-use Rattle.highest_slot.specs.Written.{highest_at, written_of, place_of, Notes}
-use Rattle.std.specs.Prelude.{Option}
-
-pub near : (s' s : List ℕ) (p : ℕ) → Agrees s' s p (p + written_row) → highest_at s' p ≡ highest_at s p
-unfolding highest_at
-near s' s p h =
-    let a = h p (omega arith) (omega arith) in
-    let k = key_at_agrees s' s (p + 1) (λ j x y. h j (omega arith) (omega arith)) in
-    rw (a, k)
-
-pub how_many : (s : List ℕ) → length (written_of s) ≡ count_of written_places s
-unfolding written_of
-how_many s = length_counted highest_at written_row written_places s
+use Rattle.highest_slot.specs.Written.{highest_in, highest_at, entry_at, written_of, place_of, capped, Notes}
+use Rattle.highest_slot.specs.declared.Entry.{Entry}
 
 -- ---- the search
 
--- what a search from i on finds
-unfoldable pub place_from : List ℕ → ℕ → ℕ → List ℕ → Option ℕ
-place_from s i n key = place_of i key (tab (λ j. highest_at s (1 + j * written_row)) i (n - i))
+-- r is the first from b up to e where f has the key
+abbrev pub First : (ℕ → machine.Highest) → ℕ → ℕ → List ℕ → Option ℕ → Type 0
+First f b e key r =
+    MatchOption r ((k : ℕ) → b ≤ k → k < e → same_bytes (f k).key key ≡ false)
+    (λ i. (b ≤ i) × (i < e) × (same_bytes (f i).key key ≡ true) × ((k : ℕ) → b ≤ k → k < i → same_bytes (f k).key key ≡ false))
 
-module _ (s : List ℕ) (n : ℕ) (key : Key) where
-  pub place_start : n ≡ length (written_of s) → place_from s 0 n (bytes_of key) ≡ place_of 0 (bytes_of key) (written_of s)
-  unfolding place_from written_of
-  place_start h = rw (sub-zero n, h ∙ how_many s)
+first_in : (f : ℕ → machine.Highest) (b n e : ℕ) (key : List ℕ) (r : Option ℕ) → b + n ≡ e → First f b e key r → r ≡ place_of b key (tab f b n)
+unfolding place_of
+first_in f b zero e key None q h = refl
+first_in f b zero e key (Some i) q h = absurd (omega (arith, h.0, h.1))
+first_in f b (suc n) e key None q h =
+    rw (h b (omega arith) (omega arith)) (first_in f (b + 1) n e key None (omega arith) (λ k x y. h k (omega arith) y))
+first_in f b (suc n) e key (Some i) q h = go (dec_lt b i) (first_in f (b + 1) n e key (Some i) (omega arith))
+  where
+    go : Dec (b < i) → (First f (b + 1) e key (Some i) → Some i ≡ place_of (b + 1) key (tab f (b + 1) n)) → Some i ≡ (if same_bytes (f b).key key then Some b else place_of (b + 1) key (tab f (b + 1) n))
+    go (yes l) r = rw (h.3 b (omega arith) l) (r (omega arith, h.1, h.2, λ k x y. h.3 k (omega arith) y))
+    go (no l) r = let w : i ≡ b = omega (arith, h.0) in rw (← w, h.2)
 
-  -- in the words of the code: k is the key that was read, t what the comparison said
-  module _ (i : ℕ) (b : i < n) (k : Key) (t : Bool) (e : k ≡ key_at s (1 + i * written_row + 1)) (q : t ≡ same_bytes (bytes_of k) (bytes_of key)) where
-    cut : place_from s i n (bytes_of key) ≡ (if t then Some i else place_from s (i + 1) n (bytes_of key))
-    unfolding place_from place_of highest_at
-    cut =
-        let m : n - i ≡ suc (n - (i + 1)) = omega arith in
-        let f : same_bytes (bytes_of (key_at s (1 + i * written_row + 1))) (bytes_of key) ≡ t = rw (← e) (sym q) in
-        rw (m, f)
-
-    pub place_here : t ≡ true → place_from s i n (bytes_of key) ≡ Some i
-    place_here h = cut ∙ rw h
-
-    pub place_next : t ≡ false → place_from s i n (bytes_of key) ≡ place_from s (i + 1) n (bytes_of key)
-    place_next h = cut ∙ rw h
-
-  pub place_end : (i : ℕ) → n ≤ i → place_from s i n (bytes_of key) ≡ None
-  unfolding place_from place_of
-  place_end i h =
-      let m : n - i ≡ 0 = omega arith in
-      rw m
+pub first_is : (s : List ℕ) (n : ℕ) (key : List ℕ) (r : Option ℕ) → n ≡ length (written_of s) → First (entry_at s) 0 n key r → r ≡ place_of 0 key (written_of s)
+unfolding counted
+first_is s n key r h p =
+    let e : n ≡ count_of written_places s = h ∙ length_counted highest_at written_row written_places s in
+    first_in (entry_at s) 0 (count_of written_places s) n key r (omega arith) p
 
 -- ---- what a search says of the list
 
@@ -121,83 +102,39 @@ module _ (s : List ℕ) (key : Key) (i : ℕ) (told : Some i ≡ place_of 0 (byt
       let q : i ≡ w.0 = omega (arith, w.1) in
       rw q w.2
 
-  entry_below : i < count_of written_places s
-  entry_below = rw how_many at hit_at.below
+  pub held : i < length (written_of s)
+  held = hit_at.below
 
-  entry_is : get_or (written_of s) i nobody ≡ highest_at s (1 + i * written_row)
-  unfolding written_of
-  entry_is = get_or_tab (λ j. highest_at s (1 + j * written_row)) 0 (count_of written_places s) i nobody entry_below ∙ rw zero-add
+  pub placed : i < written_places
+  placed = below highest_at written_row written_places s i held
 
-  pub slot_found : (v : ℕ) → v ≡ get_or s (1 + i * written_row) 0 → Some v ≡ highest_of (bytes_of key) (written_of s)
-  unfolding highest_at
-  slot_found v e =
-      let g : (get_or (written_of s) i nobody).slot ≡ v = ap (λ (h : machine.Highest). h.slot) entry_is ∙ sym e in
-      rw (hit_at.slot_is, g)
+  -- e is the entry that was read
+  module _ (e : Entry) (is : highest_in e ≡ entry_at s i) where
+    read : get_or (written_of s) i nobody ≡ highest_in e
+    unfolding counted
+    read = get_or_tab (entry_at s) 0 (count_of written_places s) i nobody (rw length_counted at held) ∙ rw zero-add (sym is)
 
-  -- the slot is raised where it stands
-  module _ (fits : written_words ≤ length s) (slot v : ℕ) (e : v ≡ max slot (get_or s (1 + i * written_row) 0)) where
-    raised_here : written_of (set s (1 + i * written_row) v) ≡ raise slot (bytes_of key) (written_of s)
-    unfolding written_of highest_at
-    raised_here =
-        let t : List ℕ = set s (1 + i * written_row) v in
-        let lt = entry_below in
-        let a : get_or t (1 + i * written_row) 0 ≡ v = get_or-set_same s (1 + i * written_row) v 0 (omega arith) in
-        let k : key_at t (1 + i * written_row + 1) ≡ key_at s (1 + i * written_row + 1) = key_at_agrees t s (1 + i * written_row + 1) (λ j x y. get_or-set_other s (1 + i * written_row) j v 0 (omega arith)) in
-        let here : highest_at t (1 + i * written_row) ≡ record { key = bytes_of (key_at s (1 + i * written_row + 1)); slot = v } = rw (a, k) in
-        let g : get_or t 0 0 ≡ get_or s 0 0 = get_or-set_other s (1 + i * written_row) 0 v 0 (omega arith) in
-        counted_set highest_at written_row written_places near s t i (record { key = bytes_of (key_at s (1 + i * written_row + 1)); slot = v }) lt g here
-        (λ j x y. get_or-set_other s (1 + i * written_row) j v 0 (⊎_elim (λ (z : j < 1 + i * written_row). omega arith) (λ (z : 1 + i * written_row + written_row ≤ j). omega arith) y))
-        ∙ sym (hit_at.raised slot ∙ rw (entry_is, e))
+    pub slot_found : Some e.slot.0 ≡ highest_of (bytes_of key) (written_of s)
+    slot_found = sym (hit_at.slot_is ∙ ap (λ (h : machine.Highest). Some h.slot) read)
 
-    pub note_known : Notes s (bytes_of key) slot true (set s (1 + i * written_row) v)
-    note_known =
-        let lt = entry_below in
-        let l : length (raise slot (bytes_of key) (written_of s)) ≡ count_of written_places s = ap length (sym raised_here) ∙ how_many (set s (1 + i * written_row) v) ∙ ap (λ (z : ℕ). min z written_places) (get_or-set_other s (1 + i * written_row) 0 v 0 (omega arith)) in
+    -- x is the entry that was stored in its place
+    pub note_known : (slot : ℕ) (x : Entry) (t : List ℕ) → x.key ≡ e.key → x.slot.0 ≡ max slot e.slot.0 → Sets highest_at written_row written_places s i (highest_in x) t → Notes s (bytes_of key) slot true t
+    note_known slot x t k v p =
+        let raised : raise slot (bytes_of key) (written_of s) ≡ written_of t = hit_at.raised slot ∙ rw (read, p.rows, k, v) in
+        let l : length (written_of t) ≤ written_places = rw length_counted (omega arith) in
         record {
-          outcome = rw (raised_here, l, le-leb (count_of written_places s) written_places (omega arith));
+          outcome = rw (raised, le-leb (length (written_of t)) written_places l);
           refused = λ h. absurd (true≢false h);
-          beyond = λ j h. get_or-set_other s (1 + i * written_row) j v 0 (omega arith);
+          beyond = p.beyond;
         }
 
 module _ (s : List ℕ) (key : Key) (told : None ≡ place_of 0 (bytes_of key) (written_of s)) where
   pub slot_none : None ≡ highest_of (bytes_of key) (written_of s)
   slot_none = none_found (written_of s) 0 (bytes_of key) (sym told)
 
-  abbrev New : ℕ → List machine.Highest
-  New slot = written_of s ++ (record { key = bytes_of key; slot = slot } ∷ [])
-
-  module _ (slot n : ℕ) (many : n ≡ length (written_of s)) (most : n ≤ written_places) where
-    appended : raise slot (bytes_of key) (written_of s) ≡ New slot
-    appended = miss (written_of s) 0 (bytes_of key) (sym told) slot
-
-    long : length (New slot) ≡ n + 1
-    long = length-append (written_of s) (record { key = bytes_of key; slot = slot } ∷ []) ∙ ap (λ (z : ℕ). z + 1) (sym many)
-
-    pub note_full : n ≡ written_places → Notes s (bytes_of key) slot false s
-    note_full full =
-        let l : length (New slot) ≡ 257 = long ∙ rw full in
-        record { outcome = rw (appended, l); refused = λ e. refl; beyond = λ j h. refl }
-
-    module _ (room : n ≡ written_places → ⊥) (fits : written_words ≤ length s) (s₁ s₂ : List ℕ) (e₁ : s₁ ≡ writes s (1 + n * written_row) (slot ∷ words_of key)) (e₂ : s₂ ≡ set s₁ 0 (n + 1)) where
-      stored : highest_at s₁ (1 + n * written_row) ≡ record { key = bytes_of key; slot = slot }
-      unfolding highest_at
-      stored =
-          let l = length-set s (1 + n * written_row) slot in
-          let a : get_or s₁ (1 + n * written_row) 0 ≡ slot = rw e₁ (writes_other (set s (1 + n * written_row) slot) (1 + n * written_row + 1) (words_of key) (1 + n * written_row) (inl (omega arith)) ∙ get_or-set_same s (1 + n * written_row) slot 0 (omega arith)) in
-          let k : key_at s₁ (1 + n * written_row + 1) ≡ key = rw e₁ (key_at_writes (set s (1 + n * written_row) slot) (1 + n * written_row + 1) key (omega (arith, l))) in
-          rw (a, k)
-
-      pushed : written_of s₂ ≡ New slot
-      unfolding written_of
-      pushed = counted_push highest_at written_row written_places near s s₁ s₂ n (record { key = bytes_of key; slot = slot }) (slot ∷ words_of key) (omega arith) (many ∙ how_many s) (omega arith) refl e₁ stored e₂
-
-      pub note_new : Notes s (bytes_of key) slot true s₂
-      note_new =
-          record {
-            outcome = rw (pushed, appended, long, le-leb (n + 1) written_places (omega arith));
-            refused = λ e. absurd (true≢false e);
-            beyond = λ j h. rw (e₂, get_or-set_other s₁ 0 j (n + 1) 0 (omega arith), e₁) (writes_other s (1 + n * written_row) (slot ∷ words_of key) j (inr (omega arith)));
-          }
+  pub note_new : (slot : ℕ) (r : Bool) (t : List ℕ) → Pushes highest_at written_row written_places s (record { key = bytes_of key; slot = slot }) r t → Notes s (bytes_of key) slot r t
+  note_new slot r t p =
+      record { outcome = p.outcome ∙ ap capped (sym (miss (written_of s) 0 (bytes_of key) (sym told) slot)); refused = p.refused; beyond = p.beyond }
 
 -- a write that leaves at most 256 keys is noted
 pub noted_on : (s t key : List ℕ) (slot : ℕ) (r : Bool) → Notes s key slot r t → length (raise slot key (written_of s)) ≤ written_places → written_of t ≡ raise slot key (written_of s)

@@ -1,19 +1,20 @@
 -- `refresh_highest_slot` request by request: which keys are written after it, how many, and the written keys in lent
 -- words.
-use Rattle.std.specs.Prelude.{if◌then◌else◌, is_none}
-use Rattle.std.specs.Int.{from_bool}
+use Rattle.std.specs.Prelude.{if◌then◌else◌, cond, is_none}
+use Rattle.std.specs.List.{count_by, range_with_len}
+use Rattle.std.proofs.lemmas.List.Sums.{sum_by-append}
 use mathlib.Core.Path.{◌≡◌, refl, sym, ap, ◌∙◌}
 use mathlib.Core.Bool.{Bool, true, false, ◌||◌, ◌&&◌, or-false}
 use mathlib.Core.List.{List, [], ◌∷◌, ◌++◌}
 use Rattle.std.specs.Prelude.{Option, None, Some}
-use Prim.Native.Nat.{ℕ, suc, ◌+◌, ◌-◌, ◌≤◌, ◌<◌}
+use Prim.Native.Nat.{ℕ, zero, suc, ◌+◌, ◌-◌, ◌≤◌, ◌<◌}
 use native.Mathlib.Nat.{add-zero, zero-add, sub-zero}
 use native.Mathlib.Omega.{arith}
-use borrow.Author.Tests.{le-ltb, lt-ltb}
+use borrow.Author.Tests.{le-ltb}
 use lib.Dec.{ltb}
-use lib.ListN.{length, get_or, drop, take-append-drop}
+use lib.ListN.{length, get_or}
 use Rattle.words.specs.Choice.{if_none◌then◌else◌}
-use Rattle.words.specs.Tab.{tab, tab_snoc, take_tab, drop_tab}
+use Rattle.words.specs.Tab.{tab, tab_snoc}
 use Rattle.keys.specs.Same.{same_bytes}
 use Rattle.keys.proofs.Same.{same_true}
 use Rattle.bodega.specs.Replica as machine
@@ -28,7 +29,7 @@ use Rattle.inst_reqs.specs.declared.Request.{Request}
 use Rattle.inst_reqs.proofs.Laws.{requests_are}
 use Rattle.highest_slot.specs.Written.{written_of, slot_in, Notes}
 use Rattle.highest_slot.proofs.Laws.{noted_on}
-use Rattle.highest_slot_refresh.specs.Refresh.{after, new_key, new_keys, Refreshes}
+use Rattle.highest_slot_refresh.specs.Refresh.{is_new, adds, Refreshes}
 
 abbrev there : Option ℕ → Bool
 there None = false
@@ -126,52 +127,37 @@ unfolding refresh_highest_slot
 refresh_snoc slot [] q hs = refl
 refresh_snoc slot (p ∷ qs) q hs = refresh_snoc slot qs q (noted slot p hs)
 
-refresh_append : (slot : ℕ) (qs ps : List machine.Request) (hs : List machine.Highest) → refresh_highest_slot slot (qs ++ ps) hs ≡ refresh_highest_slot slot ps (refresh_highest_slot slot qs hs)
-unfolding refresh_highest_slot
-refresh_append slot [] ps hs = refl
-refresh_append slot (q ∷ qs) ps hs = refresh_append slot qs ps (noted slot q hs)
-
 long_snoc : (slot : ℕ) (qs : List machine.Request) (q : machine.Request) (hs : List machine.Highest)
-    → length (refresh_highest_slot slot (qs ++ (q ∷ [])) hs) ≡ length (refresh_highest_slot slot qs hs) + new_keys q qs hs
+    → length (refresh_highest_slot slot (qs ++ (q ∷ [])) hs) ≡ length (refresh_highest_slot slot qs hs) + (if adds q qs hs then 1 else 0)
 long_snoc slot qs q hs = rw refresh_snoc (go (is_put q.command))
   where
-    pick : (a b : Option ℕ) → ◌≡◌ {A = ℕ} (if there a || there b then 0 else 1) (if_none a then (if_none b then 1 else λ v. 0) else λ s. 0)
+    pick : (a b : Option ℕ) → ◌≡◌ {A = ℕ} (if there a || there b then 0 else 1) (if (if_none a then (if_none b then true else λ v. false) else λ s. false) then 1 else 0)
     pick None None = refl
     pick None (Some v) = refl
     pick (Some w) b = refl
 
     go : (t : Bool) → length (if t then raise slot q.key (refresh_highest_slot slot qs hs) else refresh_highest_slot slot qs hs)
-        ≡ length (refresh_highest_slot slot qs hs) + (if t then new_key q.key qs hs else 0)
+        ≡ length (refresh_highest_slot slot qs hs) + (if t && is_new q.key qs hs then 1 else 0)
     go true =
         long_raise slot q.key (refresh_highest_slot slot qs hs)
         ∙ ap (λ (k : ℕ). length (refresh_highest_slot slot qs hs) + k) (rw (known_after q.key slot qs hs) (pick (highest_of q.key hs) (last_put q.key qs)))
     go false = sym (add-zero (length (refresh_highest_slot slot qs hs)))
 
--- ---- the keys of one request, in the words of the code: a and b are what the searches said, r the request that was read
+-- ---- one request, in the words of the code: r is the request that was read, a and b what the searches said
 
-key_is : (key : List ℕ) (qs : List machine.Request) (hs : List machine.Highest) (a : Option Slot) (b : Option ℕ) → slot_in a ≡ highest_of key hs → b ≡ last_put key qs
-    → from_bool (is_none a && is_none b) ≡ new_key key qs hs
-key_is key qs hs a b e f = rw (← e, ← f) (pick a b)
-  where
-    pick : (a : Option Slot) (b : Option ℕ) → from_bool (is_none a && is_none b) ≡ (if_none slot_in a then (if_none b then 1 else λ v. 0) else λ s. 0)
-    pick None None = refl
-    pick None (Some v) = refl
-    pick (Some w) b = refl
+module _ (q : machine.Request) (r : Request) (is : request_of r ≡ q) (qs : List machine.Request) (hs : List machine.Highest) where
+  pub get_adds : r.command ≡ Get → false ≡ adds q qs hs
+  get_adds e = rw (← is, e)
 
-module _ (key : List ℕ) (qs : List machine.Request) (hs : List machine.Highest) (a : Option Slot) (told : slot_in a ≡ highest_of key hs) (t : Bool) (e : t ≡ is_none a) where
-  pub key_old : t ≡ false → from_bool t ≡ new_key key qs hs
-  key_old f = rw f (rw (← e, f) at (key_is key qs hs a (last_put key qs) told refl))
-
-  pub key_unless_put : t ≡ true → (b : Option ℕ) (u : Bool) → b ≡ last_put key qs → u ≡ is_none b → from_bool u ≡ new_key key qs hs
-  key_unless_put f b u g h = rw h (rw (← e, f) at (key_is key qs hs a b told g))
+  pub put_adds : (v : ℕ) (a : Option Slot) (b : Option ℕ) → r.command ≡ Put v → slot_in a ≡ highest_of (bytes_of r.key) hs → b ≡ last_put (bytes_of r.key) qs → is_none a && is_none b ≡ adds q qs hs
+  put_adds v a b e f g = rw (← is, e, ← f, ← g) (pick a b)
+    where
+      pick : (a : Option Slot) (b : Option ℕ) → is_none a && is_none b ≡ (if_none slot_in a then (if_none b then true else λ v. false) else λ s. false)
+      pick None None = refl
+      pick None (Some v) = refl
+      pick (Some w) b = refl
 
 module _ (q : machine.Request) (r : Request) (is : request_of r ≡ q) where
-  pub keys_get : (qs : List machine.Request) (hs : List machine.Highest) → r.command ≡ Get → new_keys q qs hs ≡ 0
-  keys_get qs hs e = rw (← is, e)
-
-  pub keys_put : (qs : List machine.Request) (hs : List machine.Highest) (v n : ℕ) (t : Bool) → r.command ≡ Put v → from_bool t ≡ new_key (bytes_of r.key) qs hs → n ≡ from_bool t → n ≡ new_keys q qs hs
-  keys_put qs hs v n t e h g = rw (← is, e) (g ∙ h)
-
   pub note_get : (slot : ℕ) (s : List ℕ) → r.command ≡ Get → Refreshes slot (q ∷ []) s s
   unfolding refresh_highest_slot
   note_get slot s e = record { written = rw (← is, e); beyond = λ j h. refl }
@@ -183,67 +169,50 @@ module _ (q : machine.Request) (r : Request) (is : request_of r ≡ q) where
       let f : noted slot q (written_of s) ≡ raise slot (bytes_of r.key) (written_of s) = rw (← is, e) in
       record { written = noted_on s t (bytes_of r.key) slot ok n (rw f at h) ∙ sym f; beyond = n.beyond }
 
--- ---- the count, request by request, in the words of the code
+-- ---- how many of the requests add a key
 
-module _ (b w : List ℕ) where
-  pub after_start : (n : ℕ) → n ≡ length (written_of w) → (slot : ℕ) → n ≡ length (after slot b w 0)
-  unfolding after refresh_highest_slot
-  after_start n e slot = e
+range_snoc : (a n : ℕ) → range_with_len a (suc n) ≡ range_with_len a n ++ ((a + n) ∷ [])
+range_snoc a zero = simp add-zero
+range_snoc a (suc n) = let e : a + suc n ≡ a + 1 + n = omega arith in rw e (ap (λ (l : List ℕ). a ∷ l) (range_snoc (a + 1) n))
 
-  pub after_next : (n r i : ℕ) → ((slot : ℕ) → n ≡ length (after slot b w i)) → r ≡ new_keys (request_at b i) (tab (request_at b) 0 i) (written_of w)
-      → (slot : ℕ) → n + r ≡ length (after slot b w (i + 1))
-  unfolding after
-  after_next n r i e h slot =
-      let f = e slot in
-      let g : length (refresh_highest_slot slot (tab (request_at b) 0 (i + 1)) (written_of w)) ≡ length (refresh_highest_slot slot (tab (request_at b) 0 i) (written_of w)) + r =
-      rw (tab_snoc (request_at b) 0 i, zero-add i, h) (long_snoc slot (tab (request_at b) 0 i) (request_at b i) (written_of w)) in
-      omega arith
+one : (t : Bool) → ◌≡◌ {A = ℕ} (cond t 1 0) (if t then 1 else 0)
+one true = refl
+one false = refl
 
-  whole : (m slot : ℕ) → m ≡ length (requests_of b) → after slot b w m ≡ refresh_highest_slot slot (requests_of b) (written_of w)
-  unfolding after
-  whole m slot h = rw (requests_are b m h)
+module _ (b : List ℕ) (slot : ℕ) (hs : List machine.Highest) where
+  -- whether the i-th adds one
+  abbrev pub AddsAt : ℕ → Bool
+  AddsAt i = adds (request_at b i) (tab (request_at b) 0 i) hs
 
-  pub after_end : (n m i : ℕ) → ((slot : ℕ) → n ≡ length (after slot b w i)) → m ≡ length (requests_of b) → i ≤ m → m ≤ i → n ≤ keys
-      → (slot : ℕ) → false ≡ ltb keys (length (refresh_highest_slot slot (requests_of b) (written_of w)))
-  after_end n m i e h x y k slot =
-      let q : i ≡ m = omega arith in
-      let f = rw (q, whole m slot h) at (e slot) in
-      sym (le-ltb keys (length (refresh_highest_slot slot (requests_of b) (written_of w))) (omega arith))
+  added : (n : ℕ) → length hs + count_by AddsAt (range_with_len 0 n) ≡ length (refresh_highest_slot slot (tab (request_at b) 0 n) hs)
+  unfolding refresh_highest_slot
+  added zero = add-zero (length hs)
+  added (suc n) =
+      let m : suc n ≡ n + 1 = omega arith in
+      let r : count_by AddsAt (range_with_len 0 (suc n)) ≡ count_by AddsAt (range_with_len 0 n) + (0 + cond (AddsAt n) 1 0) =
+      rw (range_snoc 0 n, zero-add n) (sum_by-append (λ i. cond (AddsAt i) 1 0) (range_with_len 0 n) (n ∷ [])) in
+      let l : length (refresh_highest_slot slot (tab (request_at b) 0 (suc n)) hs) ≡ length (refresh_highest_slot slot (tab (request_at b) 0 n) hs) + (if AddsAt n then 1 else 0) =
+      ap (λ (k : ℕ). length (refresh_highest_slot slot (tab (request_at b) 0 k) hs)) m ∙ rw (tab_snoc (request_at b) 0 n, zero-add n) (long_snoc slot (tab (request_at b) 0 n) (request_at b n) hs) in
+      omega (arith, r, l, added n, one (AddsAt n))
 
-  drops : (m i : ℕ) → i ≤ m → drop i (tab (request_at b) 0 m) ≡ tab (request_at b) i (m - i)
-  drops m i h = drop_tab (request_at b) 0 m i h ∙ ap (λ (j : ℕ). tab (request_at b) j (m - i)) (zero-add i)
+  -- in the words of the code: n is how many there are, r how many of them add one
+  pub all_added : (n r : ℕ) → n ≡ length (requests_of b) → r ≡ count_by AddsAt (range_with_len 0 n) → length hs + r ≡ length (refresh_highest_slot slot (requests_of b) hs)
+  all_added n r h e = rw (requests_are b n h, e) (added n)
 
-  -- no key is lost by the requests after the i-th
-  after_grows : (m i slot : ℕ) → i ≤ m → length (after slot b w i) ≤ length (after slot b w m)
-  unfolding after
-  after_grows m i slot h =
-      let l = long_after slot (tab (request_at b) i (m - i)) (refresh_highest_slot slot (tab (request_at b) 0 i) (written_of w)) in
-      let s : tab (request_at b) 0 m ≡ tab (request_at b) 0 i ++ tab (request_at b) i (m - i) =
-      sym (rw (← (take_tab (request_at b) 0 m i h), ← (drops m i h)) (take-append-drop i (tab (request_at b) 0 m))) in
-      rw (s, refresh_append) l.0
-
-  pub after_past : (n m r i : ℕ) → ((slot : ℕ) → n ≡ length (after slot b w i)) → r ≡ new_keys (request_at b i) (tab (request_at b) 0 i) (written_of w) → m ≡ length (requests_of b) → i < m → keys < n + r
-      → (slot : ℕ) → true ≡ ltb keys (length (refresh_highest_slot slot (requests_of b) (written_of w)))
-  after_past n m r i e h k x y slot =
-      let f = after_next n r i e h slot in
-      let g = rw (whole m slot k) at (after_grows m (i + 1) slot (omega arith)) in
-      sym (lt-ltb keys (length (refresh_highest_slot slot (requests_of b) (written_of w))) (omega arith))
-
-  pub fits : (m n : ℕ) → m ≡ length (requests_of b) → n ≡ length (written_of w) → n + m ≤ keys → (slot : ℕ) → ltb keys (n + m) ≡ ltb keys (length (refresh_highest_slot slot (requests_of b) (written_of w)))
-  fits m n x y h slot =
-      let l = long_after slot (requests_of b) (written_of w) in
-      le-ltb keys (n + m) h ∙ sym (le-ltb keys (length (refresh_highest_slot slot (requests_of b) (written_of w))) (omega arith))
+  pub fits : (m n : ℕ) → m ≡ length (requests_of b) → n ≡ length hs → n + m ≤ keys → ltb keys (n + m) ≡ ltb keys (length (refresh_highest_slot slot (requests_of b) hs))
+  fits m n x y h =
+      let l = long_after slot (requests_of b) hs in
+      le-ltb keys (n + m) h ∙ sym (le-ltb keys (length (refresh_highest_slot slot (requests_of b) hs)) (omega arith))
 
 -- ---- the written keys, request by request: from i on is left
 
 pub record Left (slot : ℕ) (b s : List ℕ) (n i : ℕ) (t : List ℕ) : Type 0 where
-  pub sized : length t ≡ length s
   pub left : refresh_highest_slot slot (tab (request_at b) i (n - i)) (written_of t) ≡ refresh_highest_slot slot (requests_of b) (written_of s)
   pub beyond : (j : ℕ) → written_words ≤ j → get_or t j 0 ≡ get_or s j 0
 
 module _ (slot : ℕ) (b s : List ℕ) (n : ℕ) where
   pub left_start : n ≡ length (requests_of b) → Left slot b s n 0 s
-  left_start h = record { sized = refl; left = rw (sub-zero n, requests_are b n h); beyond = λ j k. refl }
+  left_start h = record { left = rw (sub-zero n, requests_are b n h); beyond = λ j k. refl }
 
   module _ (i : ℕ) (t : List ℕ) (l : Left slot b s n i t) where
     cut : i < n → refresh_highest_slot slot (tab (request_at b) (i + 1) (n - (i + 1))) (refresh_highest_slot slot (request_at b i ∷ []) (written_of t)) ≡ refresh_highest_slot slot (requests_of b) (written_of s)
@@ -258,8 +227,8 @@ module _ (slot : ℕ) (b s : List ℕ) (n : ℕ) where
         let c = ap length (cut h) in
         omega arith
 
-    pub left_next : (t' : List ℕ) → i < n → Refreshes slot (request_at b i ∷ []) t t' → length t' ≡ length t → Left slot b s n (i + 1) t'
-    left_next t' h r k = record { sized = k ∙ l.sized; left = rw r.written (cut h); beyond = λ j x. r.beyond j x ∙ l.beyond j x }
+    pub left_next : (t' : List ℕ) → i < n → Refreshes slot (request_at b i ∷ []) t t' → Left slot b s n (i + 1) t'
+    left_next t' h r = record { left = rw r.written (cut h); beyond = λ j x. r.beyond j x ∙ l.beyond j x }
 
     pub left_end : n ≤ i → Refreshes slot (requests_of b) s t
     unfolding refresh_highest_slot

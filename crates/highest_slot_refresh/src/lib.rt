@@ -1,74 +1,61 @@
 // localread.rs: `refresh_highest_slot`, on the batch of a slot and the written keys, both in lent words.
 #![tactic(auto)]
 
-ghost use Rattle.std.specs.Prelude.{◌≡◌, [], ◌∷◌, ℕ, ◌<◌, ◌≤◌, ltb, length};
-ghost use Rattle.std.specs.Int.{from_bool};
+ghost use Rattle.std.specs.Prelude.{◌≡◌, [], ◌∷◌, ℕ, ◌+◌, ◌<◌, ◌≤◌, ltb, length};
 ghost use Rattle.words.specs.Tab.{tab};
 ghost use Rattle.ids.specs.Limits.{keys};
-ghost use Rattle.layout.specs.Layout.{request_places, batch_words, written_words};
-ghost use Rattle.key_words.specs.Key.{bytes_of};
+ghost use Rattle.layout.specs.Layout.{request_places, written_words};
 ghost use Rattle.bodega.specs.Localread.{refresh_highest_slot};
 ghost use Rattle.inst_reqs.specs.Batch.{request_at, requests_of};
 ghost use Rattle.highest_slot.specs.Written.{written_of};
-ghost use Rattle.highest_slot_refresh.specs.Refresh.{after, new_key, new_keys, Refreshes};
+ghost use Rattle.highest_slot_refresh.specs.Refresh.{adds, Refreshes};
 
+use highest_slot::{Written, WrittenMut};
 use ids::Slot;
-use inst_reqs::Command;
-use key_words::Key;
+use inst_reqs::{Batch, Command};
 
-// Whether a Put of a key as the i-th request adds it: it is not written, and no earlier request puts it.
-#[tactic(auto, using(crate::proofs::Laws::key_old, crate::proofs::Laws::key_unless_put))]
-fn is_new(written: &[u64], batch: &[u64], i: usize, key: Key) -> bool
-    requires { (written_words ≤ length written.now) × ((i < request_places) × (batch_words ≤ length batch.now)) }
-    ensures { from_bool result ≡ new_key (bytes_of key) (tab (request_at batch.now) 0 i) (written_of written.now) }
+// Whether the i-th request adds a key: it is a Put, its key is not written, and no earlier request puts it.
+#[tactic(auto, using(crate::proofs::Laws::get_adds, crate::proofs::Laws::put_adds))]
+fn adds(written: Written<'_>, batch: Batch<'_>, i: usize) -> bool
+    requires { i < request_places }
+    ensures { result ≡ adds (request_at batch.entry.words.now i) (tab (request_at batch.entry.words.now) 0 i) (written_of written.entry.words.now) }
 {
-    highest_slot::highest(written, key).is_none()
-        && inst_reqs::last_put_among(batch, i, key).is_none()
-}
-
-// How many keys the i-th request adds.
-fn new_keys(written: &[u64], batch: &[u64], i: usize) -> usize
-    requires { (written_words ≤ length written.now) × ((i < request_places) × (batch_words ≤ length batch.now)) }
-    ensures { (result ≡ new_keys (request_at batch.now i) (tab (request_at batch.now) 0 i) (written_of written.now)) × (result ≤ 1) }
-{
-    let q = inst_reqs::get(batch, i);
+    let q = batch.get(i);
     match q.command {
-        Command::Get => 0,
-        Command::Put(_) => usize::from(is_new(written, batch, i, q.key)),
-    }
-}
-
-// Whether the keys come to be more than 256, request by request: no further than the first that brings them there.
-fn exceeds(written: &[u64], batch: &[u64]) -> bool
-    requires { (written_words ≤ length written.now) × (batch_words ≤ length batch.now) }
-    ensures { (slot : ℕ) → result ≡ ltb keys (length (refresh_highest_slot slot (requests_of batch.now) (written_of written.now))) }
-{
-    let mut n = highest_slot::count(written);
-    for i in 0..inst_reqs::count(batch) {
-        n += new_keys(written, batch, i);
-        if highest_slot::KEYS < n {
-            return true;
+        Command::Get => false,
+        Command::Put(_) => {
+            highest_slot::highest(written, q.key).is_none()
+                && inst_reqs::last_put_among(batch, i, q.key).is_none()
         }
     }
-    false
 }
 
-// Whether the batch would bring the written keys above 256, at whatever slot.
-pub fn overflows(written: &[u64], batch: &[u64]) -> bool
-    requires { (written_words ≤ length written.now) × (batch_words ≤ length batch.now) }
-    ensures { (slot : ℕ) → result ≡ ltb keys (length (refresh_highest_slot slot (requests_of batch.now) (written_of written.now))) }
+// How many keys the batch adds, at whatever slot.
+fn new_keys(written: Written<'_>, batch: Batch<'_>) -> usize
+    ensures adds { (slot : ℕ) → length (written_of written.entry.words.now) + result ≡ length (refresh_highest_slot slot (requests_of batch.entry.words.now) (written_of written.entry.words.now)) }
+    ensures few { result ≤ request_places }
 {
-    highest_slot::KEYS < highest_slot::count(written) + inst_reqs::count(batch)
-        && exceeds(written, batch)
+    (0..batch.count())
+        .filter(|&i| adds(written, batch, i))
+        .count()
+}
+
+// Whether the batch would bring the written keys above 256, at whatever slot. Most batches have too few requests.
+pub fn overflows(written: Written<'_>, batch: Batch<'_>) -> bool
+    ensures { (slot : ℕ) → result ≡ ltb keys (length (refresh_highest_slot slot (requests_of batch.entry.words.now) (written_of written.entry.words.now))) }
+{
+    let n = written.count();
+    highest_slot::KEYS < n + batch.count() && highest_slot::KEYS < n + new_keys(written, batch)
 }
 
 // The i-th request's part.
-fn note_at(written: &mut [u64], batch: &[u64], i: usize, slot: Slot)
-    requires long { (written_words ≤ length written.old) × ((i < request_places) × (batch_words ≤ length batch.now)) }
-    requires fits { length (refresh_highest_slot slot.0 (request_at batch.now i ∷ []) (written_of written.old)) ≤ keys }
-    ensures { Refreshes slot.0 (request_at batch.now i ∷ []) written.old written.new }
+fn note_at(written: &mut WrittenMut<'_>, batch: Batch<'_>, i: usize, slot: Slot)
+    requires place { i < request_places }
+    requires fits { length (refresh_highest_slot slot.0 (request_at batch.words.now i ∷ []) (written_of written.old.words.now)) ≤ keys }
+    ensures same_reference { written.new.words.ghost_name ≡ written.old.words.ghost_name }
+    ensures refreshes { Refreshes slot.0 (request_at batch.entry.words.now i ∷ []) written.old.words.now written.new.words.now }
 {
-    let q = inst_reqs::get(batch, i);
+    let q = batch.get(i);
     match q.command {
         Command::Get => {}
         Command::Put(_) => {
@@ -77,13 +64,22 @@ fn note_at(written: &mut [u64], batch: &[u64], i: usize, slot: Slot)
     }
 }
 
-// Each Put's key is written at a slot, or at the higher one that it has.
-pub fn refresh(written: &mut [u64], batch: &[u64], slot: Slot)
-    requires long { (written_words ≤ length written.old) × (batch_words ≤ length batch.now) }
-    requires fits { length (refresh_highest_slot slot.0 (requests_of batch.now) (written_of written.old)) ≤ keys }
-    ensures { Refreshes slot.0 (requests_of batch.now) written.old written.new }
+fn note_all(written: &mut WrittenMut<'_>, batch: Batch<'_>, slot: Slot)
+    requires { length (refresh_highest_slot slot.0 (requests_of batch.words.now) (written_of written.old.words.now)) ≤ keys }
+    ensures same_reference { written.new.words.ghost_name ≡ written.old.words.ghost_name }
+    ensures refreshes { Refreshes slot.0 (requests_of batch.entry.words.now) written.old.words.now written.new.words.now }
 {
-    for i in 0..inst_reqs::count(batch) {
+    for i in 0..batch.count() {
         note_at(written, batch, i, slot);
     }
+}
+
+// Each Put's key is written at a slot, or at the higher one that it has. A table made of a part of a buffer loses what
+// became of the part, so the words come as they are lent.
+pub fn refresh(words: &mut [u64], batch: Batch<'_>, slot: Slot)
+    requires long { written_words ≤ length words.old }
+    requires fits { length (refresh_highest_slot slot.0 (requests_of batch.words.now) (written_of words.old)) ≤ keys }
+    ensures { Refreshes slot.0 (requests_of batch.entry.words.now) words.old words.new }
+{
+    note_all(&mut WrittenMut::new(words), batch, slot);
 }

@@ -1,12 +1,14 @@
-// The reads that a slot holds, in lent words: how many, and then rows of client, request, key.
+// The reads that a slot holds, in lent words: a table whose rows are client, request, key.
 #![tactic(auto)]
 
-ghost use Rattle.std.specs.Prelude.{◌≡◌, [], ◌+◌, ◌*◌, ◌<◌, ◌≤◌, length, set};
-ghost use Rattle.words.specs.Writes.{writes};
-ghost use Rattle.layout.specs.Layout.{held_row, held_places, held_words};
-ghost use Rattle.inst_holding.specs.Held.{read_of, read_at, reads_of, read_words, Pushes};
+ghost use Rattle.std.specs.Prelude.{◌≡◌, refl, [], ◌+◌, ◌≤◌, length, set};
+ghost use Rattle.layout.specs.Layout.{held_row, held_words};
+ghost use Rattle.bodega.specs.Replica as machine;
+ghost use Rattle.inst_holding.specs.Held.{read_of, read_from, read_words, reads_of, Pushes};
+ghost use Rattle.inst_holding.specs.Row.{near, read_back};
 
 use key_words::{Key, get_key, put_key};
+use table::{Row, Table, TableMut};
 
 #[derive(Clone, Copy)]
 pub struct ReadReq {
@@ -15,59 +17,58 @@ pub struct ReadReq {
     pub key: Key,
 }
 
-// As in inst_reqs, which says why each table has its own.
-#[tactic(auto, using(crate::proofs::Laws::how_many))]
-pub fn count(s: &[u64]) -> usize
-    requires { held_words ≤ length s.now }
-    ensures { (result ≡ length (reads_of s.now)) × (result ≤ held_places) }
-{
-    s[0].min(layout::HELD_PLACES as u64) as usize
-}
+pub type Held<'a> = Table<'a, ReadReq, { layout::HELD_PLACES }>;
 
-// The i-th read.
-#[tactic(auto, unfolding(crate::specs::Held::read_from))]
-pub fn get(s: &[u64], i: usize) -> ReadReq
-    requires { (i < held_places) × (held_words ≤ length s.now) }
-    ensures { read_of result ≡ read_at s.now i }
-{
-    let p = 1 + i * layout::HELD_ROW;
-    ReadReq {
-        client: s[p],
-        request: s[p + 1],
-        key: get_key(s, p + 2),
+pub type HeldMut<'a> = TableMut<'a, ReadReq, { layout::HELD_PLACES }>;
+
+impl Row for ReadReq {
+    const WORDS: usize = layout::HELD_ROW;
+
+    ghost WORDS = { held_row };
+
+    ghost View = { machine.ReadReq };
+
+    ghost view = { read_of };
+
+    ghost at = { read_from };
+
+    ghost words = { read_words };
+
+    #[tactic(auto, unfolding(crate::specs::Held::read_from))]
+    fn get(s: &[u64], p: usize) -> ReadReq {
+        ReadReq {
+            client: s[p],
+            request: s[p + 1],
+            key: get_key(s, p + 2),
+        }
     }
-}
 
-#[tactic(auto, using(crate::proofs::Laws::stored))]
-fn put(s: &mut [u64], i: usize, x: ReadReq)
-    requires { (i < held_places) × (held_words ≤ length s.old) }
-    ensures { s.new ≡ writes s.old (1 + i * held_row) (read_words x) }
-{
-    let p = 1 + i * layout::HELD_ROW;
-    s[p] = x.client;
-    s[p + 1] = x.request;
-    put_key(s, p + 2, x.key);
-}
-
-// A read after the others; false, and nothing changed, where there is no place left.
-#[tactic(auto, using(crate::proofs::Laws::push_no))]
-pub fn push(s: &mut [u64], x: ReadReq) -> bool
-    requires { held_words ≤ length s.old }
-    ensures { Pushes s.old (read_of x) result s.new }
-{
-    let n = count(s);
-    if n == layout::HELD_PLACES {
-        return false;
+    #[tactic(auto, using(crate::proofs::Laws::stored))]
+    fn put(self, s: &mut [u64], p: usize) {
+        s[p] = self.client;
+        s[p + 1] = self.request;
+        put_key(s, p + 2, self.key);
     }
-    put(s, n, x);
-    s[0] = (n + 1) as u64;
-    true
+
+    ghost width = { λ x. refl };
+
+    ghost near = { near };
+
+    ghost back = { read_back };
 }
 
-#[tactic(auto, using(crate::proofs::Laws::cleared))]
-pub fn clear(s: &mut [u64])
-    requires { held_words ≤ length s.old }
-    ensures { (reads_of s.new ≡ []) × (s.new ≡ set s.old 0 0) }
+// No read, and a read after the others. A table made of a part of a buffer loses what became of the part, so the words
+// come as they are lent.
+pub fn clear(words: &mut [u64])
+    requires { held_words ≤ length words.old }
+    ensures { (reads_of words.new ≡ []) × (words.new ≡ set words.old 0 0) }
 {
-    s[0] = 0;
+    HeldMut::new(words).clear();
+}
+
+pub fn push(words: &mut [u64], x: ReadReq) -> bool
+    requires { held_words ≤ length words.old }
+    ensures { Pushes words.old (read_of x) result words.new }
+{
+    HeldMut::new(words).push(x)
 }

@@ -1,9 +1,9 @@
--- Trusted: a slot's batch that lent words stand for. What a push leaves is a bridge, tied by req_batch/proofs/Laws.
-use Rattle.std.specs.Prelude.{◌≡◌, Bool, false, List, [], ◌∷◌, ◌++◌, ℕ, ◌+◌, ◌*◌, ◌≤◌, leb, eqb, length, get_or, if◌then◌else◌}
-use Rattle.std.specs.Prelude.{Option, None, Some}
+-- Trusted: a slot's batch that lent words stand for.
+use Rattle.std.specs.Prelude.{Bool, List, ◌∷◌, ℕ, ◌+◌, ◌*◌, eqb, get_or, if◌then◌else◌}
 use Rattle.words.specs.Counted.{counted}
 use Rattle.key_words.specs.Key.{key_at, words_of, bytes_of}
-use Rattle.layout.specs.Layout.{request_places, request_row, batch_words}
+use Rattle.layout.specs.Layout.{request_places, request_row}
+use Rattle.table.specs.Table as table
 use Rattle.bodega.specs.Replica as machine
 use Rattle.inst_reqs.specs.declared.Command.{Command}
 use Rattle.inst_reqs.specs.declared.Command.TheVariants.{Get, Put}
@@ -45,14 +45,9 @@ abbrev pub request_at : List ℕ → ℕ → machine.Request
 request_at s i = request_from s (1 + i * request_row)
 
 -- the requests, on any words
-unfoldable pub requests_of : List ℕ → List machine.Request
+abbrev pub requests_of : List ℕ → List machine.Request
 requests_of s = counted request_from request_row request_places s
 
-abbrev pub capped : List machine.Request → Option (List machine.Request)
-capped l = if leb (length l) request_places then Some l else None
-
--- what a push of q onto the words s leaves: the answer, and the words t
-pub record Pushes (s : List ℕ) (q : machine.Request) (r : Bool) (t : List ℕ) : Type 0 where
-  pub outcome : (if r then Some (requests_of t) else None) ≡ capped (requests_of s ++ (q ∷ []))
-  pub refused : r ≡ false → t ≡ s
-  pub beyond : (j : ℕ) → batch_words ≤ j → get_or t j 0 ≡ get_or s j 0
+-- what a push leaves on the words s: the answer, and the words t
+abbrev pub Pushes : List ℕ → machine.Request → Bool → List ℕ → Type 0
+Pushes s q r t = table.Pushes request_from request_row request_places s q r t

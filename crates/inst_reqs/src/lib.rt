@@ -1,20 +1,22 @@
-// The batch of a slot, in lent words: how many requests, and then rows of client, request, kind, value, key. A kind of
-// 1 is a Put.
+// The batch of a slot, in lent words: a table whose rows are client, request, kind, value, key. A kind of 1 is a Put.
 #![tactic(auto)]
 
-ghost use Rattle.std.specs.Prelude.{◌≡◌, [], ◌+◌, ◌*◌, ◌<◌, ◌≤◌, length, set};
+ghost use Rattle.std.specs.Prelude.{◌≡◌, refl, [], ◌+◌, ◌*◌, ◌<◌, ◌≤◌, length, set};
 ghost use Rattle.words.specs.Tab.{tab};
-ghost use Rattle.words.specs.Writes.{writes};
 ghost use Rattle.layout.specs.Layout.{request_places, request_row, batch_words};
 ghost use Rattle.key_words.specs.Key.{bytes_of};
 ghost use Rattle.bodega.specs.Localread.{last_put, put_of};
-ghost use Rattle.inst_reqs.specs.Batch.{command_of, command_at, kind_of, value_of, request_of, request_at, requests_of, request_words, Pushes};
+ghost use Rattle.bodega.specs.Replica as machine;
+ghost use Rattle.inst_reqs.specs.Batch.{command_of, command_at, kind_of, value_of, request_of, request_at, request_from, requests_of, request_words};
+ghost use Rattle.inst_reqs.specs.Row.{near, read_back};
 
 use key_words::{Key, get_key, put_key};
+use table::{Row, Table, TableMut};
 
 // Requests of a batch at most.
 pub const BATCH: usize = layout::REQUEST_PLACES;
 
+// The original's `Command`, not an `Option`: a Get is no absent value.
 #[derive(Clone, Copy)]
 pub enum Command {
     Get,
@@ -29,15 +31,9 @@ pub struct Request {
     pub key: Key,
 }
 
-// count, push and clear are alike here, in inst_holding and in highest_slot: one function over the three tables would
-// take a row's type, width and laws, and be no plainer than these lines.
-#[tactic(auto, using(crate::proofs::Laws::how_many))]
-pub fn count(s: &[u64]) -> usize
-    requires { batch_words ≤ length s.now }
-    ensures { (result ≡ length (requests_of s.now)) × (result ≤ request_places) }
-{
-    s[0].min(BATCH as u64) as usize
-}
+pub type Batch<'a> = Table<'a, Request, BATCH>;
+
+pub type BatchMut<'a> = TableMut<'a, Request, BATCH>;
 
 // The kind and the value.
 fn command_words(c: Command) -> (u64, u64)
@@ -59,62 +55,58 @@ pub fn command_at(kind: u64, value: u64) -> Command
     }
 }
 
-// The i-th request.
-#[tactic(auto, unfolding(crate::specs::Batch::request_from))]
-pub fn get(s: &[u64], i: usize) -> Request
-    requires { (i < request_places) × (batch_words ≤ length s.now) }
-    ensures { request_of result ≡ request_at s.now i }
-{
-    let p = 1 + i * layout::REQUEST_ROW;
-    Request {
-        client: s[p],
-        request: s[p + 1],
-        command: command_at(s[p + 2], s[p + 3]),
-        key: get_key(s, p + 4),
+impl Row for Request {
+    const WORDS: usize = layout::REQUEST_ROW;
+
+    ghost WORDS = { request_row };
+
+    ghost View = { machine.Request };
+
+    ghost view = { request_of };
+
+    ghost at = { request_from };
+
+    ghost words = { request_words };
+
+    #[tactic(auto, unfolding(crate::specs::Batch::request_from))]
+    fn get(s: &[u64], p: usize) -> Request {
+        Request {
+            client: s[p],
+            request: s[p + 1],
+            command: command_at(s[p + 2], s[p + 3]),
+            key: get_key(s, p + 4),
+        }
     }
-}
 
-#[tactic(auto, using(crate::proofs::Laws::stored))]
-fn put(s: &mut [u64], i: usize, q: Request)
-    requires { (i < request_places) × (batch_words ≤ length s.old) }
-    ensures { s.new ≡ writes s.old (1 + i * request_row) (request_words q) }
-{
-    let p = 1 + i * layout::REQUEST_ROW;
-    let (kind, value) = command_words(q.command);
-    s[p..p + 4].copy_from_slice(&[q.client, q.request, kind, value]);
-    put_key(s, p + 4, q.key);
-}
-
-// A request after the others; false, and nothing changed, where there are eight.
-#[tactic(auto, using(crate::proofs::Laws::push_yes, crate::proofs::Laws::push_no))]
-pub fn push(s: &mut [u64], q: Request) -> bool
-    requires { batch_words ≤ length s.old }
-    ensures { Pushes s.old (request_of q) result s.new }
-{
-    let n = count(s);
-    if n == BATCH {
-        return false;
+    #[tactic(auto, using(crate::proofs::Laws::stored))]
+    fn put(self, s: &mut [u64], p: usize) {
+        let (kind, value) = command_words(self.command);
+        s[p..p + 4].copy_from_slice(&[self.client, self.request, kind, value]);
+        put_key(s, p + 4, self.key);
     }
-    put(s, n, q);
-    s[0] = (n + 1) as u64;
-    true
+
+    ghost width = { λ x. refl };
+
+    ghost near = { near };
+
+    ghost back = { read_back };
 }
 
-#[tactic(auto, using(crate::proofs::Laws::cleared))]
-pub fn clear(s: &mut [u64])
-    requires { batch_words ≤ length s.old }
-    ensures { (requests_of s.new ≡ []) × (s.new ≡ set s.old 0 0) }
+// No request. A table made of a part of a buffer loses what became of the part, so the words come as they are lent.
+pub fn clear(words: &mut [u64])
+    requires { batch_words ≤ length words.old }
+    ensures { (requests_of words.new ≡ []) × (words.new ≡ set words.old 0 0) }
 {
-    s[0] = 0;
+    BatchMut::new(words).clear();
 }
 
 // The value that the i-th request puts at a key.
-#[tactic(auto, using(crate::proofs::Laws::put_get, crate::proofs::Laws::put_here, crate::proofs::Laws::put_away))]
-fn put_at(s: &[u64], i: usize, key: Key) -> Option<u64>
-    requires { (i < request_places) × (batch_words ≤ length s.now) }
-    ensures { result ≡ put_of (bytes_of key) (request_at s.now i) (request_at s.now i).command }
+#[tactic(auto, using(crate::proofs::Laws::put_read))]
+fn put_at(batch: Batch<'_>, i: usize, key: Key) -> Option<u64>
+    requires { i < request_places }
+    ensures { result ≡ put_of (bytes_of key) (request_at batch.entry.words.now i) (request_at batch.entry.words.now i).command }
 {
-    let q = get(s, i);
+    let q = batch.get(i);
     match q.command {
         Command::Put(v) if key_words::same(q.key, key) => Some(v),
         _ => None,
@@ -122,14 +114,14 @@ fn put_at(s: &[u64], i: usize, key: Key) -> Option<u64>
 }
 
 // The value of the last Put of a key among the first n requests.
-pub fn last_put_among(s: &[u64], n: usize, key: Key) -> Option<u64>
-    requires { (n ≤ request_places) × (batch_words ≤ length s.now) }
-    ensures { result ≡ last_put (bytes_of key) (tab (request_at s.now) 0 n) }
+pub fn last_put_among(batch: Batch<'_>, n: usize, key: Key) -> Option<u64>
+    requires { n ≤ request_places }
+    ensures { result ≡ last_put (bytes_of key) (tab (request_at batch.entry.words.now) 0 n) }
 {
+    // `rev().find_map(..)` was tried: its proof did not close.
     for i in (0..n).rev() {
-        let put = put_at(s, i, key);
-        if put.is_some() {
-            return put;
+        if let Some(v) = put_at(batch, i, key) {
+            return Some(v);
         }
     }
     None
@@ -137,9 +129,8 @@ pub fn last_put_among(s: &[u64], n: usize, key: Key) -> Option<u64>
 
 // The value of the last Put of a key.
 #[tactic(auto, using(crate::proofs::Laws::last_all))]
-pub fn last_put(s: &[u64], key: Key) -> Option<u64>
-    requires { batch_words ≤ length s.now }
-    ensures { result ≡ last_put (bytes_of key) (requests_of s.now) }
+pub fn last_put(batch: Batch<'_>, key: Key) -> Option<u64>
+    ensures { result ≡ last_put (bytes_of key) (requests_of batch.entry.words.now) }
 {
-    last_put_among(s, count(s), key)
+    last_put_among(batch, batch.count(), key)
 }

@@ -69,7 +69,7 @@ module _ (m x y z : List ℕ) (h : node_words ≤ length m) (lx : length x ≡ r
   third = part_set_above m₃ execs_at replica_places 0 written_at (omega arith) ∙ part_here m₂ execs_at replica_places z (rw l₂ (omega arith)) lz
 
   keys_none : written_of (part m₄ written_at written_words) ≡ []
-  unfolding written_of
+  unfolding counted
   keys_none =
       ap (counted highest_at written_row written_places) (part_set_first m₃ written_at written_words 0 (omega arith))
       ∙ counted_clear highest_at written_row written_places (part m₃ written_at written_words) (rw (length_part m₃ written_at written_words (rw length_filled (omega arith))) (omega arith))

@@ -1,21 +1,22 @@
 -- The batch as it is lent: how many requests, a key by its clamped start and length, whether one is long, and the batch
 -- loaded request by request.
+use Rattle.std.specs.List.{list_any, range_with_len}
 use mathlib.Core.Path.{◌≡◌, refl, sym, ap, ◌∙◌}
 use mathlib.Core.Bool.{Bool, true, false, ◌||◌}
 use mathlib.Core.List.{List, []}
 use Prim.Native.Nat.{ℕ, zero, suc, ◌+◌, ◌-◌, ◌/◌, ◌≤◌, ◌<◌, min}
-use native.Mathlib.Nat.{add-zero, zero-add, sub-zero, not-suc-le-zero}
+use native.Mathlib.Nat.{add-zero, zero-add, not-suc-le-zero}
 use native.Mathlib.Decide.{dec_lt}
 use native.Mathlib.Omega.{arith}
 use lib.ListN.{length, get_or, set, take, drop, length-drop, drop_of_length-le}
 use lib.Seq.{take_all, take-length, drop-length, get_or-set_other}
 use Rattle.words.specs.Part.{part}
 use Rattle.words.specs.Tab.{tab, tab_snoc, length_tab}
-use Rattle.layout.specs.Layout.{request_places, batch_words}
+use Rattle.layout.specs.Layout.{request_places, request_row, batch_words}
 use Rattle.roster_conf.specs.Edit.{long_key}
 use Rattle.bodega.specs.Replica as machine
-use Rattle.inst_reqs.specs.Batch.{requests_of, Pushes}
-use Rattle.inst_reqs.proofs.Laws.{pushed_on}
+use Rattle.inst_reqs.specs.Batch.{request_from, requests_of, Pushes}
+use Rattle.table.proofs.Laws.{pushed_on}
 use Rattle.req_batch.specs.Given.{given_at, given, any_long, Loads}
 
 pub how_many : (rows text : List ℕ) → length (given rows text) ≡ length rows / 6
@@ -49,34 +50,15 @@ part_is text start len from n a b =
     let e : take (length text - from) (drop from text) ≡ drop start text = take_all (length text - from) (drop from text) l ∙ rw a (drop_min start text) in
     rw (b, e) (take_min len (drop start text))
 
--- ---- whether a key is long, from i on
+-- ---- whether a key is long
 
-unfoldable pub long_from : List ℕ → List ℕ → ℕ → Bool
-long_from rows text i = any_long (tab (given_at rows text) i (length rows / 6 - i))
+some : (f : ℕ → machine.Request) (i n : ℕ) → list_any (λ k. long_key (f k).key) (range_with_len i n) ≡ any_long (tab f i n)
+some f i zero = refl
+some f i (suc n) = ap (λ (t : Bool). long_key (f i).key || t) (some f (i + 1) n)
 
-module _ (rows text : List ℕ) where
-  pub long_start : long_from rows text 0 ≡ any_long (given rows text)
-  unfolding long_from given
-  long_start = rw (sub-zero (length rows / 6))
-
-  pub long_end : (i : ℕ) → length rows / 6 ≤ i → long_from rows text i ≡ false
-  unfolding long_from
-  long_end i h =
-      let m : length rows / 6 - i ≡ 0 = omega arith in
-      rw m
-
-  module _ (i : ℕ) (t : Bool) (b : i < length rows / 6) (told : t ≡ long_key (given_at rows text i).key) where
-    cut : long_from rows text i ≡ t || long_from rows text (i + 1)
-    unfolding long_from
-    cut =
-        let m : length rows / 6 - i ≡ suc (length rows / 6 - (i + 1)) = omega arith in
-        rw (m, told)
-
-    pub long_here : t ≡ true → long_from rows text i ≡ true
-    long_here h = cut ∙ rw h
-
-    pub long_next : t ≡ false → long_from rows text i ≡ long_from rows text (i + 1)
-    long_next h = cut ∙ rw h
+pub some_long : (rows text : List ℕ) → list_any (λ k. long_key (given_at rows text k).key) (range_with_len 0 (length rows / 6)) ≡ any_long (given rows text)
+unfolding given
+some_long rows text = some (given_at rows text) 0 (length rows / 6)
 
 -- ---- none of them is
 
@@ -99,21 +81,18 @@ short_at_lem rows text i e h = rw (zero-add i) at (none_long (given_at rows text
 -- ---- the batch loaded, as far as i
 
 pub record Loaded (rows text s t : List ℕ) (i : ℕ) : Type 0 where
-  pub fits : length t ≡ length s
   pub requests : requests_of t ≡ tab (given_at rows text) 0 i
   pub beyond : (j : ℕ) → batch_words ≤ j → get_or t j 0 ≡ get_or s j 0
 
 pub loaded_start : (rows text t : List ℕ) → requests_of t ≡ [] → Loaded rows text t t 0
-loaded_start rows text t e = record { fits = refl; requests = e; beyond = λ j h. refl }
+loaded_start rows text t e = record { requests = e; beyond = λ j h. refl }
 
 -- in the words of the code: q is the request that was read, t what its push left
-pub loaded_next : (rows text s₀ s t : List ℕ) (i : ℕ) (q : machine.Request) (r : Bool) → Loaded rows text s₀ s i → i < request_places → q ≡ given_at rows text i → Pushes s q r t → length t ≡ length s
-    → Loaded rows text s₀ t (i + 1)
-loaded_next rows text s₀ s t i q r l h e p k =
+pub loaded_next : (rows text s₀ s t : List ℕ) (i : ℕ) (q : machine.Request) (r : Bool) → Loaded rows text s₀ s i → i < request_places → q ≡ given_at rows text i → Pushes s q r t → Loaded rows text s₀ t (i + 1)
+loaded_next rows text s₀ s t i q r l h e p =
     let m : length (requests_of s) ≡ i = rw l.requests (length_tab (given_at rows text) 0 i) in
     record {
-      fits = k ∙ l.fits;
-      requests = pushed_on s t q r p (omega arith) ∙ rw (l.requests, e, tab_snoc (given_at rows text) 0 i, zero-add i);
+      requests = pushed_on request_from request_row request_places s t q r p (omega arith) ∙ rw (l.requests, e, tab_snoc (given_at rows text) 0 i, zero-add i);
       beyond = λ j b. p.beyond j b ∙ l.beyond j b;
     }
 

@@ -5,12 +5,12 @@
 
 ghost use Rattle.std.specs.Prelude.{◌≡◌, false, List, ℕ, ◌/◌, ◌<◌, ◌≤◌, length};
 ghost use Rattle.words.specs.Part.{part};
-ghost use Rattle.layout.specs.Layout.{request_places, batch_words};
+ghost use Rattle.layout.specs.Layout.{request_places};
 ghost use Rattle.roster_conf.specs.Edit.{long_key};
 ghost use Rattle.inst_reqs.specs.Batch.{request_of};
 ghost use Rattle.req_batch.specs.Given.{given, given_at, any_long, Loads};
 
-use inst_reqs::{Request, command_at};
+use inst_reqs::{BatchMut, Request, command_at};
 use key_words::pack_short;
 
 // Words of a row. The rows stay words: a caller in C lends them so.
@@ -45,12 +45,7 @@ fn long_at(rows: &[u64], text: &[u8], i: usize) -> bool
 pub fn any_long(rows: &[u64], text: &[u8]) -> bool
     ensures { result ≡ any_long (given rows.now text.now) }
 {
-    for i in 0..rows.len() / ROW {
-        if long_at(rows, text, i) {
-            return true;
-        }
-    }
-    false
+    (0..rows.len() / ROW).any(|i| long_at(rows, text, i))
 }
 
 // The i-th request, whose key is no longer than 48 bytes.
@@ -70,14 +65,14 @@ fn request_at(rows: &[u64], text: &[u8], i: usize) -> Request
 }
 
 // The batch of a slot that holds these requests.
-pub fn load(rows: &[u64], text: &[u8], out: &mut [u64])
-    requires room { batch_words ≤ length out.old }
+pub fn load(rows: &[u64], text: &[u8], out: &mut BatchMut<'_>)
     requires few { length (given rows.now text.now) ≤ request_places }
     requires short { any_long (given rows.now text.now) ≡ false }
-    ensures { Loads rows.now text.now out.old out.new }
+    ensures same_reference { out.new.words.ghost_name ≡ out.old.words.ghost_name }
+    ensures loads { Loads rows.now text.now out.old.words.now out.new.words.now }
 {
-    inst_reqs::clear(out);
+    out.clear();
     for i in 0..rows.len() / ROW {
-        inst_reqs::push(out, request_at(rows, text, i));
+        out.push(request_at(rows, text, i));
     }
 }

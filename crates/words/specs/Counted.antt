@@ -10,13 +10,15 @@ abbrev pub count_of : ℕ → List ℕ → ℕ
 count_of lim s = min (get_or s 0 0) lim
 
 module _ {A : Type 0} where
-  abbrev pub counted : (List ℕ → ℕ → A) → ℕ → ℕ → List ℕ → List A
+  unfoldable pub counted : (List ℕ → ℕ → A) → ℕ → ℕ → List ℕ → List A
   counted f w lim s = tab (λ i. f s (1 + i * w)) 0 (count_of lim s)
 
   pub length_counted : (f : List ℕ → ℕ → A) (w lim : ℕ) (s : List ℕ) → length (counted f w lim s) ≡ count_of lim s
+  unfolding counted
   length_counted f w lim s = length_tab (λ i. f s (1 + i * w)) 0 (count_of lim s)
 
   pub counted_clear : (f : List ℕ → ℕ → A) (w lim : ℕ) (s : List ℕ) → 0 < length s → counted f w lim (set s 0 0) ≡ []
+  unfolding counted
   counted_clear f w lim s h =
       let g = get_or-set_same s 0 0 0 h in
       let m : count_of lim (set s 0 0) ≡ 0 = omega (arith, g) in
@@ -31,6 +33,7 @@ module _ {A : Type 0} (f : List ℕ → ℕ → A) (w lim : ℕ) (near : (s' s :
   -- a row is stored after the others, and the count is one more
   pub counted_push : (s s₁ s₂ : List ℕ) (n : ℕ) (x : A) (row : List ℕ) → 1 + lim * w ≤ length s → n ≡ count_of lim s → n < lim → length row ≡ w
       → s₁ ≡ writes s (1 + n * w) row → f s₁ (1 + n * w) ≡ x → s₂ ≡ set s₁ 0 (n + 1) → counted f w lim s₂ ≡ counted f w lim s ++ (x ∷ [])
+  unfolding counted
   counted_push s s₁ s₂ n x row fits q h l e₁ here e₂ =
       let p : ℕ = 1 + n * w in
       let k : length s₁ ≡ length s = rw e₁ (length_writes s p row) in
@@ -47,6 +50,7 @@ module _ {A : Type 0} (f : List ℕ → ℕ → A) (w lim : ℕ) (near : (s' s :
   -- a row is changed where it stands
   pub counted_set : (s s' : List ℕ) (i : ℕ) (x : A) → i < count_of lim s → get_or s' 0 0 ≡ get_or s 0 0 → f s' (1 + i * w) ≡ x
       → ((j : ℕ) → (0 < j) → (j < 1 + i * w) ⊎ (1 + i * w + w ≤ j) → get_or s' j 0 ≡ get_or s j 0) → counted f w lim s' ≡ set (counted f w lim s) i x
+  unfolding counted
   counted_set s s' i x h g here rest =
       let z : 0 + i ≡ i = zero-add i in
       let other : (j : ℕ) → j ≢ i → f s' (1 + j * w) ≡ f s (1 + j * w) =

@@ -1,25 +1,17 @@
-use Rattle.std.proofs.Common.{sym, ◌∙◌, arith}
+use Rattle.std.proofs.Common.{refl, rules, tests, arith}
+use Rattle.std.proofs.lemmas.Iterator.{YieldsList-from_range}
+use Rattle.std.proofs.lemmas.Iterator.Search.{all_from_yields_List}
+use Rattle.bodega.specs.Localread.{acked}
+use Rattle.inst_reqs.specs.Batch.{request_at}
+use Rattle.roster_conf.specs.Edits.{view}
 use Rattle.commit_condition.proofs.Laws as law
 use Rattle.commit_condition.proofs.commit_condition.Goals as goal
 
-pub returns-then-count-from : goal.returns-then-count-from
-returns-then-count-from c = law.few_acks _ _ _ _ _ _ c.count.ensures c.from.ensures c.if-count-from.true
+pub returns-then-from-count : goal.returns-then-from-count
+returns-then-from-count c =
+    let a = c.args in
+    law.enough _ _ _ _ _ _ c.count.ensures c.from.ensures _ _ c.if-from-count.true c.count-then-from-count.ensures.0
+    (all_from_yields_List (λ k. acked (view a.conf a.rows.now) a.acks (request_at a.batch.words.now k)) _ _ _ c.all.ensures.ran (YieldsList-from_range 0 _ _ refl (omega arith)) (λ x b q k. search (rules, tests)))
 
-pub loop-i-init : goal.loop-i-init
-loop-i-init c =
-    (omega arith, law.from_start _ _ _ _ _ _ c.count.ensures c.from.ensures _ c.if-count-from.false c.count-i-end.ensures.0)
-
-pub returns-then-not-acked : goal.returns-then-not-acked
-returns-then-not-acked c =
-    let l = c.loop-i in
-    sym (law.unacked _ _ _ _ l.i (omega arith) _ c.acked.ensures c.if-not-acked.true) ∙ l.invariant.1
-
-pub loop-i-preserved : goal.loop-i-preserved
-loop-i-preserved c =
-    let l = c.loop-i in
-    (omega arith, sym (law.passed _ _ _ _ l.i (omega arith) _ c.acked.ensures c.if-not-acked.false) ∙ l.invariant.1)
-
-pub returns : goal.returns
-returns c =
-    let l = c.loop-i in
-    sym (law.all_passed_lem _ _ _ _ l.i (omega arith)) ∙ l.invariant.1
+pub returns-else-from-count : goal.returns-else-from-count
+returns-else-from-count c = law.few_acks _ _ _ _ _ _ c.count.ensures c.from.ensures c.if-from-count.false

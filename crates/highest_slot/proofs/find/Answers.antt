@@ -1,19 +1,15 @@
-use Rattle.std.proofs.Common.{sym, ◌∙◌, arith}
+use Rattle.std.proofs.Common.{◌≡◌, true, false, rules}
+use Rattle.std.proofs.lemmas.Iterator.{first_from_Range}
+use borrow.Author.Tests.{tests}
+use Rattle.keys.specs.Same.{same_bytes}
+use Rattle.key_words.specs.Key.{bytes_of}
+use Rattle.highest_slot.specs.Written.{entry_at}
 use Rattle.highest_slot.proofs.Laws as law
 use Rattle.highest_slot.proofs.find.Goals as goal
 
-pub loop-i-init : goal.loop-i-init
-loop-i-init c = law.place_start _ _ _ c.count-i-end.ensures.0
-
-pub returns-then-same-clause-place : goal.returns-then-same-clause-place
-returns-then-same-clause-place c =
-    let l = c.loop-i in
-    sym (law.place_here _ _ _ l.i (omega arith) _ _ c.get_key.ensures c.same.ensures c.if-same.true) ∙ l.invariant
-
-pub loop-i-preserved : goal.loop-i-preserved
-loop-i-preserved c =
-    let l = c.loop-i in
-    sym (law.place_next _ _ _ l.i (omega arith) _ _ c.get_key.ensures c.same.ensures c.if-same.false) ∙ l.invariant
-
-pub returns-clause-place : goal.returns-clause-place
-returns-clause-place c = let l = c.loop-i in sym (law.place_end _ _ _ l.i (omega arith)) ∙ l.invariant
+pub returns : goal.returns
+returns c =
+    let a = c.args in
+    law.first_is _ _ _ _ c.count.ensures.0
+    (first_from_Range _ _ _ _ (λ k. same_bytes (entry_at a.written.words.now k).key (bytes_of a.key) ≡ true) (λ k. same_bytes (entry_at a.written.words.now k).key (bytes_of a.key) ≡ false) c.find.ensures.ran (λ x q k. search (rules, tests))
+    (λ x q k. search (rules, tests)))

@@ -1,19 +1,13 @@
-use Rattle.std.proofs.Common.{sym, ◌∙◌, arith}
+use Rattle.std.proofs.Common.{refl, ◌∙◌, rules, tests, arith}
+use Rattle.std.proofs.lemmas.Iterator.{YieldsList-from_range}
+use Rattle.std.proofs.lemmas.Iterator.Search.{any_from_yields_List}
+use Rattle.roster_conf.specs.Edit.{long_key}
+use Rattle.req_batch.specs.Given.{given_at}
 use Rattle.req_batch.proofs.Laws as law
 use Rattle.req_batch.proofs.any_long.Goals as goal
 
-pub loop-i-init : goal.loop-i-init
-loop-i-init c = law.long_start _ _
-
-pub returns-then-long_at : goal.returns-then-long_at
-returns-then-long_at c =
-    let l = c.loop-i in
-    sym (law.long_here _ _ l.i _ (omega arith) c.long_at.ensures c.if-long_at.true) ∙ l.invariant
-
-pub loop-i-preserved : goal.loop-i-preserved
-loop-i-preserved c =
-    let l = c.loop-i in
-    sym (law.long_next _ _ l.i _ (omega arith) c.long_at.ensures c.if-long_at.false) ∙ l.invariant
-
 pub returns : goal.returns
-returns c = let l = c.loop-i in sym (law.long_end _ _ l.i (omega arith)) ∙ l.invariant
+returns c =
+    let a = c.args in
+    any_from_yields_List (λ k. long_key (given_at a.rows.now a.text.now k).key) _ _ _ c.any.ensures.ran (YieldsList-from_range 0 _ _ refl (omega arith)) (λ x b q k. search (rules, tests))
+    ∙ law.some_long a.rows.now a.text.now

@@ -1,10 +1,14 @@
-use Rattle.std.proofs.Common.{arith}
+use Rattle.std.proofs.Common.{◌∙◌, arith}
 use Rattle.req_batch.proofs.Laws as law
 use Rattle.req_batch.proofs.load.Goals as goal
 
 pub loop-i-init : goal.loop-i-init
 loop-i-init c =
-    (omega (arith, law.how_many c.args.rows.now c.args.text.now), law.loaded_start _ _ _ c.clear.ensures.0)
+    record {
+      few = omega (arith, law.how_many c.args.rows.now c.args.text.now);
+      same = c.clear.ensures.same_reference;
+      loaded = law.loaded_start _ _ _ c.clear.ensures.empty;
+    }
 
 pub request_at-requires : goal.request_at-requires
 request_at-requires c =
@@ -13,9 +17,13 @@ request_at-requires c =
 pub loop-i-preserved : goal.loop-i-preserved
 loop-i-preserved c =
     let l = c.loop-i in
-    (omega arith, law.loaded_next _ _ _ _ _ l.i _ _ l.invariant.1 (omega arith) c.request_at.ensures c.push.ensures c.push.auto.s)
+    record {
+      few = omega arith;
+      same = c.push.ensures.same_reference ∙ l.invariant.same;
+      loaded = law.loaded_next _ _ _ _ _ l.i _ _ l.invariant.loaded (omega arith) c.request_at.ensures c.push.ensures.pushes;
+    }
 
-pub returns : goal.returns
-returns c =
+pub returns-clause-loads : goal.returns-clause-loads
+returns-clause-loads c =
     let l = c.loop-i in
-    law.loaded_end _ _ _ _ _ l.i c.clear.ensures.1 l.invariant.1 (omega arith) (omega arith)
+    law.loaded_end _ _ _ _ _ l.i c.clear.ensures.first l.invariant.loaded (omega arith) (omega arith)

@@ -1,7 +1,11 @@
-use Rattle.std.proofs.Common.{◌≤◌}
+use Rattle.std.proofs.Common.{◌≡◌, ◌≤◌}
 use Rattle.layout.specs.Layout.{request_places}
 use Rattle.req_batch.proofs.Laws as law
 use Rattle.req_batch.proofs.load.Given as goal
 
 abbrev pub invariant-loop-i : goal.invariant-loop-i
-invariant-loop-i l = (l.i-end ≤ request_places) × law.Loaded l.rows l.text l.initial.out l.out l.i
+invariant-loop-i l = record {
+  few : l.i-end ≤ request_places;
+  same : l.out.words.ghost_name ≡ l.fn.out.words.ghost_name;
+  loaded : law.Loaded l.rows l.text l.initial.out.words.now l.out.words.now l.i;
+}

@@ -1,6 +1,0 @@
-use Rattle.std.proofs.Common.{rules}
-use Rattle.inst_holding.proofs.Laws as law
-use Rattle.inst_holding.proofs.push.Goals as goal
-
-pub returns : goal.returns
-returns c = search (rules, law.push_yes)

@@ -1,0 +1,56 @@
+-- A row goes after the others, or in another's place.
+use Rattle.std.proofs.Common.{◌≡◌, refl, ◌∙◌, inl, inr, ⊎_elim, arith, List, [], ◌∷◌, ◌++◌, ℕ, ◌+◌, ◌*◌, ◌≤◌, ◌<◌, length, set, length-append, get_or-set_other}
+use Rattle.std.specs.Prelude.{Some, None, if◌then◌else◌}
+use mathlib.Core.Bool.{Bool, true, false, true≢false}
+use borrow.Author.Tests.{le-leb, lt-leb}
+use Rattle.words.specs.Counted.{count_of, counted, length_counted, counted_push, counted_set, apart}
+use Rattle.words.specs.Writes.{writes, Agrees, writes_other}
+use Rattle.table.specs.Table.{Pushes, Sets}
+
+pub below : {A : Type 0} (f : List ℕ → ℕ → A) (w lim : ℕ) (s : List ℕ) (i : ℕ) → i < length (counted f w lim s) → i < lim
+below f w lim s i b = let c : i < count_of lim s = rw length_counted at b in omega arith
+
+-- a push where there is room
+pub pushed_on : {A : Type 0} (f : List ℕ → ℕ → A) (w lim : ℕ) (s t : List ℕ) (x : A) (r : Bool) → Pushes f w lim s x r t → length (counted f w lim s) < lim → counted f w lim t ≡ counted f w lim s ++ (x ∷ [])
+pushed_on f w lim s t x r p h = go r (rw (le-leb (length (counted f w lim s ++ (x ∷ []))) lim (rw length-append (omega arith))) at p.outcome)
+  where
+    go : (r : Bool) → (if r then Some (counted f w lim t) else None) ≡ Some (counted f w lim s ++ (x ∷ [])) → counted f w lim t ≡ counted f w lim s ++ (x ∷ [])
+    go true e = cc
+    go false e = cc
+
+-- A is what rows of R stand for; the other parameters are the members of a row
+module _ {R A : Type 0} (at : List ℕ → ℕ → A) (w : ℕ) (view : R → A) (words : R → List ℕ)
+    (width : (x : R) → length (words x) ≡ w) (near : (s' s : List ℕ) (p : ℕ) → Agrees s' s p (p + w) → at s' p ≡ at s p) (back : (s : List ℕ) (p : ℕ) (x : R) → p + w ≤ length s → at (writes s p (words x)) p ≡ view x)
+    (lim : ℕ) where
+  -- in the words of the code: n is the count, s₁ what the row's store left
+  pub push_yes : (s s₁ : List ℕ) (n : ℕ) (x : R) → 1 + lim * w ≤ length s → n ≡ length (counted at w lim s) → (n ≡ lim → ⊥) → s₁ ≡ writes s (1 + n * w) (words x) → Pushes at w lim s (view x) true (set s₁ 0 (n + 1))
+  push_yes s s₁ n x fits many room e =
+      let m : n ≡ count_of lim s = many ∙ length_counted at w lim s in
+      let b : n < lim = omega arith in
+      let end : n * w + w ≤ lim * w = apart n lim w b in
+      let here : at s₁ (1 + n * w) ≡ view x = rw e (back s (1 + n * w) x (omega arith)) in
+      let rows = counted_push at w lim near s s₁ (set s₁ 0 (n + 1)) n (view x) (words x) fits m b (width x) e here refl in
+      let l : length (counted at w lim s ++ (view x ∷ [])) ≡ n + 1 = rw (length-append, ← many) refl in
+      let o : 1 + n * w + length (words x) ≤ 1 + lim * w = rw (width x) (omega arith) in
+      record {
+        outcome = rw (rows, l, le-leb (n + 1) lim (omega arith));
+        refused = λ e. absurd (true≢false e);
+        beyond = λ j h. rw (get_or-set_other s₁ 0 j (n + 1) 0 (omega arith), e) (writes_other s (1 + n * w) (words x) j (inr (omega arith)));
+      }
+
+  pub push_no : (s : List ℕ) (n : ℕ) (x : R) → n ≡ length (counted at w lim s) → n ≡ lim → Pushes at w lim s (view x) false s
+  push_no s n x many full =
+      let l : length (counted at w lim s ++ (view x ∷ [])) ≡ lim + 1 = rw (length-append, ← many, full) refl in
+      record { outcome = rw (l, lt-leb (lim + 1) lim (omega arith)); refused = λ e. refl; beyond = λ j h. refl }
+
+  pub set_row : (s t : List ℕ) (i : ℕ) (x : R) → 1 + lim * w ≤ length s → i < length (counted at w lim s) → t ≡ writes s (1 + i * w) (words x) → Sets at w lim s i (view x) t
+  set_row s t i x fits b e =
+      let c : i < count_of lim s = rw length_counted at b in
+      let end : i * w + w ≤ lim * w = apart i lim w (omega arith) in
+      let l = width x in
+      let here : at t (1 + i * w) ≡ view x = rw e (back s (1 + i * w) x (omega arith)) in
+      record {
+        rows = counted_set at w lim near s t i (view x) c (rw e (writes_other s (1 + i * w) (words x) 0 (inl (omega arith)))) here
+            (λ j a o. rw e (writes_other s (1 + i * w) (words x) j (⊎_elim (λ (y : j < 1 + i * w). inl y) (λ (y : 1 + i * w + w ≤ j). inr (omega arith)) o)));
+        beyond = λ j h. rw e (writes_other s (1 + i * w) (words x) j (inr (omega arith)));
+      }

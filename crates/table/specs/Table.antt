@@ -1,0 +1,26 @@
+-- Bridge: what a push and a store leave on a table in lent words (words/specs/Counted); tied by the Laws of req_batch,
+-- insts and highest_slot.
+use Rattle.std.specs.Prelude.{◌≡◌, Bool, false, List, [], ◌∷◌, ◌++◌, ℕ, ◌+◌, ◌*◌, ◌≤◌, leb, length, get_or, set, if◌then◌else◌}
+use Rattle.std.specs.Prelude.{Option, None, Some}
+use Rattle.words.specs.Counted.{counted}
+
+-- lim rows at most
+abbrev pub capped : {A : Type 0} → ℕ → List A → Option (List A)
+capped lim l = if leb (length l) lim then Some l else None
+
+-- from the end of the table on the words are as they were
+abbrev pub Beyond : ℕ → ℕ → List ℕ → List ℕ → Type 0
+Beyond w lim s t = (j : ℕ) → 1 + lim * w ≤ j → get_or t j 0 ≡ get_or s j 0
+
+-- rows of w words that f reads, lim at most
+module _ {A : Type 0} (f : List ℕ → ℕ → A) (w lim : ℕ) where
+  -- what a push of x onto the words s leaves: the answer, and the words t
+  pub record Pushes (s : List ℕ) (x : A) (r : Bool) (t : List ℕ) : Type 0 where
+    pub outcome : (if r then Some (counted f w lim t) else None) ≡ capped lim (counted f w lim s ++ (x ∷ []))
+    pub refused : r ≡ false → t ≡ s
+    pub beyond : Beyond w lim s t
+
+  -- the words t are those of s with x for the i-th row
+  pub record Sets (s : List ℕ) (i : ℕ) (x : A) (t : List ℕ) : Type 0 where
+    pub rows : counted f w lim t ≡ set (counted f w lim s) i x
+    pub beyond : Beyond w lim s t

@@ -1,0 +1,141 @@
+// A table in lent words: how many rows, and then the rows, each of the same width.
+#![tactic(auto)]
+
+ghost use Rattle.std.specs.Prelude.{◌≡◌, List, [], ℕ, ◌+◌, ◌*◌, ◌<◌, ◌≤◌, length, set};
+ghost use Rattle.words.specs.Counted.{counted};
+ghost use Rattle.words.specs.Writes.{writes, Agrees};
+ghost use Rattle.table.specs.Table.{Pushes, Sets};
+
+use std::alloc::AllocError;
+use std::marker::PhantomData;
+
+// A row: its width, what it stands for, its words, and that a row which is stored is read back.
+pub trait Row: Copy {
+    const WORDS: usize;
+
+    ghost WORDS: { ℕ };
+
+    ghost View: { Type 0 };
+
+    ghost view: { Self → View };
+
+    // What stands at word p.
+    ghost at: { List ℕ → ℕ → View };
+
+    ghost words: { Self → List ℕ };
+
+    fn get(s: &[u64], p: usize) -> Self
+        requires { p + WORDS ≤ length s.now }
+        ensures { view result ≡ at s.now p };
+
+    fn put(self, s: &mut [u64], p: usize)
+        requires { p + WORDS ≤ length s.old }
+        ensures { s.new ≡ writes s.old p (words self) };
+
+    ghost width: { (x : Self) → length (words x) ≡ WORDS };
+
+    ghost near: { (s' s : List ℕ) (p : ℕ) → Agrees s' s p (p + WORDS) → at s' p ≡ at s p };
+
+    ghost back: { (s : List ℕ) (p : ℕ) (x : Self) → p + WORDS ≤ length s → at (writes s p (words x)) p ≡ view x };
+}
+
+// Lent to be read: at most PLACES rows.
+pub struct Table<'a, R: Row, const PLACES: usize> {
+    pub words: &'a [u64],
+    rows: PhantomData<R>,
+    ghost whole: { 1 + PLACES * R.WORDS ≤ length words.now },
+}
+
+impl<'a, R: Row, const PLACES: usize> Clone for Table<'a, R, PLACES> {
+    fn clone(&self) -> Result<Self, AllocError> {
+        Ok(*self)
+    }
+}
+
+impl<'a, R: Row, const PLACES: usize> Copy for Table<'a, R, PLACES> {}
+
+impl<'a, R: Row, const PLACES: usize> Table<'a, R, PLACES> {
+    pub fn new(lent: &'a [u64]) -> Self
+        requires { 1 + PLACES * R.WORDS ≤ length lent.now }
+        ensures { result.words.now ≡ lent.now }
+    {
+        Table {
+            words: lent,
+            rows: PhantomData,
+        }
+    }
+
+    #[tactic(auto, using(words::specs::Counted::length_counted))]
+    pub fn count(self) -> usize
+        ensures { (result ≡ length (counted R.at R.WORDS PLACES self.entry.words.now)) × (result ≤ PLACES) }
+    {
+        self.words[0].min(PLACES as u64) as usize
+    }
+
+    // The i-th row.
+    pub fn get(self, i: usize) -> R
+        requires { i < PLACES }
+        ensures { R.view result ≡ R.at self.entry.words.now (1 + i * R.WORDS) }
+    {
+        R::get(self.words, 1 + i * R::WORDS)
+    }
+}
+
+// Lent to be changed: at most PLACES rows.
+#[derive(Drop)]
+pub struct TableMut<'a, R: Row, const PLACES: usize> {
+    pub words: &'a mut [u64],
+    rows: PhantomData<R>,
+    ghost whole: { 1 + PLACES * R.WORDS ≤ length words.now },
+}
+
+impl<'a, R: Row, const PLACES: usize> TableMut<'a, R, PLACES> {
+    pub fn new(words: &'a mut [u64]) -> Self
+        requires { 1 + PLACES * R.WORDS ≤ length words.old }
+        ensures same_reference { result.words.ghost_name ≡ words.entry.ghost_name }
+        ensures lent { result.words.now ≡ words.old }
+    {
+        TableMut {
+            words,
+            rows: PhantomData,
+        }
+    }
+
+    pub fn as_ref(&self) -> Table<'_, R, PLACES>
+        ensures { result.words.now ≡ self.now.words.now }
+    {
+        Table::new(self.words)
+    }
+
+    // A row after the others; false, and nothing changed, where there is no place left.
+    pub fn push(&mut self, row: R) -> bool
+        ensures same_reference { self.new.words.ghost_name ≡ self.old.words.ghost_name }
+        ensures pushes { Pushes R.at R.WORDS PLACES self.old.words.now (R.view row) result self.new.words.now }
+    {
+        let n = self.as_ref().count();
+        if n == PLACES {
+            return false;
+        }
+        row.put(self.words, 1 + n * R::WORDS);
+        self.words[0] = (n + 1) as u64;
+        true
+    }
+
+    // A row in place of the i-th.
+    pub fn set(&mut self, i: usize, row: R)
+        requires { i < length (counted R.at R.WORDS PLACES self.old.words.now) }
+        ensures same_reference { self.new.words.ghost_name ≡ self.old.words.ghost_name }
+        ensures sets { Sets R.at R.WORDS PLACES self.old.words.now i (R.view row) self.new.words.now }
+    {
+        row.put(self.words, 1 + i * R::WORDS);
+    }
+
+    #[tactic(auto, using(words::specs::Counted::counted_clear))]
+    pub fn clear(&mut self)
+        ensures same_reference { self.new.words.ghost_name ≡ self.old.words.ghost_name }
+        ensures empty { counted R.at R.WORDS PLACES self.new.words.now ≡ [] }
+        ensures first { self.new.words.now ≡ set self.old.words.now 0 0 }
+    {
+        self.words[0] = 0;
+    }
+}
