@@ -121,15 +121,13 @@ module _ (s : List ℕ) (c : ℕ) (h : slot_words ≤ length s) (b : c < slot_pl
 
   -- ---- as the code does it: a is where the part begins that is lent
 
-  pub batch_lent : (a : ℕ) → a ≡ batch_start c → (requests_of (take (a + batch_words - a) (drop a s)) ≡ batch_at s c) × (length (take (a + batch_words - a) (drop a s)) ≡ batch_words)
+  pub batch_lent : (a : ℕ) → a ≡ batch_start c → requests_of (take (a + batch_words - a) (drop a s)) ≡ batch_at s c
   unfolding batch_at part
-  batch_lent a e =
-      rw (e, width (batch_start c) batch_words) (refl, length_part s (batch_start c) batch_words (omega arith))
+  batch_lent a e = rw (e, width (batch_start c) batch_words) refl
 
-  pub reads_lent : (a : ℕ) → a ≡ reads_start c → (reads_of (take (a + held_words - a) (drop a s)) ≡ reads_at s c) × (length (take (a + held_words - a) (drop a s)) ≡ held_words)
+  pub reads_lent : (a : ℕ) → a ≡ reads_start c → reads_of (take (a + held_words - a) (drop a s)) ≡ reads_at s c
   unfolding reads_at part
-  reads_lent a e =
-      rw (e, width (reads_start c) held_words) (refl, length_part s (reads_start c) held_words (omega arith))
+  reads_lent a e = rw (e, width (reads_start c) held_words) refl
 
   lent : (a n : ℕ) → a + n ≤ length s → length (take n (drop a s)) ≡ n
   unfolding part

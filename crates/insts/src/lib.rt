@@ -7,7 +7,7 @@ ghost use Rattle.bodega.specs.Replica.{null_instance, Instance, is_open};
 ghost use Rattle.bodega.specs.Localread.{last_put};
 ghost use Rattle.bodega.specs.Grounds.{any, holds};
 ghost use Rattle.ids.specs.Limits.{top};
-ghost use Rattle.layout.specs.Layout.{batch_words, held_words, held_places, slot_places, slot_words};
+ghost use Rattle.layout.specs.Layout.{batch_words, held_places, slot_places, slot_words};
 ghost use Rattle.key_words.specs.Key.{bytes_of};
 ghost use Rattle.inst_cell.specs.Cell.{cell_of, status_of, with_status, has_book};
 ghost use Rattle.inst_reqs.specs.Batch.{requests_of};
@@ -16,7 +16,8 @@ ghost use Rattle.insts.specs.Slots.{short_at, batch_at, reads_at, seen_reads, in
 
 use ids::{Ballot, Slot};
 use inst_cell::{Cell, Status};
-use inst_holding::ReadReq;
+use inst_holding::{Held, ReadReq};
+use inst_reqs::Batch;
 use key_words::Key;
 
 // Which slots are held: `held` of them from `start` on.
@@ -92,26 +93,26 @@ impl<'a> Insts<'a> {
         inst_cell::load(self.words, place(slot))
     }
 
-    // A slot's batch, as words of crate inst_reqs.
-    pub fn batch(self, slot: Slot) -> &'a [u64]
-        ensures { (requests_of result.now ≡ batch_at self.entry.words.now (place_of slot.0)) × (length result.now ≡ batch_words) }
+    // A slot's batch.
+    pub fn batch(self, slot: Slot) -> Batch<'a>
+        ensures { requests_of result.words.now ≡ batch_at self.entry.words.now (place_of slot.0) }
     {
         let a = batch_at(place(slot));
-        &self.words[a..a + layout::BATCH_WORDS]
+        Batch::new(&self.words[a..a + layout::BATCH_WORDS])
     }
 
-    // The reads that a slot holds, as words of crate inst_holding.
-    pub fn reads(self, slot: Slot) -> &'a [u64]
-        ensures { (reads_of result.now ≡ reads_at self.entry.words.now (place_of slot.0)) × (length result.now ≡ held_words) }
+    // The reads that a slot holds.
+    pub fn reads(self, slot: Slot) -> Held<'a>
+        ensures { reads_of result.words.now ≡ reads_at self.entry.words.now (place_of slot.0) }
     {
         let a = reads_at(place(slot));
-        &self.words[a..a + layout::HELD_WORDS]
+        Held::new(&self.words[a..a + layout::HELD_WORDS])
     }
 
     pub fn count_reads(self, slot: Slot) -> usize
         ensures { (result ≡ length (reads_at self.entry.words.now (place_of slot.0))) × (result ≤ held_places) }
     {
-        inst_holding::count(self.reads(slot))
+        self.reads(slot).count()
     }
 
     // The value of the last Put of a key in a slot's batch.

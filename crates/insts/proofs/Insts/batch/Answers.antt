@@ -6,4 +6,4 @@ use Rattle.insts.proofs.Insts.batch.Goals as goal
 pub returns : goal.returns
 returns c =
     let a = c.args in
-    law.batch_lent a.self.words.now _ a.self.whole (law.place a.slot.0) _ (c.batch_at-a.ensures ∙ ap batch_start c.place.ensures.0)
+    rw c.new.ensures (law.batch_lent a.self.words.now _ a.self.whole (law.place a.slot.0) _ (c.batch_at-a.ensures ∙ ap batch_start c.place.ensures.0))
