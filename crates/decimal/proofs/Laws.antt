@@ -11,7 +11,7 @@ use Rattle.std.proofs.Common.{zero-add}
 use mir.Syntax.{w64}
 use mir.Val.{Fits}
 use borrow.Author.Tests.{lt-ltb, le-ltb, le-leb, ltb-false, eqb-true, eqb-false}
-use Rattle.inty.proofs.Laws.{below_top, low_only}
+use Rattle.inty.proofs.Laws.{below_top}
 use borrow.Rule.Slice.PartMut.{put_mid}
 use Rattle.std.proofs.lemmas.List.{take_all, drop_all, append-nil, drop-drop}
 use Rattle.words.specs.Writes.{writes, writes_snoc}
@@ -138,9 +138,6 @@ module _ {s : List ℕ} {n end : ℕ} {l : List ℕ} (w : Heads s n end l) where
 
   pub last_put : (b r : ℕ) → b ≡ 48 + r → r ≡ n % 10 → set l end b ≡ writes s 0 (decimal n)
   last_put b r p h = rw (w.bytes, w.end_is, p, h, w.all, writes_snoc s 0 w.heads (48 + n % 10), zero-add)
-
-pub low_half : (n : ℕ) (p : Placed) (out : List ℕ) (at : ℕ) → p ≡ placed out at (decimal (0 * 18446744073709551616 + n)) → p ≡ placed out at (decimal n)
-low_half n p out at e = e ∙ ap (λ (k : ℕ). placed out at (decimal k)) (low_only n)
 
 -- the part from `at` on with vs at its start, put back
 part_back : (s vs : List ℕ) (at : ℕ) → at + length vs ≤ length s → put_mid at (length s - at) s (writes (take (length s - at) (drop at s)) 0 vs) ≡ writes s at vs

@@ -23,7 +23,3 @@ was_out v e = go (ltb v (2 ^ 128)) refl
     go : (t : Bool) → ltb v (2 ^ 128) ≡ t → 2 ^ 128 ≤ v
     go true p = let q : Some v ≡ None = sym (e ∙ simp p) in let z : ◌≡◌ {A = ℕ} 0 1 = cc in absurd (zero_one z)
     go false p = ltb-false v (2 ^ 128) p
-
--- a number of the lower half alone
-pub low_only : (l : ℕ) → 0 * 18446744073709551616 + l ≡ l
-low_only l = omega arith
