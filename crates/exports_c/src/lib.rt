@@ -1,4 +1,5 @@
 // The archive that Rust and C link: the functions of crate exports under their C names, each with its clauses again.
+// Arguments are numbers, flags, slices and plain structs, since the C interface has no others.
 #![tactic(auto)]
 
 ghost use Rattle.std.specs.Prelude.{◌≡◌, ◌&&◌};
