@@ -1,7 +1,7 @@
 // For Rust and C, over plain structs and lent words: the calls, key reading, and the edits and the lookup of a roster.
 // The C interface has a function for each name, and numbers, flags, slices and plain structs: so the calls have like
 // bodies, a flag says whether a roster is attached, and a number beside the rows says how many stand.
-#![tactic(auto, using(crate::proofs::Laws::answers, crate::proofs::Laws::gives_back))]
+#![tactic(auto)]
 
 ghost use Rattle.std.specs.Prelude.{◌≡◌, ◌&&◌};
 ghost use Rattle.std.specs.Bool.{then_some};
@@ -27,6 +27,7 @@ pub fn bodega_fresh(mem: &mut [u64], id: u8, population: u8, quorum: u8) -> Plai
     export_plain::begun(Node::fresh(mem, Replica(id), population, quorum))
 }
 
+#[tactic(auto, using(crate::proofs::Laws::answers, crate::proofs::Laws::gives_back))]
 pub fn bodega_guard(
     node: Plain,
     mem: &mut [u64],
@@ -48,6 +49,7 @@ pub fn bodega_guard(
     export_plain::answered(node, a)
 }
 
+#[tactic(auto, using(crate::proofs::Laws::answers, crate::proofs::Laws::gives_back))]
 pub fn bodega_prepared(node: Plain, mem: &[u64], area: &[u64], ballot: u64) -> PlainAnswered
     ensures { Answers ready view (Prepared ballot) (node_of node) mem.now area.now (given result) mem.now area.now × GivesBack node result }
 {
@@ -55,6 +57,7 @@ pub fn bodega_prepared(node: Plain, mem: &[u64], area: &[u64], ballot: u64) -> P
     export_plain::answered(node, a)
 }
 
+#[tactic(auto, using(crate::proofs::Laws::answers, crate::proofs::Laws::gives_back))]
 pub fn bodega_bars(
     node: Plain,
     mem: &mut [u64],
@@ -78,6 +81,7 @@ pub fn bodega_bars(
     export_plain::answered(node, a)
 }
 
+#[tactic(auto, using(crate::proofs::Laws::answers, crate::proofs::Laws::gives_back))]
 pub fn bodega_record(
     node: Plain,
     mem: &mut [u64],
@@ -131,6 +135,7 @@ pub fn bodega_heartbeat(
     export_plain::answered(node, a)
 }
 
+#[tactic(auto, using(crate::proofs::Laws::answers, crate::proofs::Laws::gives_back))]
 pub fn bodega_reply(
     node: Plain,
     mem: &mut [u64],
@@ -152,6 +157,7 @@ pub fn bodega_reply(
     export_plain::answered(node, a)
 }
 
+#[tactic(auto, using(crate::proofs::Laws::answers, crate::proofs::Laws::gives_back))]
 pub fn bodega_notice(
     node: Plain,
     mem: &mut [u64],
@@ -173,6 +179,7 @@ pub fn bodega_notice(
     export_plain::answered(node, a)
 }
 
+#[tactic(auto, using(crate::proofs::Laws::answers, crate::proofs::Laws::gives_back))]
 pub fn bodega_commit(
     node: Plain,
     mem: &mut [u64],
@@ -194,6 +201,7 @@ pub fn bodega_commit(
     export_plain::answered(node, a)
 }
 
+#[tactic(auto, using(crate::proofs::Laws::answers, crate::proofs::Laws::gives_back))]
 pub fn bodega_read(
     node: Plain,
     mem: &mut [u64],
@@ -217,6 +225,7 @@ pub fn bodega_read(
     export_plain::answered(node, a)
 }
 
+#[tactic(auto, using(crate::proofs::Laws::answers, crate::proofs::Laws::gives_back))]
 pub fn bodega_release(node: Plain, mem: &mut [u64], area: &mut [u64], slot: u64) -> PlainAnswered
     ensures { Answers ready view (Release slot) (node_of node) mem.old area.old (given result) mem.new area.new × GivesBack node result }
 {
