@@ -51,9 +51,6 @@ module _ (p : List ℕ) (n i number bar : ℕ) (h : i < n) (k : n ≤ replicas) 
   abbrev moved : List ℕ
   moved = set (set p i number) (bars_at + i) bar
 
-  pub length_moved : length moved ≡ length p
-  length_moved = length-set (set p i number) (bars_at + i) bar ∙ length-set p i number
-
   here : pair (get_or moved i 0) (get_or moved (bars_at + i) 0) ≡ pair number bar
   here =
       rw (get_or-set_other (set p i number) (bars_at + i) i bar 0 (omega arith), get_or-set_same p i number 0 (omega arith), get_or-set_same (set p i number) (bars_at + i) bar 0 (rw (length-set p i number) (omega arith)))

@@ -12,12 +12,12 @@ use lib.ListN.{length, get_or, set}
 use Rattle.std.specs.List.{list_all, range_with_len}
 use Rattle.std.proofs.lemmas.List.Folds.{list_all-append}
 use lib.Seq.{get_or-set_same, get_or-set_other}
-use borrow.Author.Tests.{lt-ltb, le-ltb, eq-eqb, ne_eqb}
+use borrow.Author.Tests.{lt-ltb, le-ltb}
 use Rattle.words.specs.Tab.{words_from, get_or_tab, tab_set}
 use Rattle.bitmap.specs.Bitmap.{every}
 use Rattle.bodega.specs.Replica.{Replica, with_snap, with_peer_exec_bar}
 use Rattle.bodega.specs.Heartbeat.{heard_exec_bar, heard_snap_bar}
-use Rattle.peer_exec_bar.specs.Execs.{all_passed, execs_heard, snap_heard, Hears, execs_left, snap_left, HearsPeer}
+use Rattle.peer_exec_bar.specs.Execs.{all_passed, execs_heard, snap_heard, Hears, execs_left, snap_left}
 
 -- ---- whether all have passed
 
@@ -77,23 +77,6 @@ module _ (n id peer exec snap : ℕ) (s : List ℕ) (long : n ≤ length s) (h :
       pub not_all : t ≡ false → Hears n id peer exec snap s snap (set s peer exec)
       unfolding snap_heard
       not_all g = record { execs = set_bar ∙ sym (simp larger_bar); answer = sym (simp (larger_bar, passed_is ∙ g)); words = sym (simp larger) }
-
--- ---- a peer's exec and snap bar
-
-module _ (n id peer exec snap own : ℕ) (s : List ℕ) where
-  pub from_itself : peer ≡ id → HearsPeer n id peer exec snap own s own s
-  from_itself e =
-      let t : eqb peer id ≡ true = eq-eqb peer id e in
-      record { execs = sym (simp t); answer = sym (simp t); words = sym (simp t) }
-
-  pub from_other : (r x : ℕ) (s' : List ℕ) → (peer ≡ id → ⊥) → Hears n id peer exec own s r s' → x ≡ max r snap → HearsPeer n id peer exec snap own s x s'
-  from_other r x s' e g f =
-      let t : eqb peer id ≡ false = ne_eqb peer id e in
-      record {
-        execs = g.execs ∙ sym (simp t);
-        answer = f ∙ ap (λ (z : ℕ). max z snap) g.answer ∙ sym (simp t);
-        words = g.words ∙ sym (simp t);
-      }
 
 -- ---- the machine
 

@@ -77,6 +77,7 @@ pub fn foreign_mask(population: u8, c: RespondersConf, rows: &[u64]) -> bool
 }
 
 // The rows of c, from one lent buffer into another; what lies past them stays as it was.
+#[tactic(auto, using(crate::proofs::Laws::copied))]
 pub fn copy(c: RespondersConf, from: &[u64], to: &mut [u64])
     requires { (c.count ≤ 64) × (roster_words ≤ length from.now) × (roster_words ≤ length to.old) }
     ensures { (roster_of c to.new ≡ roster_of c from.now) × (to.new ≡ writes to.old 0 (take (c.count * roster_row) from.now)) }
