@@ -5,7 +5,7 @@ use mathlib.Core.Path.{◌≡◌, refl, sym, ap, ◌∙◌}
 use mathlib.Core.Bool.{Bool, true, false}
 use mathlib.Core.List.{List, [], ◌∷◌, ◌++◌}
 use Rattle.std.specs.Prelude.{Option, None, Some}
-use Prim.Native.Nat.{ℕ, ◌+◌, ◌%◌, ◌≤◌, ◌<◌}
+use Prim.Native.Nat.{ℕ, ◌+◌, ◌≤◌, ◌<◌}
 use native.Mathlib.Decide.{dec_lt}
 use native.Mathlib.Omega.{arith}
 use borrow.Author.Tests.{lt-ltb, le-ltb, le-leb, lt-leb, ltb-true, ltb-false, leb-false}
@@ -13,7 +13,7 @@ use lib.Dec.{ltb, leb}
 use lib.ListN.{length}
 use Rattle.words.specs.Choice.{if_none◌then◌else◌}
 use Rattle.words.specs.Part.{part, splice, Untouched, length_part}
-use Rattle.layout.specs.Layout.{node_words, slot_places, slot_words, slots_at}
+use Rattle.layout.specs.Layout.{node_words, slot_words, slots_at}
 use Rattle.words.specs.Writes.{writes}
 use Rattle.ids.specs.declared.Slot.{Slot}
 use Rattle.key_words.specs.Key.{bytes_of, at_most_48}
@@ -22,17 +22,17 @@ use Rattle.items.specs.Item.{Item, item_of, encode, encode_snoc, places}
 use Rattle.items.specs.Area.{Put, put_item}
 use Rattle.items.specs.declared.Item as code
 use Rattle.inst_cell.specs.Cell.{Notices, Short}
-use Rattle.insts.specs.Slots.{short_at, batch_at, reads_at, inst_of, inst_in, book_of, Puts}
+use Rattle.insts.specs.Slots.{short_at, batch_at, reads_at, inst_of, inst_in, book_of, place_of, Puts, PutsReads}
 use Rattle.bodega.specs.Replica as machine
 use Rattle.bodega.specs.Localread as local
 use Rattle.bodega.specs.Request.{settled, read_answer, answered, treat_read}
 use Rattle.bodega.specs.Grounds.{grounds, full, overfills}
 use Rattle.bodega.specs.Step.{effect}
 use Rattle.bodega.specs.Answers.{Answers}
-use Rattle.inspect_latest_write.specs.Located.{answer_in, Gets}
+use Rattle.inspect_latest_write.specs.Located.{answer_in}
 use Rattle.inspect_latest_write.specs.declared.ReadAnswer.{ReadAnswer}
 use Rattle.inspect_latest_write.specs.declared.ReadAnswer.TheVariants.{HeldBy}
-use Rattle.inspect_latest_write.proofs.Laws.{Waiting, waiting, holds_none, placed_by}
+use Rattle.inspect_latest_write.proofs.Laws.{Waiting, waiting, holds_none}
 use Rattle.node.proofs.Calls.{Ready, is_ready, refused_by, few_places, taken_with}
 use Rattle.node.proofs.Frames.{slots_back, slots_size, slots_beyond, slots_ready}
 use Rattle.node.proofs.Slots.{not_below, not_past, held_at_lem, set_at}
@@ -47,10 +47,7 @@ use Rattle.node.specs.declared.Node.{Node}
 
 -- ---- the parts lent are long enough
 
-place : {c : ℕ} (slot : ℕ) → c ≡ slot % slot_places → c < slot_places
-place slot e = omega arith
-
-pub slots_long : (n : Node) (m : List ℕ) → Ready n m → slot_words ≤ length (part m slots_at slot_words)
+slots_long : (n : Node) (m : List ℕ) → Ready n m → slot_words ≤ length (part m slots_at slot_words)
 slots_long n m r = rw (length_part m slots_at slot_words (omega (arith, r.long))) (omega arith)
 
 -- ---- a key of at most 48 bytes
@@ -141,7 +138,7 @@ module _ (n : Node) (m : List ℕ) (slot : ℕ) (w : Waiting (view n m) slot) wh
   s = part m slots_at slot_words
 
   abbrev c : ℕ
-  c = slot % slot_places
+  c = place_of slot
 
   stands : machine.inst_at (view n m) slot ≡ Some (inst_of (short_at s c) (batch_at s c) (reads_at s c))
   unfolding inst_in
@@ -199,10 +196,7 @@ module _ (n : Node) (m area : List ℕ) (client request leases : ℕ) (key : Lis
       pub bytes_are : bytes_of k ≡ key
       bytes_are = short.0
 
-      module _ (a : ReadAnswer) (j : Gets (view n m) (part m slots_at slot_words) (read_answer (view n m) leases key) a) where
-        answer_is : answer_in a ≡ read_answer (view n m) leases key
-        answer_is = j.0
-
+      module _ (a : ReadAnswer) (answer_is : answer_in a ≡ read_answer (view n m) leases key) where
         module _ (b : Bool) (fills : b ≡ overfills (view n m) (answer_in a)) where
           ground_19 : (if b then 19 else 0) ≡ lowest (grounds (view n m) call)
           unfolding grounds
@@ -243,31 +237,23 @@ module _ (n : Node) (m area : List ℕ) (client request leases : ℕ) (key : Lis
                     taken_with call n m number_0 area true (sym y) refl (answered (view n m) q (answer_in a)).replica (item_of x ∷ []) n m' area' effect_is (omega arith) x₁
                     (ap (λ (o : Put). o.area) z ∙ put_area area (item_of x) d) x₂ x₃ (x₄ ∙ y)
 
-                pub served : ((x : Slot) (d : ℕ) → a ≡ HeldBy x d → ⊥) → Answers ready view call n m area (given_of n (Ok (record { node = n; count = 1 }))) m area'
+                pub served : ((x : Slot) → a ≡ HeldBy x → ⊥) → Answers ready view call n m area (given_of n (Ok (record { node = n; count = 1 }))) m area'
                 served o = taken m (sym (holds_none (view n m) q a o)) refl (λ j l. refl) refl
 
-                module _ (slot : Slot) (d : ℕ) (o : a ≡ HeldBy slot d) where
+                module _ (slot : Slot) (o : a ≡ HeldBy slot) where
                   waits : Waiting (view n m) slot.0
                   unfolding read_answer
                   waits = waiting (view n m) slot.0 (settled (view n m) leases key) (sym answer_is ∙ ap answer_in o)
 
-                  at_place : d ≡ slot.0 % slot_places
-                  at_place = (placed_by (view n m) (part m slots_at slot_words) a (HeldBy slot d) o j.1).0
+                  pub has_room : (slot_words ≤ length (part m slots_at slot_words)) × (length (reads_at (part m slots_at slot_words) (place_of slot.0)) < 16)
+                  has_room = (slots_long n m (is_ready n m true (sym y) refl), room n m slot.0 waits (ap (λ (y : ReadAnswer). overfills (view n m) (answer_in y)) (sym o) ∙ sym fills ∙ u))
 
-                  pub place_below : d < slot_places
-                  place_below = place slot.0 at_place
-
-                  pub has_room : length (reads_at (part m slots_at slot_words) d) < 16
-                  has_room = rw at_place (room n m slot.0 waits (ap (λ (y : ReadAnswer). overfills (view n m) (answer_in y)) (sym o) ∙ sym fills ∙ u))
-
-                  pub held : (s : List ℕ)
-                      → Puts (part m slots_at slot_words) d (short_at (part m slots_at slot_words) d) (batch_at (part m slots_at slot_words) d)
-                      (reads_at (part m slots_at slot_words) d ++ (record { client = client; request = request; key = bytes_of k } ∷ [])) s
-                      → Answers ready view call n m area (given_of n (Ok (record { node = n; count = 1 }))) (splice m slots_at slot_words s) area'
-                  held s p' =
-                      let d' : Puts (part m slots_at slot_words) (slot.0 % slot_places) (short_at (part m slots_at slot_words) (slot.0 % slot_places)) (batch_at (part m slots_at slot_words) (slot.0 % slot_places))
-                      (reads_at (part m slots_at slot_words) (slot.0 % slot_places) ++ (q ∷ [])) s = rw (at_place, bytes_are) at p' in
+                  pub held : (t : List ℕ)
+                      → PutsReads (part m slots_at slot_words) (place_of slot.0) (reads_at (part m slots_at slot_words) (place_of slot.0) ++ (record { client = client; request = request; key = bytes_of k } ∷ [])) t
+                      → Answers ready view call n m area (given_of n (Ok (record { node = n; count = 1 }))) (splice m slots_at slot_words t) area'
+                  held t p' =
+                      let d' : PutsReads (part m slots_at slot_words) (place_of slot.0) (reads_at (part m slots_at slot_words) (place_of slot.0) ++ (q ∷ [])) t = rw bytes_are at p' in
                       let b' : Ready n m = is_ready n m true (sym y) refl in
-                      taken (splice m slots_at slot_words s)
-                      (hold_view n m slot.0 waits b' q s d' ∙ ap (λ (y : ReadAnswer). (answered (view n m) q (answer_in y)).replica) (sym o))
-                      (hold_size n m slot.0 waits b' q s d') (hold_beyond n m slot.0 waits b' q s d') (hold_ready n m slot.0 waits b' q s d')
+                      taken (splice m slots_at slot_words t)
+                      (hold_view n m slot.0 waits b' q t d' ∙ ap (λ (y : ReadAnswer). (answered (view n m) q (answer_in y)).replica) (sym o))
+                      (hold_size n m slot.0 waits b' q t d') (hold_beyond n m slot.0 waits b' q t d') (hold_ready n m slot.0 waits b' q t d')

@@ -2,16 +2,15 @@
 use Rattle.std.specs.Prelude.{if◌then◌else◌, option_map}
 use mathlib.Core.Path.{◌≡◌, refl, sym, ap, ◌∙◌}
 use mathlib.Core.Bool.{Bool, true, false, not, ◌||◌}
-use mathlib.Core.Logic.{◌⊎◌, inl, inr}
 use mathlib.Core.List.{List, []}
 use Rattle.std.specs.Prelude.{Option, None, Some}
-use Prim.Native.Nat.{ℕ, ◌+◌, ◌*◌, ◌%◌, ◌≤◌, ◌<◌}
+use Prim.Native.Nat.{ℕ, ◌+◌, ◌*◌, ◌≤◌, ◌<◌}
 use native.Mathlib.Decide.{dec_lt}
 use native.Mathlib.Omega.{arith}
 use borrow.Author.Tests.{lt-ltb, le-ltb, le-leb, ltb-true, ltb-false, leb-true}
 use lib.Dec.{ltb, leb, eqb}
 use lib.ListN.{length}
-use Rattle.layout.specs.Layout.{slots_at, slot_words, written_at, written_words, rows_at, roster_words, node_words, slot_places}
+use Rattle.layout.specs.Layout.{slots_at, slot_words, written_at, written_words, rows_at, roster_words, node_words}
 use Rattle.words.specs.Choice.{if_none◌then◌else◌}
 use Rattle.words.specs.Part.{part, length_part}
 use Rattle.ids.specs.declared.Slot.{Slot}
@@ -26,28 +25,24 @@ use Rattle.bodega.specs.Replica as machine
 use Rattle.bodega.specs.Localread as local
 use Rattle.bodega.specs.Request as request
 use Rattle.bodega.specs.Request.{read_answer, answered}
-use Rattle.bodega.specs.Grounds.{full, overfills}
+use Rattle.bodega.specs.Grounds.{full}
 use Rattle.inst_cell.specs.Cell.{status_of, cell_of}
 use Rattle.inst_cell.specs.declared.Cell.{Cell}
 use Rattle.highest_slot.specs.Written.{written_of, slot_in}
-use Rattle.insts.specs.Slots.{short_at, batch_at, reads_at, inst_of, inst_in}
+use Rattle.insts.specs.Slots.{place_of, short_at, batch_at, reads_at, inst_of, inst_in}
 use Rattle.release_held_reads.specs.Release.{holding_of}
 use Rattle.words.proofs.Tests.{and_both}
 use Rattle.node.specs.View.{view, ready}
 use Rattle.node.specs.declared.Node.{Node}
 use Rattle.node.proofs.Calls.{Ready, is_ready}
 use Rattle.node.proofs.Slots.{not_below, not_past, held_at_lem}
-use Rattle.inspect_latest_write.specs.Located.{held_at, settled_of, answer_in, Stands, Located, Settles, Places, Gets}
-use Rattle.inspect_latest_write.specs.declared.SlotAt.{SlotAt}
+use Rattle.inspect_latest_write.specs.Located.{held_at, settled_of, answer_in}
 use Rattle.inspect_latest_write.specs.declared.Settled.{Settled}
 use Rattle.inspect_latest_write.specs.declared.Settled.TheVariants as settled
 use Rattle.inspect_latest_write.specs.declared.ReadAnswer.{ReadAnswer}
 use Rattle.inspect_latest_write.specs.declared.ReadAnswer.TheVariants.{Found, Missing, FromStore, Consensus, HeldBy, Again}
 
 -- ---- a slot that is held
-
-pub place_below : {c : ℕ} (slot : ℕ) → c ≡ slot % slot_places → c < slot_places
-place_below slot e = omega arith
 
 module _ (n : Node) (m s : List ℕ) (l : part m slots_at slot_words ≡ s) (slot : ℕ) (t : Bool) (e : t ≡ held_at n.start_slot.0 n.slots slot) where
   no_slot : t ≡ false → machine.inst_at (view n m) slot ≡ None
@@ -59,14 +54,11 @@ module _ (n : Node) (m s : List ℕ) (l : part m slots_at slot_words ≡ s) (slo
         not_past n m slot k (ltb-false slot (n.start_slot.0 + n.slots) g)
   ]
 
-  slot_at : t ≡ true → machine.inst_at (view n m) slot ≡ Some (inst_in s (slot % slot_places))
+  slot_at : t ≡ true → machine.inst_at (view n m) slot ≡ Some (inst_in s (place_of slot))
   slot_at f =
       let b = and_both (leb n.start_slot.0 slot) (ltb slot (n.start_slot.0 + n.slots)) (sym e ∙ f) in
       held_at_lem n m slot (leb-true n.start_slot.0 slot b.0) (ltb-true slot (n.start_slot.0 + n.slots) b.1)
-      ∙ ap (λ (y : List ℕ). Some (inst_in y (slot % slot_places))) l
-
-  slot_in_lem : t ≡ true → (c : ℕ) → c ≡ slot % slot_places → machine.inst_at (view n m) slot ≡ Some (inst_in s c)
-  slot_in_lem f c k = slot_at f ∙ ap (λ (j : ℕ). Some (inst_in s j)) (sym k)
+      ∙ ap (λ (y : List ℕ). Some (inst_in y (place_of slot))) l
 
 -- the slot's short part as it is loaded
 loaded : (s : List ℕ) (c : ℕ) (x : Cell) → cell_of x ≡ short_at s c → inst_in s c ≡ inst_of (cell_of x) (batch_at s c) (reads_at s c)
@@ -92,69 +84,67 @@ waited slot o = if_none o then local.Again else λ i. if local.waits i then loca
 abbrev filled : Option machine.Instance → Bool
 filled o = if_none o then false else λ i. if_none i.replica_bk then false else λ b. leb 16 (length b.holding)
 
-module _ (n : Node) (m s : List ℕ) (d : part m slots_at slot_words ≡ s) (slot : Slot) (t : Bool) (e : t ≡ held_at n.start_slot.0 n.slots slot.0) (key : List ℕ) where
-  abbrev Inspects : Settled → Type 0
-  Inspects x = Settles (view n m) s (local.inspect_highest_slot (view n m) key slot.0) x
+module _ (n : Node) (m s : List ℕ) (d : part m slots_at slot_words ≡ s) (slot : Slot) (t : Bool) (e : t ≡ held_at n.start_slot.0 n.slots slot.0) where
+  -- where a read waits
+  pub wait_none : t ≡ false → local.Again ≡ local.waits_at (view n m) slot.0
+  wait_none f = ap (waited slot.0) (sym (no_slot n m s d slot.0 t e f))
 
-  inspect_by : (o : Option machine.Instance) → machine.inst_at (view n m) slot.0 ≡ o
-      → inspected n.quorum key slot.0 o ≡ local.inspect_highest_slot (view n m) key slot.0
-  unfolding local.inspect_highest_slot view
-  inspect_by o f = ap (inspected n.quorum key slot.0) (sym f)
+  -- whether its slot is full
+  pub full_none : t ≡ false → false ≡ full (view n m) slot.0
+  full_none f = ap filled (sym (no_slot n m s d slot.0 t e f))
 
-  pub inspect_none : t ≡ false → Inspects (settled.SlotStatus slot)
-  inspect_none f = (inspect_by None (no_slot n m s d slot.0 t e f), tt)
+  pub full_counted : t ≡ true → (k : ℕ) → (k ≡ length (holding_of (inst_in s (place_of slot.0)))) × (k ≤ 16) → leb 16 k ≡ full (view n m) slot.0
+  full_counted f k j = ap (leb 16) j.0 ∙ full_book (inst_in s (place_of slot.0)).replica_bk ∙ ap filled (sym (slot_at n m s d slot.0 t e f))
 
-  module _ (f : t ≡ true) (c : ℕ) (x : Cell) (k : c ≡ slot.0 % slot_places) (l : cell_of x ≡ short_at s c) where
+  module _ (f : t ≡ true) (x : Cell) (l : cell_of x ≡ short_at s (place_of slot.0)) where
     abbrev here : machine.Instance
-    here = inst_of (cell_of x) (batch_at s c) (reads_at s c)
+    here = inst_of (cell_of x) (batch_at s (place_of slot.0)) (reads_at s (place_of slot.0))
 
     found_here : machine.inst_at (view n m) slot.0 ≡ Some here
-    found_here = slot_in_lem n m s d slot.0 t e f c k ∙ ap (λ (i : machine.Instance). Some i) (loaded s c x l)
+    found_here = slot_at n m s d slot.0 t e f ∙ ap (λ (i : machine.Instance). Some i) (loaded s (place_of slot.0) x l)
 
-    stands : (w : Bool) → w ≡ local.waits here → Stands (view n m) s (record { slot = slot; place = c; waits = w })
-    stands w z =
-        record { place = k; found = slot_in_lem n m s d slot.0 t e f c k; waits = z ∙ ap (λ (i : machine.Instance). local.waits i) (sym (loaded s c x l)) }
+    pub wait_here : (w : Bool) → w ≡ local.waits here → (if w then local.HeldBy slot.0 else local.Again) ≡ local.waits_at (view n m) slot.0
+    wait_here w z = ap (λ (b : Bool). if b then local.HeldBy slot.0 else local.Again) z ∙ ap (waited slot.0) (sym found_here)
 
-    module _ (u : Bool) (g : u ≡ ltb (machine.order (status_of x.status)) 2) where
+  module _ (key : List ℕ) where
+    abbrev Inspects : Settled → Type 0
+    Inspects x = settled_of x ≡ local.inspect_highest_slot (view n m) key slot.0
+
+    inspect_by : (o : Option machine.Instance) → machine.inst_at (view n m) slot.0 ≡ o
+        → inspected n.quorum key slot.0 o ≡ local.inspect_highest_slot (view n m) key slot.0
+    unfolding local.inspect_highest_slot view
+    inspect_by o f = ap (inspected n.quorum key slot.0) (sym f)
+
+    pub inspect_none : t ≡ false → Inspects (settled.SlotStatus slot)
+    inspect_none f = inspect_by None (no_slot n m s d slot.0 t e f)
+
+    module _ (f : t ≡ true) (x : Cell) (l : cell_of x ≡ short_at s (place_of slot.0)) (u : Bool) (g : u ≡ ltb (machine.order (status_of x.status)) 2) where
+      abbrev it : machine.Instance
+      it = here f x l
+
       pub inspect_early : u ≡ true → Inspects (settled.SlotStatus slot)
-      inspect_early h = (sym (rw (sym g ∙ h)) ∙ inspect_by (Some here) found_here, tt)
+      inspect_early h = sym (rw (sym g ∙ h)) ∙ inspect_by (Some it) (found_here f x l)
 
-      module _ (h : u ≡ false) (b : Bool) (y : b ≡ local.is_bound n.quorum here) where
-        pub inspect_unbound : b ≡ false → (w : Bool) → w ≡ local.waits here → Inspects (settled.Notices (record { slot = slot; place = c; waits = w }))
-        inspect_unbound z w v = (sym (rw (sym g ∙ h, sym y ∙ z)) ∙ inspect_by (Some here) found_here, stands w v)
+      module _ (h : u ≡ false) (b : Bool) (y : b ≡ local.is_bound n.quorum it) where
+        pub inspect_unbound : b ≡ false → Inspects (settled.Notices slot)
+        inspect_unbound z = sym (rw (sym g ∙ h, sym y ∙ z)) ∙ inspect_by (Some it) (found_here f x l)
 
-        module _ (z : b ≡ true) (p : Option ℕ) (q : p ≡ local.last_put key (batch_at s c)) where
-          bound : (if not (local.is_bound n.quorum here) then local.Notices slot.0 else if_none p then local.MissingPut slot.0 else local.FoundPut)
+        module _ (z : b ≡ true) (p : Option ℕ) (q : p ≡ local.last_put key (batch_at s (place_of slot.0))) where
+          bound : (if not (local.is_bound n.quorum it) then local.Notices slot.0 else if_none p then local.MissingPut slot.0 else local.FoundPut)
               ≡ local.inspect_highest_slot (view n m) key slot.0
-          bound = rw q (sym (rw (sym g ∙ h)) ∙ inspect_by (Some here) found_here)
+          bound = rw q (sym (rw (sym g ∙ h)) ∙ inspect_by (Some it) (found_here f x l))
 
           pub inspect_found : (k : ℕ) → p ≡ Some k → Inspects (settled.FoundPut k)
-          inspect_found k r = (sym (rw (sym y ∙ z, r)) ∙ bound, tt)
+          inspect_found k r = sym (rw (sym y ∙ z, r)) ∙ bound
 
-          pub inspect_missing : p ≡ None → (w : Bool) → w ≡ local.waits here → Inspects (settled.MissingPut (record { slot = slot; place = c; waits = w }))
-          inspect_missing r w v = (sym (rw (sym y ∙ z, r)) ∙ bound, stands w v)
-
--- where a read waits
-module _ (r : machine.Replica) (s : List ℕ) (x : SlotAt) (y : Stands r s x) where
-  wait_by : (if x.waits then local.HeldBy x.slot.0 else local.Again) ≡ local.waits_at r x.slot.0
-  wait_by = ap (λ (b : Bool). if b then local.HeldBy x.slot.0 else local.Again) y.waits ∙ ap (waited x.slot.0) (sym y.found)
-
-  pub wait_held : x.waits ≡ true → Gets r s (local.waits_at r x.slot.0) (HeldBy x.slot x.place)
-  wait_held h = (sym (rw h) ∙ wait_by, (y.place, y.found))
-
-  pub wait_again : x.waits ≡ false → Gets r s (local.waits_at r x.slot.0) Again
-  wait_again h = (sym (rw h) ∙ wait_by, tt)
-
--- whether its slot is full
-pub full_counted : (r : machine.Replica) (s : List ℕ) (slot c n : ℕ) → machine.inst_at r slot ≡ Some (inst_in s c)
-    → (n ≡ length (holding_of (inst_in s c))) × (n ≤ 16) → leb 16 n ≡ full r slot
-full_counted r s slot c n f j = ap (leb 16) j.0 ∙ full_book (inst_in s c).replica_bk ∙ ap filled (sym f)
+          pub inspect_missing : p ≡ None → Inspects (settled.MissingPut slot)
+          inspect_missing r = sym (rw (sym y ∙ z, r)) ∙ bound
 
 -- ---- `inspect_latest_write`
 
-module _ (n : Node) (m s w : List ℕ) (l : part m written_at written_words ≡ w) (key : List ℕ) (o : Option Slot) (e : slot_in o ≡ local.highest_of key (written_of w)) where
+module _ (n : Node) (m w : List ℕ) (l : part m written_at written_words ≡ w) (key : List ℕ) (o : Option Slot) (e : slot_in o ≡ local.highest_of key (written_of w)) where
   abbrev IsLatest : Settled → Type 0
-  IsLatest x = Settles (view n m) s (local.inspect_latest_write (view n m) key) x
+  IsLatest x = settled_of x ≡ local.inspect_latest_write (view n m) key
 
   abbrev latest_of : Option ℕ → local.Settled
   latest_of q =
@@ -166,17 +156,17 @@ module _ (n : Node) (m s w : List ℕ) (l : part m written_at written_words ≡ 
   latest_by = ap latest_of (e ∙ ap (λ (y : List ℕ). local.highest_of key (written_of y)) (sym l))
 
   pub latest_none : o ≡ None → IsLatest settled.NoSlot
-  latest_none f = (ap (λ (x : Option Slot). latest_of (slot_in x)) (sym f) ∙ latest_by, tt)
+  latest_none f = ap (λ (x : Option Slot). latest_of (slot_in x)) (sym f) ∙ latest_by
 
   module _ (slot : Slot) (f : o ≡ Some slot) where
     here_by : latest_of (Some slot.0) ≡ local.inspect_latest_write (view n m) key
     here_by = ap (λ (x : Option Slot). latest_of (slot_in x)) (sym f) ∙ latest_by
 
     pub latest_low : slot.0 < n.start_slot.0 → IsLatest settled.NoSlot
-    latest_low h = (sym (rw (lt-ltb slot.0 n.start_slot.0 h)) ∙ here_by, tt)
+    latest_low h = sym (rw (lt-ltb slot.0 n.start_slot.0 h)) ∙ here_by
 
-    pub latest_at : n.start_slot.0 ≤ slot.0 → (y : Settled) → Settles (view n m) s (local.inspect_highest_slot (view n m) key slot.0) y → IsLatest y
-    latest_at h y g = (g.0 ∙ sym (rw (le-ltb slot.0 n.start_slot.0 h)) ∙ here_by, g.1)
+    pub latest_at : n.start_slot.0 ≤ slot.0 → (y : Settled) → settled_of y ≡ local.inspect_highest_slot (view n m) key slot.0 → IsLatest y
+    latest_at h y g = g ∙ sym (rw (le-ltb slot.0 n.start_slot.0 h)) ∙ here_by
 
 -- ---- `settled`
 
@@ -201,7 +191,7 @@ module _ (n : Node) (m : List ℕ) (leases : ℕ) (key : List ℕ) where
       if_none o then local.UnreadKey else λ j. responds n.bodega_conf.default n.id.0 (stored j) barred
 
   abbrev Whole : Settled → Type 0
-  Whole x = Settles (view n m) (part m slots_at slot_words) whole x
+  Whole x = settled_of x ≡ whole
 
   settled_is : settled_by (local.is_stable_leader (view n m) leases) (read_key key) ≡ whole
   unfolding request.settled view roster_of
@@ -209,14 +199,14 @@ module _ (n : Node) (m : List ℕ) (leases : ℕ) (key : List ℕ) where
 
   module _ (t : Bool) (e : t ≡ local.is_stable_leader (view n m) leases) where
     pub settled_stable : t ≡ true → Whole settled.StableLeader
-    settled_stable f = (ap (λ (b : Bool). settled_by b (read_key key)) (sym f ∙ e) ∙ settled_is, tt)
+    settled_stable f = ap (λ (b : Bool). settled_by b (read_key key)) (sym f ∙ e) ∙ settled_is
 
     module _ (f : t ≡ false) where
       unstable : settled_by false (read_key key) ≡ whole
       unstable = ap (λ (b : Bool). settled_by b (read_key key)) (sym f ∙ e) ∙ settled_is
 
       pub settled_leases : leases < n.quorum → Whole settled.FewLeases
-      settled_leases h = (first ∙ unstable, tt)
+      settled_leases h = first ∙ unstable
         where
           first : local.FewLeases ≡ settled_by false (read_key key)
           first = rw (lt-ltb leases n.quorum h)
@@ -229,7 +219,7 @@ module _ (n : Node) (m : List ℕ) (leases : ℕ) (key : List ℕ) where
             first = rw (le-ltb leases n.quorum h)
 
         pub settled_unread : k ≡ None → Whole settled.UnreadKey
-        settled_unread q = (read_by None (ap (option_map value_of) q), tt)
+        settled_unread q = read_by None (ap (option_map value_of) q)
 
         module _ (i : Inty) (q : k ≡ Some i) (r : Option ℕ) (l : r ≡ stored (value_of i)) where
           looked : responds n.bodega_conf.default n.id.0 (r) barred ≡ whole
@@ -239,94 +229,32 @@ module _ (n : Node) (m : List ℕ) (leases : ℕ) (key : List ℕ) where
             answers : (b : Bool) → u ≡ b → (if not b then (if_none r then local.DefaultRoster else λ j. local.StoredRange) else barred) ≡ whole
             answers b x = ap (λ (y : Bool). if not y then (if_none r then local.DefaultRoster else λ j. local.StoredRange) else barred) (sym x ∙ d) ∙ looked
 
-            pub settled_roster : u ≡ false → (y : Settled) → Settles (view n m) (part m slots_at slot_words) (if_none r then local.DefaultRoster else λ j. local.StoredRange) y → Whole y
-            settled_roster x y z = (z.0 ∙ answers false (x), z.1)
+            pub settled_roster : u ≡ false → (y : Settled) → settled_of y ≡ (if_none r then local.DefaultRoster else λ j. local.StoredRange) → Whole y
+            settled_roster x y z = z ∙ answers false x
 
             module _ (x : u ≡ true) where
               pub settled_bar : n.commit_bar.0 < n.peer_accept_max.0 → Whole settled.Bar
-              settled_bar b = (first ∙ answers true (x), tt)
+              settled_bar b = first ∙ answers true x
                 where
                   first : local.Bar ≡ barred
                   first = rw (lt-ltb n.commit_bar.0 n.peer_accept_max.0 b)
 
-              pub settled_latest : n.peer_accept_max.0 ≤ n.commit_bar.0 → (y : Settled) → Settles (view n m) (part m slots_at slot_words) (local.inspect_latest_write (view n m) key) y → Whole y
-              settled_latest b y z = (z.0 ∙ first ∙ answers true (x), z.1)
+              pub settled_latest : n.peer_accept_max.0 ≤ n.commit_bar.0 → (y : Settled) → settled_of y ≡ local.inspect_latest_write (view n m) key → Whole y
+              settled_latest b y z = z ∙ first ∙ answers true x
                 where
                   first : local.inspect_latest_write (view n m) key ≡ barred
                   first = rw (le-ltb n.commit_bar.0 n.peer_accept_max.0 b)
 
-pub packed_as : (r : machine.Replica) (s k key : List ℕ) (x : Settled) → k ≡ key → Settles r s (local.inspect_latest_write r k) x → Settles r s (local.inspect_latest_write r key) x
-packed_as r s k key x e f = (f.0 ∙ ap (local.inspect_latest_write r) e, f.1)
-
--- ---- the answer
-
--- what settled the read, as the match told it
-pub told_by : (r : machine.Replica) (s : List ℕ) (x y : Settled) → x ≡ y → Located r s x → Located r s y
-told_by r s x y e p = rw e at p
-
-pub answer_by : (r : machine.Replica) (s : List ℕ) (x y : Settled) (a : ReadAnswer) → x ≡ y → Gets r s (local.answer_of r (settled_of y)) a → Gets r s (local.answer_of r (settled_of x)) a
-answer_by r s x y a e f = (f.0 ∙ ap (λ (z : Settled). local.answer_of r (settled_of z)) (sym e), f.1)
-
--- the conditions that send it to the leader
-pub improper_by : (r : machine.Replica) (s : List ℕ) (x : Settled) (a : ReadAnswer)
-    → (x ≡ settled.FewLeases) ⊎ ((x ≡ settled.UnreadKey) ⊎ ((x ≡ settled.StoredRange) ⊎ ((x ≡ settled.DefaultRoster) ⊎ (x ≡ settled.Bar))))
-    → Gets r s (local.improper r) a → Gets r s (local.answer_of r (settled_of x)) a
-improper_by r s x a (inl e) f = answer_by r s x settled.FewLeases a e f
-improper_by r s x a (inr (inl e)) f = answer_by r s x settled.UnreadKey a e f
-improper_by r s x a (inr (inr (inl e))) f = answer_by r s x settled.StoredRange a e f
-improper_by r s x a (inr (inr (inr (inl e)))) f = answer_by r s x settled.DefaultRoster a e f
-improper_by r s x a (inr (inr (inr (inr e)))) f = answer_by r s x settled.Bar a e f
-
--- those at which it may wait
-pub waits_by : (r : machine.Replica) (s : List ℕ) (y : Settled) (x : SlotAt) (a : ReadAnswer) → (y ≡ settled.Notices x) ⊎ (y ≡ settled.MissingPut x)
-    → Located r s y → (Stands r s x → Gets r s (local.waits_at r x.slot.0) a) → Gets r s (local.answer_of r (settled_of y)) a
-waits_by r s y x a (inl e) d f = answer_by r s y (settled.Notices x) a e (f (told_by r s y (settled.Notices x) e d))
-waits_by r s y x a (inr e) d f = answer_by r s y (settled.MissingPut x) a e (f (told_by r s y (settled.MissingPut x) e d))
-
-pub start_is : (n : Node) (m : List ℕ) → n.start_slot.0 ≡ (view n m).bar.start
-unfolding view
-start_is n m = refl
-
-pub answers_read : (r : machine.Replica) (s : List ℕ) (leases : ℕ) (key : List ℕ) (x : Settled) (a : ReadAnswer) → Settles r s (request.settled r leases key) x
-    → (Located r s x → Gets r s (local.answer_of r (settled_of x)) a) → Gets r s (read_answer r leases key) a
-unfolding read_answer
-answers_read r s leases key x a e f = let g = f e.1 in (g.0 ∙ ap (local.answer_of r) e.0, g.1)
-
 -- ---- an answer that holds nothing
 
 module _ (r : machine.Replica) where
-  pub fills_none : (a : ReadAnswer) → ((x : Slot) (d : ℕ) → a ≡ HeldBy x d → ⊥) → false ≡ overfills r (answer_in a)
-  fills_none (Found v) o = refl
-  fills_none Missing o = refl
-  fills_none FromStore o = refl
-  fills_none Consensus o = refl
-  fills_none (HeldBy slot c) o = absurd (o slot c refl)
-  fills_none Again o = refl
-
-  pub holds_none : (q : machine.ReadReq) (a : ReadAnswer) → ((x : Slot) (d : ℕ) → a ≡ HeldBy x d → ⊥) → (answered r q (answer_in a)).replica ≡ r
+  pub holds_none : (q : machine.ReadReq) (a : ReadAnswer) → ((x : Slot) → a ≡ HeldBy x → ⊥) → (answered r q (answer_in a)).replica ≡ r
   holds_none q (Found v) o = refl
   holds_none q Missing o = refl
   holds_none q FromStore o = refl
   holds_none q Consensus o = refl
-  holds_none q (HeldBy slot c) o = absurd (o slot c refl)
+  holds_none q (HeldBy slot) o = absurd (o slot refl)
   holds_none q Again o = refl
-
-pub placed_by : (r : machine.Replica) (s : List ℕ) (x y : ReadAnswer) → x ≡ y → Places r s x → Places r s y
-placed_by r s x y e p = rw e at p
-
-pub held_below : (r : machine.Replica) (s : List ℕ) (a : ReadAnswer) (slot : Slot) (c : ℕ) → a ≡ HeldBy slot c → Places r s a → c < slot_places
-held_below r s a slot c e p = place_below slot.0 (placed_by r s a (HeldBy slot c) e p).0
-
-pub fills_slot : (r : machine.Replica) (s : List ℕ) (a : ReadAnswer) (slot : Slot) (c n : ℕ) → a ≡ HeldBy slot c → Places r s a
-    → (n ≡ length (holding_of (inst_in s c))) × (n ≤ 16) → leb 16 n ≡ overfills r (answer_in a)
-fills_slot r s a slot c n e p j =
-    full_counted r s slot.0 c n (placed_by r s a (HeldBy slot c) e p).1 j ∙ ap (λ (x : ReadAnswer). overfills r (answer_in x)) (sym e)
-
--- ---- its item
-
-pub item_by : (n : Node) (m : List ℕ) (q : machine.ReadReq) (x y : ReadAnswer) → x ≡ y
-    → (answered (view n m) q (answer_in x)).items ≡ (answered (view n m) q (answer_in y)).items
-item_by n m q x y e = ap (λ (z : ReadAnswer). (answered (view n m) q (answer_in z)).items) e
 
 -- ---- the parts lent are long enough
 
@@ -339,9 +267,6 @@ module _ (n : Node) (m : List ℕ) (e : ready n m ≡ true) where
 
   pub rows_long : n.bodega_conf.count * 5 ≤ length (part m rows_at roster_words)
   rows_long = rw (length_part m rows_at roster_words (omega (arith, words_long))) (omega (arith, readied.ranges))
-
-  pub slots_long : slot_words ≤ length (part m slots_at slot_words)
-  slots_long = rw (length_part m slots_at slot_words (omega (arith, words_long))) (omega arith)
 
   pub written_long : written_words ≤ length (part m written_at written_words)
   written_long = rw (length_part m written_at written_words (omega (arith, words_long))) (omega arith)

@@ -1,36 +1,29 @@
 // request.rs and localread.rs: which condition settles a read at a replica, and the answer that follows from it.
 #![tactic(auto)]
 
-ghost use Rattle.std.specs.Prelude.{◌≡◌, true, false, List, [], ◌∷◌, ℕ, ◌%◌, ◌≤◌, length};
-ghost use Rattle.layout.specs.Layout.{slots_at, slot_words, written_at, written_words, slot_places};
+ghost use Rattle.std.specs.Prelude.{◌≡◌, true, List, [], ◌∷◌, ℕ, ◌≤◌, length};
+ghost use Rattle.layout.specs.Layout.{slots_at, slot_words, written_at, written_words};
 ghost use Rattle.words.specs.Choice.{if_none◌then◌else◌};
 ghost use Rattle.words.specs.Part.{part};
 ghost use Rattle.bitmap.specs.Bitmap.{get};
 ghost use Rattle.key_words.specs.Key.{bytes_of};
 ghost use Rattle.items.specs.Item.{item_of};
-ghost use Rattle.inst_cell.specs.Cell.{book_of, cell_of};
+ghost use Rattle.inst_cell.specs.Cell.{cell_of};
 ghost use Rattle.insts.specs.Slots.{inst_of};
-ghost use Rattle.bodega.specs.Replica.{Replica as Machine, Request, ReadReq};
+ghost use Rattle.bodega.specs.Replica.{Request, ReadReq};
 ghost use Rattle.bodega.specs.Localread as local;
 ghost use Rattle.bodega.specs.Localread.{is_stable_leader, inspect_highest_slot, inspect_latest_write, waits, waits_at, improper, answer_of};
 ghost use Rattle.bodega.specs.Request.{settled, read_answer, answered};
 ghost use Rattle.bodega.specs.Grounds.{overfills};
 ghost use Rattle.node.specs.View.{view, ready};
-ghost use Rattle.inspect_latest_write.specs.Located.{held_at, settled_of, answer_in, Stands, Located, Settles, Places, Gets};
+ghost use Rattle.inspect_latest_write.specs.Located.{held_at, settled_of, answer_in};
 
 use ids::{Replica, Slot};
 use inst_cell::{Cell, Status};
+use insts::Insts;
 use items::Item;
 use key_words::Key;
 use node::{Node, is_leader};
-
-// A slot that settles a read: its place, and whether a read waits there.
-#[derive(Clone, Copy)]
-pub struct SlotAt {
-    pub slot: Slot,
-    pub place: usize,
-    pub waits: bool,
-}
 
 // The condition that settles a read, in the order in which the Rust comes to them.
 #[derive(Clone, Copy)]
@@ -43,19 +36,19 @@ pub enum Settled {
     Bar,
     NoSlot,
     SlotStatus(Slot),
-    Notices(SlotAt),
+    Notices(Slot),
     FoundPut(u64),
-    MissingPut(SlotAt),
+    MissingPut(Slot),
 }
 
-// What a read gets: value, absent, store, pass, hold (with the slot's place), retry.
+// What a read gets: value, absent, store, pass, hold, retry.
 #[derive(Clone, Copy)]
 pub enum ReadAnswer {
     Found(u64),
     Missing,
     FromStore,
     Consensus,
-    HeldBy(Slot, usize),
+    HeldBy(Slot),
     Again,
 }
 
@@ -80,7 +73,7 @@ fn is_responder(default: u64, id: Replica, stored: Option<u64>) -> bool
 }
 
 fn not_responder(stored: Option<u64>) -> Settled
-    ensures { (x : Machine) (s : List ℕ) → Settles x s (if_none stored then local.DefaultRoster else λ m. local.StoredRange) result }
+    ensures { settled_of result ≡ (if_none stored then local.DefaultRoster else λ m. local.StoredRange) }
 {
     match stored {
         Some(_) => Settled::StoredRange,
@@ -90,17 +83,10 @@ fn not_responder(stored: Option<u64>) -> Settled
 
 // ---- slots
 
-fn is_held(start: Slot, slots: usize, slot: Slot) -> bool
-    ensures { result ≡ held_at start.0 slots slot.0 }
+fn is_held(node: Node, slot: Slot) -> bool
+    ensures { result ≡ held_at node.start_slot.0 node.slots slot.0 }
 {
-    start <= slot && slot.0 - start.0 < slots as u64
-}
-
-// The place of a slot.
-fn place_of(slot: Slot) -> usize
-    ensures { result ≡ slot.0 % slot_places }
-{
-    (slot.0 % layout::PLACES) as usize
+    node.start_slot <= slot && slot.0 - node.start_slot.0 < node.slots as u64
 }
 
 // Accepting, with a notice book.
@@ -112,35 +98,31 @@ fn waits(cell: Cell) -> bool
 
 // ---- what settles a read
 
-fn inspect_highest_slot(node: Node, s: &[u64], key: Key, slot: Slot) -> Settled
-    requires { slot_words ≤ length s.now }
-    ensures { (m : List ℕ) → part m slots_at slot_words ≡ s.now → Settles (view node m) s.now (inspect_highest_slot (view node m) (bytes_of key) slot.0) result }
+fn inspect_highest_slot(node: Node, insts: Insts<'_>, key: Key, slot: Slot) -> Settled
+    ensures { (m : List ℕ) → part m slots_at slot_words ≡ insts.entry.words.now → settled_of result ≡ inspect_highest_slot (view node m) (bytes_of key) slot.0 }
 {
-    if !is_held(node.start_slot, node.slots, slot) {
+    if !is_held(node, slot) {
         return Settled::SlotStatus(slot);
     }
-    let place = place_of(slot);
-    let cell = insts::load(s, place);
+    let cell = insts.load(slot);
     if inst_cell::is_below_accepting(cell.status) {
         return Settled::SlotStatus(slot);
     }
-    let waits = waits(cell);
-    let at = SlotAt { slot, place, waits };
     if !release_held_reads::is_bound(cell, node.quorum) {
-        return Settled::Notices(at);
+        return Settled::Notices(slot);
     }
-    match insts::last_put(s, place, key) {
+    match insts.last_put(slot, key) {
         Some(value) => Settled::FoundPut(value),
-        None => Settled::MissingPut(at),
+        None => Settled::MissingPut(slot),
     }
 }
 
-fn inspect_latest_write(node: Node, s: &[u64], w: &[u64], key: Key) -> Settled
-    requires { (slot_words ≤ length s.now) × (written_words ≤ length w.now) }
-    ensures { (m : List ℕ) → part m slots_at slot_words ≡ s.now → part m written_at written_words ≡ w.now → Settles (view node m) s.now (inspect_latest_write (view node m) (bytes_of key)) result }
+fn inspect_latest_write(node: Node, insts: Insts<'_>, written: &[u64], key: Key) -> Settled
+    requires { written_words ≤ length written.now }
+    ensures { (m : List ℕ) → part m slots_at slot_words ≡ insts.entry.words.now → part m written_at written_words ≡ written.now → settled_of result ≡ inspect_latest_write (view node m) (bytes_of key) }
 {
-    match highest_slot::highest(w, key) {
-        Some(slot) if node.start_slot <= slot => inspect_highest_slot(node, s, key, slot),
+    match highest_slot::highest(written, key) {
+        Some(slot) if node.start_slot <= slot => inspect_highest_slot(node, insts, key, slot),
         _ => Settled::NoSlot,
     }
 }
@@ -148,7 +130,7 @@ fn inspect_latest_write(node: Node, s: &[u64], w: &[u64], key: Key) -> Settled
 // What settles a read of a key: its bytes, and the same packed.
 pub fn settled_by(node: Node, mem: &[u64], leases: u64, key: &[u8], packed: Key) -> Settled
     requires { (ready node mem.now ≡ true) × (bytes_of packed ≡ key.now) }
-    ensures { Settles (view node mem.now) (part mem.now slots_at slot_words) (settled (view node mem.now) leases key.now) result }
+    ensures { settled_of result ≡ settled (view node mem.now) leases key.now }
 {
     if is_stable_leader(node, leases) {
         return Settled::StableLeader;
@@ -169,7 +151,7 @@ pub fn settled_by(node: Node, mem: &[u64], leases: u64, key: &[u8], packed: Key)
     }
     inspect_latest_write(
         node,
-        &mem[layout::SLOTS_AT..layout::WRITTEN_AT],
+        node::insts(mem),
         &mem[layout::WRITTEN_AT..layout::NODE_WORDS],
         packed,
     )
@@ -179,7 +161,7 @@ pub fn settled_by(node: Node, mem: &[u64], leases: u64, key: &[u8], packed: Key)
 
 #[tactic(auto, unfolding(node::specs::View::view))]
 fn improper(node: Node) -> ReadAnswer
-    ensures { (m s : List ℕ) → Gets (view node m) s (improper (view node m)) result }
+    ensures { (m : List ℕ) → answer_in result ≡ improper (view node m) }
 {
     if is_leader(node) && node.bal_prepared.0 != 0 {
         ReadAnswer::Consensus
@@ -189,29 +171,33 @@ fn improper(node: Node) -> ReadAnswer
 }
 
 // A key that no slot at start or above wrote.
-fn unwritten(start: Slot) -> ReadAnswer
-    ensures { (x : Machine) (s : List ℕ) → start.0 ≡ x.bar.start → Gets x s (answer_of x local.NoSlot) result }
+#[tactic(auto, unfolding(node::specs::View::view))]
+fn unwritten(node: Node) -> ReadAnswer
+    ensures { (m : List ℕ) → answer_in result ≡ answer_of (view node m) local.NoSlot }
 {
-    if start.0 == 0 {
+    if node.start_slot.0 == 0 {
         ReadAnswer::Missing
     } else {
         ReadAnswer::FromStore
     }
 }
 
-fn waits_at(x: SlotAt) -> ReadAnswer
-    ensures { (y : Machine) (s : List ℕ) → Stands y s x → Gets y s (waits_at y x.slot.0) result }
+// Whether the slot that settles a read holds it.
+fn waits_at(node: Node, insts: Insts<'_>, slot: Slot) -> ReadAnswer
+    ensures { (m : List ℕ) → part m slots_at slot_words ≡ insts.entry.words.now → answer_in result ≡ waits_at (view node m) slot.0 }
 {
-    if x.waits {
-        ReadAnswer::HeldBy(x.slot, x.place)
-    } else {
-        ReadAnswer::Again
+    if !is_held(node, slot) {
+        return ReadAnswer::Again;
     }
+    if waits(insts.load(slot)) {
+        return ReadAnswer::HeldBy(slot);
+    }
+    ReadAnswer::Again
 }
 
-// What the read gets that this settled.
-pub fn answer_of(node: Node, settled: Settled) -> ReadAnswer
-    ensures { (m : List ℕ) → Located (view node m) (part m slots_at slot_words) settled → Gets (view node m) (part m slots_at slot_words) (answer_of (view node m) (settled_of settled)) result }
+// What the read gets that this settled. The match is on what was found, not on which step to run.
+pub fn answer_of(node: Node, insts: Insts<'_>, settled: Settled) -> ReadAnswer
+    ensures { (m : List ℕ) → part m slots_at slot_words ≡ insts.entry.words.now → answer_in result ≡ answer_of (view node m) (settled_of settled) }
 {
     match settled {
         Settled::StableLeader => ReadAnswer::FromStore,
@@ -220,9 +206,9 @@ pub fn answer_of(node: Node, settled: Settled) -> ReadAnswer
         | Settled::StoredRange
         | Settled::DefaultRoster
         | Settled::Bar => improper(node),
-        Settled::NoSlot => unwritten(node.start_slot),
+        Settled::NoSlot => unwritten(node),
         Settled::SlotStatus(_) => ReadAnswer::Again,
-        Settled::Notices(x) | Settled::MissingPut(x) => waits_at(x),
+        Settled::Notices(slot) | Settled::MissingPut(slot) => waits_at(node, insts, slot),
         Settled::FoundPut(value) => ReadAnswer::Found(value),
     }
 }
@@ -230,19 +216,23 @@ pub fn answer_of(node: Node, settled: Settled) -> ReadAnswer
 // What a read of a key gets: its bytes, and the same packed.
 pub fn read_answer(node: Node, mem: &[u64], leases: u64, key: &[u8], packed: Key) -> ReadAnswer
     requires { (ready node mem.now ≡ true) × (bytes_of packed ≡ key.now) }
-    ensures { Gets (view node mem.now) (part mem.now slots_at slot_words) (read_answer (view node mem.now) leases key.now) result }
+    ensures { answer_in result ≡ read_answer (view node mem.now) leases key.now }
 {
-    answer_of(node, settled_by(node, mem, leases, key, packed))
+    answer_of(
+        node,
+        node::insts(mem),
+        settled_by(node, mem, leases, key, packed),
+    )
 }
 
 // A read would be held by a slot that holds 16.
 pub fn overfills(node: Node, mem: &[u64], answer: ReadAnswer) -> bool
-    requires { (ready node mem.now ≡ true) × Places (view node mem.now) (part mem.now slots_at slot_words) answer }
+    requires { ready node mem.now ≡ true }
     ensures { result ≡ overfills (view node mem.now) (answer_in answer) }
 {
     match answer {
-        ReadAnswer::HeldBy(_, c) => {
-            Node::HOLD <= release_held_reads::holding(&mem[layout::SLOTS_AT..layout::WRITTEN_AT], c)
+        ReadAnswer::HeldBy(slot) if is_held(node, slot) => {
+            Node::HOLD <= release_held_reads::holding(node::insts(mem), slot)
         }
         _ => false,
     }
@@ -262,7 +252,7 @@ pub fn item_of(node: Node, client: u64, request: u64, answer: ReadAnswer) -> Ite
         ReadAnswer::Missing => Item::Absent { client, request },
         ReadAnswer::FromStore => Item::Store { client, request },
         ReadAnswer::Consensus => Item::Pass { client, request },
-        ReadAnswer::HeldBy(slot, _) => Item::Hold {
+        ReadAnswer::HeldBy(slot) => Item::Hold {
             client,
             request,
             slot,

@@ -21,7 +21,7 @@ read_answer-answer-requires c =
     (sym c.if-not-is_ready.ensures, law.bytes_are a.node a.mem.now a.area.now a.client a.request a.leases a.key.now (sym c.if-not-is_ready.ensures) c.pack.result c.pack.ensures c.in_ok-packed.packed (law.ok_is _ _ c.in_ok-packed.ensures.value))
 
 pub overfills-requires : goal.overfills-requires
-overfills-requires c = (sym c.if-not-is_ready.ensures, c.read_answer-answer.ensures.1)
+overfills-requires c = sym c.if-not-is_ready.ensures
 
 pub returns-then-overfills : goal.returns-then-overfills
 returns-then-overfills c =
@@ -34,26 +34,22 @@ returns-then-not-put_item c =
     law.few_20 a.node a.mem.now a.area.now a.client a.request a.leases a.key.now (sym c.if-not-is_ready.ensures) c.pack.result c.pack.ensures c.in_ok-packed.packed (law.ok_is _ _ c.in_ok-packed.ensures.value) c.read_answer-answer.result c.read_answer-answer.ensures
     _ c.overfills.ensures c.if-overfills.false c.item_of-item.result (c.item_of-item.ensures a.mem.now a.key.now) _ _ c.put_item.ensures c.if-not-put_item.true
 
-pub slice_bounds-push_read-end : goal.slice_bounds-push_read-end
-slice_bounds-push_read-end c = omega (arith, is_ready c.args.node c.args.mem.now _ c.if-not-is_ready.ensures refl)
+pub slice_bounds-hold-end : goal.slice_bounds-hold-end
+slice_bounds-hold-end c = omega (arith, is_ready c.args.node c.args.mem.now _ c.if-not-is_ready.ensures refl)
 
-pub push_read-requires : goal.push_read-requires
+pub hold-requires : goal.hold-requires
 unfolding part
-push_read-requires c =
-    let a = c.args in (
-      law.place_below a.node a.mem.now a.area.now a.client a.request a.leases a.key.now (sym c.if-not-is_ready.ensures) c.pack.result c.pack.ensures c.in_ok-packed.packed (law.ok_is _ _ c.in_ok-packed.ensures.value) c.read_answer-answer.result c.read_answer-answer.ensures
-          _ c.overfills.ensures c.if-overfills.false c.item_of-item.result (c.item_of-item.ensures a.mem.now a.key.now) _ _ c.put_item.ensures c.if-not-put_item.false _ _ c.in-HeldBy.is,
-      law.slots_long a.node a.mem.now (is_ready a.node a.mem.now _ c.if-not-is_ready.ensures refl),
-      law.has_room a.node a.mem.now a.area.now a.client a.request a.leases a.key.now (sym c.if-not-is_ready.ensures) c.pack.result c.pack.ensures c.in_ok-packed.packed (law.ok_is _ _ c.in_ok-packed.ensures.value) c.read_answer-answer.result c.read_answer-answer.ensures
-          _ c.overfills.ensures c.if-overfills.false c.item_of-item.result (c.item_of-item.ensures a.mem.now a.key.now) _ _ c.put_item.ensures c.if-not-put_item.false _ _ c.in-HeldBy.is,
-    )
+hold-requires c =
+    let a = c.args in
+    law.has_room a.node a.mem.now a.area.now a.client a.request a.leases a.key.now (sym c.if-not-is_ready.ensures) c.pack.result c.pack.ensures c.in_ok-packed.packed (law.ok_is _ _ c.in_ok-packed.ensures.value) c.read_answer-answer.result c.read_answer-answer.ensures
+    _ c.overfills.ensures c.if-overfills.false c.item_of-item.result (c.item_of-item.ensures a.mem.now a.key.now) _ _ c.put_item.ensures c.if-not-put_item.false _ c.in-HeldBy.is
 
 pub returns-in-HeldBy : goal.returns-in-HeldBy
 unfolding part
 returns-in-HeldBy c =
     let a = c.args in
     law.held a.node a.mem.now a.area.now a.client a.request a.leases a.key.now (sym c.if-not-is_ready.ensures) c.pack.result c.pack.ensures c.in_ok-packed.packed (law.ok_is _ _ c.in_ok-packed.ensures.value) c.read_answer-answer.result c.read_answer-answer.ensures
-    _ c.overfills.ensures c.if-overfills.false c.item_of-item.result (c.item_of-item.ensures a.mem.now a.key.now) _ _ c.put_item.ensures c.if-not-put_item.false _ _ c.in-HeldBy.is _ c.push_read.ensures
+    _ c.overfills.ensures c.if-overfills.false c.item_of-item.result (c.item_of-item.ensures a.mem.now a.key.now) _ _ c.put_item.ensures c.if-not-put_item.false _ c.in-HeldBy.is _ c.hold.ensures
 
 pub returns-in_default : goal.returns-in_default
 returns-in_default c =

@@ -1,10 +1,15 @@
-use Rattle.layout.specs.Layout.{slots_at, slot_words}
-use Rattle.inspect_latest_write.proofs.Laws as law
+use Rattle.std.proofs.Common.{sym, ap, ◌∙◌}
+use Rattle.bodega.specs.Localread as local
+use Rattle.bodega.specs.Request.{read_answer}
 use Rattle.node.specs.View.{view}
-use Rattle.words.specs.Part.{part}
+use Rattle.inspect_latest_write.proofs.Laws as law
 use Rattle.inspect_latest_write.proofs.read_answer.Goals as goal
 
+pub insts-requires : goal.insts-requires
+insts-requires c = law.words_long c.args.node c.args.mem.now c.requires.0
+
 pub returns : goal.returns
+unfolding read_answer
 returns c =
     let a = c.args in
-    law.answers_read (view a.node a.mem.now) (part a.mem.now slots_at slot_words) a.leases a.key.now c.settled_by.result c.answer_of.result c.settled_by.ensures (c.answer_of.ensures a.mem.now)
+    c.answer_of.ensures a.mem.now (sym c.insts.ensures) ∙ ap (local.answer_of (view a.node a.mem.now)) c.settled_by.ensures

@@ -1,7 +1,5 @@
-use Rattle.layout.specs.Layout.{slots_at, slot_words}
 use Rattle.inspect_latest_write.proofs.Laws as law
 use mathlib.Core.Path.{refl}
-use Rattle.node.specs.View.{view}
 use Rattle.words.specs.Part.{part}
 use Rattle.std.proofs.Common.{rules, sym, arith}
 use Rattle.std.proofs.lemmas.Map.Keys.{ge_from_not_lt}
@@ -33,7 +31,7 @@ pub returns-then-not-is_responder : goal.returns-then-not-is_responder
 unfolding part
 returns-then-not-is_responder c =
     let a = c.args in
-    law.settled_roster a.node a.mem.now a.leases a.key.now _ (c.is_stable_leader.ensures a.mem.now) c.if-is_stable_leader.false (omega arith) c.key_to_inty.result c.key_to_inty.ensures _ c.in-Some.is c.at-stored.result c.at-stored.ensures _ c.is_responder.ensures c.if-not-is_responder.true c.not_responder.result (c.not_responder.ensures (view a.node a.mem.now) (part a.mem.now slots_at slot_words))
+    law.settled_roster a.node a.mem.now a.leases a.key.now _ (c.is_stable_leader.ensures a.mem.now) c.if-is_stable_leader.false (omega arith) c.key_to_inty.result c.key_to_inty.ensures _ c.in-Some.is c.at-stored.result c.at-stored.ensures _ c.is_responder.ensures c.if-not-is_responder.true c.not_responder.result c.not_responder.ensures
 
 pub returns-then-lt : goal.returns-then-lt
 unfolding part
@@ -41,19 +39,19 @@ returns-then-lt c =
     let a = c.args in
     law.settled_bar a.node a.mem.now a.leases a.key.now _ (c.is_stable_leader.ensures a.mem.now) c.if-is_stable_leader.false (omega arith) c.key_to_inty.result c.key_to_inty.ensures _ c.in-Some.is c.at-stored.result c.at-stored.ensures _ c.is_responder.ensures c.if-not-is_responder.false (search rules)
 
+pub insts-requires : goal.insts-requires
+insts-requires c = law.words_long c.args.node c.args.mem.now c.requires.0
+
 pub slice_bounds-inspect_latest_write-end : goal.slice_bounds-inspect_latest_write-end
 slice_bounds-inspect_latest_write-end c = omega (arith, law.words_long c.args.node c.args.mem.now c.requires.0)
-
-pub slice_bounds-inspect_latest_write-end-2 : goal.slice_bounds-inspect_latest_write-end-2
-slice_bounds-inspect_latest_write-end-2 c = omega (arith, law.words_long c.args.node c.args.mem.now c.requires.0)
 
 pub inspect_latest_write-requires : goal.inspect_latest_write-requires
 unfolding part
 inspect_latest_write-requires c =
-    (law.slots_long c.args.node c.args.mem.now c.requires.0, law.written_long c.args.node c.args.mem.now c.requires.0)
+    law.written_long c.args.node c.args.mem.now c.requires.0
 
 pub returns : goal.returns
 unfolding part
 returns c =
     let a = c.args in
-    law.settled_latest a.node a.mem.now a.leases a.key.now _ (c.is_stable_leader.ensures a.mem.now) c.if-is_stable_leader.false (omega arith) c.key_to_inty.result c.key_to_inty.ensures _ c.in-Some.is c.at-stored.result c.at-stored.ensures _ c.is_responder.ensures c.if-not-is_responder.false (ge_from_not_lt a.node.commit_bar.0 a.node.peer_accept_max.0 (sym c.if-lt.ensures)) c.inspect_latest_write.result (law.packed_as (view a.node a.mem.now) (part a.mem.now slots_at slot_words) _ _ c.inspect_latest_write.result c.requires.1 (c.inspect_latest_write.ensures a.mem.now refl refl))
+    law.settled_latest a.node a.mem.now a.leases a.key.now _ (c.is_stable_leader.ensures a.mem.now) c.if-is_stable_leader.false (omega arith) c.key_to_inty.result c.key_to_inty.ensures _ c.in-Some.is c.at-stored.result c.at-stored.ensures _ c.is_responder.ensures c.if-not-is_responder.false (ge_from_not_lt a.node.commit_bar.0 a.node.peer_accept_max.0 (sym c.if-lt.ensures)) c.inspect_latest_write.result (rw c.requires.1 at (c.inspect_latest_write.ensures a.mem.now (sym c.insts.ensures) refl))
