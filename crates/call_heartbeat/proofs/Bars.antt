@@ -3,7 +3,7 @@ use Rattle.std.specs.Prelude.{if◌then◌else◌}
 use mathlib.Core.Path.{◌≡◌, refl, sym, ap, ◌∙◌}
 use mathlib.Core.Bool.{true}
 use mathlib.Core.List.{List, [], append-nil}
-use Prim.Native.Nat.{ℕ, ◌+◌, ◌-◌, ◌*◌, ◌≤◌, ◌<◌}
+use Prim.Native.Nat.{ℕ, ◌+◌, ◌*◌, ◌≤◌, ◌<◌}
 use native.Mathlib.Omega.{arith}
 use lib.ListN.{length, take, drop}
 use borrow.Author.Tests.{lt-ltb, le-ltb}
@@ -34,7 +34,7 @@ snapped n s = record n { snap_bar = s }
 
 module _ (n : Node) (m : List ℕ) (y : ready n m ≡ true) (ballot commit exec : ℕ) where
   abbrev words : List ℕ
-  words = take slot_words (drop slots_at m)
+  words = part m slots_at slot_words
 
   abbrev items : List Item
   items = (walked n.start_slot.0 n.slots n.commit_bar.0 ballot commit words).items
@@ -43,11 +43,10 @@ module _ (n : Node) (m : List ℕ) (y : ready n m ≡ true) (ballot commit exec 
   r = readied n m y
 
   words_long : length words ≡ slot_words
-  unfolding part
   words_long = length_part m slots_at slot_words (omega (arith, r.long))
 
-  pub asked : (n.start_slot.0 ≤ n.commit_bar.0) × (n.commit_bar.0 ≤ n.start_slot.0 + n.slots) × (n.start_slot.0 ≤ 281474976710655) × (n.slots ≤ 32) × (slot_words ≤ length words)
-  asked = let a = r.start_exec_lem in let b = r.exec_commit_lem in (omega arith, r.commit_end_lem, r.start_low_lem, r.window, omega (arith, words_long))
+  pub asked : (n.start_slot.0 ≤ n.commit_bar.0) × (n.commit_bar.0 ≤ n.start_slot.0 + n.slots)
+  asked = let a = r.start_exec_lem in let b = r.exec_commit_lem in (omega arith, r.commit_end_lem)
 
   low_is : (peer snap : ℕ) → exec < n.exec_bar.0 → heard_bars peer ballot commit exec snap (view n m) ≡ machine.done (view n m) []
   unfolding heard_bars view
@@ -73,15 +72,15 @@ module _ (n : Node) (m : List ℕ) (y : ready n m ≡ true) (ballot commit exec 
     abbrev due : machine.Done
     due = heard_bars peer ballot commit exec snap (view n m)
 
-    pub low_does : exec < n.exec_bar.0 → Does due place m area (record { number = 0; count = 0; node = n }) m area
+    pub low_does : exec < n.exec_bar.0 → Does due place m area n place m area
     unfolding encode
     low_does h =
         let e = low_is peer snap h in
-        rw e (record { number = refl; count = refl; next = refl; items = refl; size = refl; beyond = λ j l. refl; ready_again = y })
+        rw e (record { count = (let z : place ≡ place + 0 = omega arith in z); next = refl; items = refl; size = refl; beyond = λ j l. refl; ready_again = y })
 
     module _ (h : n.exec_bar.0 ≤ exec) (o : place + length due.items ≤ places area) where
-      pub room : (n.start_slot.0 ≤ n.commit_bar.0) × (n.commit_bar.0 ≤ n.start_slot.0 + n.slots) × (n.start_slot.0 ≤ 281474976710655) × (n.slots ≤ 32) × (slot_words ≤ length words) × (place + length items ≤ places area)
-      room = let a = asked in (a.0, a.1, a.2, a.3, a.4, rw (← (items_are h peer snap)) o)
+      pub room : (slot_words ≤ length words) × (n.start_slot.0 ≤ n.commit_bar.0) × (n.commit_bar.0 ≤ n.start_slot.0 + n.slots) × (place + length items ≤ places area)
+      room = (omega (arith, words_long), asked.0, asked.1, rw (← (items_are h peer snap)) o)
 
       module _ (end : ℕ) (s' area' : List ℕ) (a : Advances place n.start_slot.0 n.slots n.commit_bar.0 ballot commit words area end s' area') where
         abbrev m₁ : List ℕ
@@ -102,9 +101,6 @@ module _ (n : Node) (m : List ℕ) (y : ready n m ≡ true) (ballot commit exec 
 
         pub heard_room : (n.population ≤ length (take 64 (drop 128 m₁))) × (peer < n.population)
         heard_room = (rw execs_long r.few, p)
-
-        pub no_less : place ≤ end
-        no_less = omega (arith, a.next)
 
         abbrev walked_to : machine.Replica
         walked_to = machine.with_insts (insts_of n.start_slot.0 n.slots s') (view n m)
@@ -142,11 +138,10 @@ module _ (n : Node) (m : List ℕ) (y : ready n m ≡ true) (ballot commit exec 
           unfolding ready
           again = execs_ready n m₁ size_1 e' short ∙ slots_ready n m r.long s' long ∙ y
 
-          pub high_does : Does due place m area (record { number = 0; count = end - place; node = snapped n x }) m₂ area'
+          pub high_does : Does due place m area (snapped n x) end m₂ area'
           high_does =
               record {
-                number = refl;
-                count = (let q : end - place ≡ length items = omega (arith, a.next) in q) ∙ sym (ap length (items_are h peer snap));
+                count = a.next ∙ sym (ap (λ (z : List Item). place + length z) (items_are h peer snap));
                 next = next_is ∙ bars_are;
                 items = a.items ∙ sym (ap (λ (z : List Item). writes area (place * 6) (encode z)) (items_are h peer snap));
                 size = execs_size n m₁ size_1 e' short ∙ size₁;

@@ -4,6 +4,7 @@ use mathlib.Core.Path.{◌≡◌, refl, sym, ap, ◌∙◌}
 use mathlib.Core.Bool.{Bool, true, false, ◌&&◌, ◌||◌}
 use mathlib.Core.List.{List}
 use Prim.Native.Nat.{ℕ, ◌+◌, ◌*◌, ◌≤◌, ◌<◌}
+use native.Mathlib.Nat.{zero-add}
 use native.Mathlib.Omega.{arith}
 use lib.Dec.{leb}
 use lib.ListN.{length, length-append}
@@ -30,7 +31,7 @@ use Rattle.insts.proofs.Laws.{length_insts}
 use Rattle.advance_commit_bar.proofs.Items.{items_then}
 use Rattle.node.specs.declared.Node.{Node}
 use Rattle.node.specs.declared.Taken as node
-use Rattle.node.specs.View.{view, ready, taken_of, given_of, lowest, leads_it}
+use Rattle.node.specs.View.{view, ready, given_of, lowest, leads_it}
 use Rattle.node.proofs.Calls.{is_ready, number-not-0, refused_by, few_places, taken_with, taken_by, none_applies}
 use Rattle.become_a_leader.specs.StepUp.{slots_after}
 use Rattle.heard_new_conf.specs.Does.{Does, whole}
@@ -40,12 +41,12 @@ use Rattle.call_heartbeat.specs.Heartbeat.{fitting, carried, early, installed, a
 
 -- ---- the items counted
 
-module _ (n : Node) (m : List ℕ) (ballot commit exec : ℕ) where
+module _ (n : Node) (m : List ℕ) (peer ballot commit exec snap : ℕ) where
   abbrev Counts : Option RespondersConf → ℕ → Type 0
-  Counts o r = (peer snap : ℕ) (rows : List ℕ) → r ≡ length (heard_by (carried o rows) peer ballot commit exec snap (view n m)).items
+  Counts o r = (rows : List ℕ) → r ≡ length (heard_by (carried o rows) peer ballot commit exec snap (view n m)).items
 
-  pub bars_only : (o : Option RespondersConf) → o ≡ None → (k : ℕ) → ((peer snap : ℕ) → k ≡ length (heard_bars peer ballot commit exec snap (view n m)).items) → Counts o k
-  bars_only o f k e peer snap rows = rw f (e peer snap ∙ sym (ap length (none_count peer ballot commit exec snap (view n m))))
+  pub bars_only : (o : Option RespondersConf) → o ≡ None → (k : ℕ) → k ≡ length (heard_bars peer ballot commit exec snap (view n m)).items → Counts o k
+  bars_only o f k e rows = rw f (e ∙ sym (ap length (none_count peer ballot commit exec snap (view n m))))
 
   module _ (o : Option RespondersConf) (c : RespondersConf) (f : o ≡ Some c) (t : Bool) (g : t ≡ leads_it (leader_of c.leader) n.id.0) where
     leads_is : (rows : List ℕ) → leads (roster_of c rows) (view n m).me.id ≡ t
@@ -53,77 +54,71 @@ module _ (n : Node) (m : List ℕ) (ballot commit exec : ℕ) where
     leads_is rows = sym g
 
     pub step_up_count : t ≡ true → (k : ℕ) → ((b : ℕ) (rows : List ℕ) → k ≡ length (heard_new_conf (view n m) b (roster_of c rows)).items) → Counts o k
-    step_up_count h k e peer snap rows =
+    step_up_count h k e rows =
         rw f (e ballot rows ∙ sym (ap length (leading_count peer ballot commit exec snap (view n m) (roster_of c rows) (leads_is rows ∙ h))))
 
-    pub bars_count : t ≡ false → (k : ℕ) → ((peer snap : ℕ) → k ≡ length (heard_bars peer ballot commit exec snap (view n m)).items) → Counts o k
-    bars_count h k e peer snap rows =
-        rw f (e peer snap ∙ sym (ap length (following_count peer ballot commit exec snap (view n m) (roster_of c rows) (leads_is rows ∙ h))))
+    pub bars_count : t ≡ false → (k : ℕ) → k ≡ length (heard_bars peer ballot commit exec snap (view n m)).items → Counts o k
+    bars_count h k e rows =
+        rw f (e ∙ sym (ap length (following_count peer ballot commit exec snap (view n m) (roster_of c rows) (leads_is rows ∙ h))))
 
 -- ---- the roster
 
-module _ (n : Node) (m area : List ℕ) (y : ready n m ≡ true) (ballot : ℕ) (o : Option RespondersConf) (rows : List ℕ) where
-  pub conf_same : o ≡ None → Does (conf_by (carried o rows) ballot (view n m)) 0 m area (record { number = 0; count = 0; node = n }) m area
+module _ (n : Node) (m area : List ℕ) (y : ready n m ≡ true) (ballot : ℕ) (o : Option RespondersConf) (rows : List ℕ) (place : ℕ) where
+  pub conf_same : o ≡ None → Does (conf_by (carried o rows) ballot (view n m)) place m area n place m area
   unfolding encode
-  conf_same f = rw f (record { number = refl; count = refl; next = refl; items = refl; size = refl; beyond = λ j l. refl; ready_again = y })
+  conf_same f = rw f (record { count = (let z : place ≡ place + 0 = omega arith in z); next = refl; items = refl; size = refl; beyond = λ j l. refl; ready_again = y })
 
   module _ (c : RespondersConf) (f : o ≡ Some c) where
-    pub conf_room : Installable n m o rows → length (conf_by (carried o rows) ballot (view n m)).items ≤ places area
-        → (ready n m ≡ true) × (whole c.count rows ≡ true) × (leads (roster_of c rows) n.id.0 ≡ true → slots_after n.slots (view n m).insts ≤ 32) × (length (heard_new_conf (view n m) ballot (roster_of c rows)).items ≤ places area)
+    pub conf_room : Installable n m o rows → place + length (conf_by (carried o rows) ballot (view n m)).items ≤ places area
+        → (ready n m ≡ true) × (whole c.count rows ≡ true) × (leads (roster_of c rows) n.id.0 ≡ true → slots_after n.slots (view n m).insts ≤ 32)
+        × (place + length (heard_new_conf (view n m) ballot (roster_of c rows)).items ≤ places area)
     conf_room q p = (y, (let w = q.roster in rw f at w), q.room c f, rw f at p)
 
-    pub conf_does : (g : Given Node) (m' area' : List ℕ) → Does (heard_new_conf (view n m) ballot (roster_of c rows)) 0 m area g m' area'
-        → Does (conf_by (carried o rows) ballot (view n m)) 0 m area g m' area'
-    conf_does g m' area' x = rw f x
+    pub conf_does : (g : Node) (r : ℕ) (m' area' : List ℕ) → Does (heard_new_conf (view n m) ballot (roster_of c rows)) place m area g r m' area'
+        → Does (conf_by (carried o rows) ballot (view n m)) place m area g r m' area'
+    conf_does g r m' area' x = rw f x
 
 -- ---- one part after the other
 
-does_then : {d : machine.Done} (f : machine.Replica → machine.Done) {m area m₁ area₁ m₂ area₂ : List ℕ} {g h : Given Node}
-    → Does d 0 m area g m₁ area₁ → Does (f (view g.node m₁)) g.count m₁ area₁ h m₂ area₂
-    → Does (d and_then f) 0 m area (record { number = 0; count = g.count + h.count; node = h.node }) m₂ area₂
-does_then {d = d} f {area = area} {g = g} a b =
+does_then : {d : machine.Done} (f : machine.Replica → machine.Done) {place k j : ℕ} {m area m₁ area₁ m₂ area₂ : List ℕ} {g h : Node}
+    → Does d place m area g k m₁ area₁ → Does (f (view g m₁)) k m₁ area₁ h j m₂ area₂
+    → Does (d and_then f) place m area h j m₂ area₂
+does_then {d = d} f {place = place} {k = k} {area = area} a b =
     record {
-      number = refl;
-      count = rw (a.count, b.count, a.next) (sym (length-append d.items (f d.replica).items));
+      count = (let z = a.count in let w = b.count in let v = ap (λ (r : machine.Replica). length (f r).items) a.next in omega (arith, length-append d.items (f d.replica).items));
       next = b.next ∙ ap (λ (r : machine.Replica). (f r).replica) a.next;
-      items = b.items ∙ rw (a.items, a.next) (items_then area 0 g.count d.items (f d.replica).items (let z = a.count in omega (arith, z)));
+      items = b.items ∙ rw (a.items, a.next) (items_then area place k d.items (f d.replica).items a.count);
       size = b.size ∙ a.size;
       beyond = λ j l. b.beyond j l ∙ a.beyond j l;
       ready_again = b.ready_again;
     }
 
-module _ (n : Node) (m area : List ℕ) (peer ballot : ℕ) (conf : Option Conf) (commit exec snap : ℕ) (p : peer < n.population)
-    (o : length (heard_by conf peer ballot commit exec snap (view n m)).items ≤ places area) where
+module _ (n : Node) (m area : List ℕ) (peer ballot : ℕ) (conf : Option Conf) (commit exec snap place : ℕ) (p : peer < n.population)
+    (o : place + length (heard_by conf peer ballot commit exec snap (view n m)).items ≤ places area) where
   abbrev first : machine.Done
   first = conf_by conf ballot (view n m)
 
   total : length (heard_by conf peer ballot commit exec snap (view n m)).items ≡ length first.items + length (heard_bars peer ballot commit exec snap first.replica).items
   total = both_count conf peer ballot commit exec snap (view n m)
 
-  pub first_room : length first.items ≤ places area
+  pub first_room : place + length first.items ≤ places area
   first_room = omega (arith, total, o)
 
-  module _ (g : Given Node) (m₁ area₁ : List ℕ) (x : Does first 0 m area g m₁ area₁) where
-    members : g.node.population ≡ n.population
+  module _ (g : Node) (k : ℕ) (m₁ area₁ : List ℕ) (x : Does first place m area g k m₁ area₁) where
+    members : g.population ≡ n.population
     unfolding view
     members = ap (λ (r : machine.Replica). r.me.population) x.next ∙ ap (λ (z : machine.Me). z.population) (me_same conf ballot (view n m))
 
     same_places : places area₁ ≡ places area
-    same_places = ap places x.items ∙ rw (length_writes area (0 * 6) (encode first.items))
+    same_places = ap places x.items ∙ rw (length_writes area (place * 6) (encode first.items))
 
-    pub then_room : (ready g.node m₁ ≡ true) × (peer < g.node.population) × (g.count + length (heard_bars peer ballot commit exec snap (view g.node m₁)).items ≤ places area₁)
-    then_room = (x.ready_again, rw members p, rw (same_places, x.count, x.next, ← total) o)
+    pub then_room : (ready g m₁ ≡ true) × (peer < g.population) × (k + length (heard_bars peer ballot commit exec snap (view g m₁)).items ≤ places area₁)
+    then_room = (x.ready_again, rw members p, rw (same_places, x.next) (let c = x.count in omega (arith, total, o)))
 
-    module _ (h : Given Node) (m₂ area₂ : List ℕ) (z : Does (heard_bars peer ballot commit exec snap (view g.node m₁)) g.count m₁ area₁ h m₂ area₂) where
-      pub sum_room : g.count + h.count ≤ places area
-      sum_room = rw (x.count, z.count, x.next, ← total) o
-
-      pub heard_size : length m₂ ≡ length m
-      heard_size = z.size ∙ x.size
-
-      pub heard_does : Does (heard_by conf peer ballot commit exec snap (view n m)) 0 m area (record { number = 0; count = g.count + h.count; node = h.node }) m₂ area₂
-      unfolding heard_by
-      heard_does = does_then (heard_bars peer ballot commit exec snap) x z
+    pub heard_does : (h : Node) (j : ℕ) (m₂ area₂ : List ℕ) → Does (heard_bars peer ballot commit exec snap (view g m₁)) k m₁ area₁ h j m₂ area₂
+        → Does (heard_by conf peer ballot commit exec snap (view n m)) place m area h j m₂ area₂
+    unfolding heard_by
+    heard_does h j m₂ area₂ z = does_then (heard_bars peer ballot commit exec snap) x z
 
 -- ---- the one statement, where more than the node and the buffer is tested for refusal 2
 
@@ -258,17 +253,17 @@ module _ (n : Node) (m area : List ℕ) (peer ballot : ℕ) (o : Option Responde
             beat_20 l = answers_both beat n m area fits fine (given_of n (Err AreaTooSmall)) m area (few_places beat n m allowed area true (sym y) refl (rw (heard_is, ← p) l))
 
             module _ (l : q ≤ places area) where
-              pub beat_taken : (r : node.Taken) (m' area' : List ℕ) → Does heard 0 m area (taken_of r) m' area' → Gives (given_of n (Ok r)) m' area'
-              beat_taken r m' area' d =
-                  answers_both beat n m area fits fine (given_of n (Ok r)) m' area'
-                  (rw d.count
-                  (taken_with beat n m allowed area true (sym y) refl heard.replica heard.items r.node m' area' heard_is (rw (← p) l) d.next d.items d.size d.beyond d.ready_again))
+              pub beat_taken : (g : Node) (k : ℕ) (m' area' : List ℕ) → Does heard 0 m area g k m' area' → Gives (given_of n (Ok (record { node = g; count = k }))) m' area'
+              beat_taken g k m' area' d =
+                  answers_both beat n m area fits fine (given_of n (Ok (record { node = g; count = k }))) m' area'
+                  (rw (d.count ∙ zero-add (length heard.items))
+                  (taken_with beat n m allowed area true (sym y) refl heard.replica heard.items g m' area' heard_is (rw (← p) l) d.next d.items d.size d.beyond d.ready_again))
 
   -- what the parts of a heartbeat ask for
   pub heard_room : (y : ready n m ≡ true) (fine : fits ≡ true) (d : Option RespondersConf) → fitting d rows ≡ true
       → (g : 0 ≡ lowest (early n.population n.bal_max_seen.0 peer ballot conf commit exec snap)) (j : carried d rows ≡ installed (view n m) peer ballot conf) (s : Bool)
       (a : s ≡ appending (view n m) ballot (carried d rows) && no_room (view n m)) (x : s ≡ false) (h : n.bal_max_seen.0 ≤ ballot) (q : ℕ)
       (p : q ≡ length (heard_by (carried d rows) peer ballot commit exec snap (view n m)).items) → q ≤ places area
-      → (ready n m ≡ true) × (peer < n.population) × Installable n m d rows × (length (heard_by (carried d rows) peer ballot commit exec snap (view n m)).items ≤ places area)
+      → (ready n m ≡ true) × (peer < n.population) × Installable n m d rows × (0 + length (heard_by (carried d rows) peer ballot commit exec snap (view n m)).items ≤ places area)
   heard_room y fine d w g j s a x h q p l =
-      (y, below y fine g (carried d rows) j s a x h, installable y fine g (carried d rows) j s a x h d w refl, rw (← p) l)
+      (y, below y fine g (carried d rows) j s a x h, installable y fine g (carried d rows) j s a x h d w refl, rw (zero-add (length (heard_by (carried d rows) peer ballot commit exec snap (view n m)).items), ← p) l)

@@ -10,7 +10,7 @@ use lib.Dec.{ltb, leb}
 use lib.ListN.{length, take, drop}
 use Rattle.layout.specs.Layout.{slots_at, slot_words}
 use Rattle.words.specs.Choice.{if_none◌then◌else◌}
-use Rattle.words.specs.Part.{part, length_part}
+use Rattle.words.specs.Part.{part}
 use Rattle.ids.specs.Leader.{leader_of}
 use Rattle.roster_conf.specs.Conf.{Conf, leads, same}
 use Rattle.roster_conf.specs.Edits.{view as roster_of}
@@ -45,20 +45,15 @@ module _ (n : Node) (m : List ℕ) (y : ready n m ≡ true) (peer ballot : ℕ) 
 
 -- ---- 15
 
-module _ (n : Node) (m : List ℕ) (y : ready n m ≡ true) (ballot : ℕ) where
-  pub slots_room : (n.start_slot.0 ≤ 281474976710655) × (n.slots ≤ 32) × (slot_words ≤ length (take slot_words (drop slots_at m)))
-  unfolding part
-  slots_room = let r = readied n m y in (r.start_low_lem, r.window, omega (arith, length_part m slots_at slot_words (omega (arith, r.long))))
+pub open_is : (n : Node) (m : List ℕ) (t : Bool) → t ≡ any (λ (j : machine.Instance). machine.is_open j.status) (insts_of n.start_slot.0 n.slots (part m slots_at slot_words)) → t ≡ any_open (view n m).insts
+unfolding view
+open_is n m t e = e ∙ any_is (insts_of n.start_slot.0 n.slots (part m slots_at slot_words))
 
-  abbrev insts : List machine.Instance
-  insts = insts_of n.start_slot.0 n.slots (take slot_words (drop slots_at m))
-
-  -- what the code tests
-  pub lacks_is : (c : RespondersConf) (rows : List ℕ) → appending (view n m) ballot (Some (roster_of c rows)) && no_room (view n m)
-      ≡ leb n.bal_max_seen.0 ballot && leads_it (leader_of c.leader) n.id.0 && not (any (λ (j : machine.Instance). machine.is_open j.status) insts)
-      && (leb 32 n.slots || ltb 281474976710655 (n.start_slot.0 + n.slots))
-  unfolding view part roster_of
-  lacks_is c rows = rw (any_is insts, length_insts n.start_slot.0 n.slots (take slot_words (drop slots_at m)))
+-- what the code tests
+pub lacks_is : (n : Node) (m : List ℕ) (ballot : ℕ) (c : RespondersConf) (rows : List ℕ) → appending (view n m) ballot (Some (roster_of c rows)) && no_room (view n m)
+    ≡ leb n.bal_max_seen.0 ballot && leads_it (leader_of c.leader) n.id.0 && not (any_open (view n m).insts) && (leb 32 n.slots || ltb 281474976710655 (n.start_slot.0 + n.slots))
+unfolding view roster_of
+lacks_is n m ballot c rows = rw (length_insts n.start_slot.0 n.slots (part m slots_at slot_words))
 
 -- ---- all of them
 

@@ -6,78 +6,75 @@ ghost use Rattle.items.specs.Item.{places};
 ghost use Rattle.roster_conf.specs.Edits.{view as roster_of};
 ghost use Rattle.bodega.specs.Replica.{Heartbeat};
 ghost use Rattle.bodega.specs.Answers.{Answers};
+ghost use Rattle.bodega.specs.Conflease.{any_open};
 ghost use Rattle.bodega.specs.Heartbeat.{installs, heard_bars};
 ghost use Rattle.bodega.specs.Grounds.{far, unformed, foreign_leader, foreign_mask, no_room};
-ghost use Rattle.node.specs.View.{view, ready, taken_of, given_of, lowest};
+ghost use Rattle.node.specs.View.{view, ready, given_of, lowest};
 ghost use Rattle.heard_new_conf.specs.Does.{Does, whole};
 ghost use Rattle.call_heartbeat.specs.Heartbeat.{fitting, carried, lacks_roster, early, installed, appending, conf_by, heard_by, Installable};
 ghost use Rattle.ids.specs.Refusal.{refused_by};
 
 use ids::{Ballot, Refusal, Replica, Slot};
+use items::Items;
 use node::{Node, Taken};
 use roster_conf::RespondersConf;
 
-// ---- the bars
-
-// Slots below the commit bar become Committed, with their items from a place of the area on; then a peer's exec and
-// snap bar.
-fn heard_bars(
-    node: Node,
-    mem: &mut [u64],
-    area: &mut [u64],
-    place: usize,
+// A heartbeat without the roster that may be attached to it.
+#[derive(Clone, Copy)]
+struct Beat {
     peer: Replica,
     ballot: Ballot,
     commit: Slot,
     exec: Slot,
     snap: Slot,
-) -> Taken
-    requires { (ready node mem.old ≡ true) × (peer.0 < node.population) × (place + length (heard_bars peer.0 ballot.0 commit.0 exec.0 snap.0 (view node mem.old)).items ≤ places area.old) }
-    ensures { Does (heard_bars peer.0 ballot.0 commit.0 exec.0 snap.0 (view node mem.old)) place mem.old area.old (taken_of result) mem.new area.new }
+}
+
+// ---- the bars
+
+// Slots below the commit bar become Committed, with their items; then a peer's exec and snap bar.
+fn heard_bars(node: Node, mem: &mut [u64], beat: Beat, items: &mut Items<'_>) -> Node
+    requires { (ready node mem.old ≡ true) × (beat.peer.0 < node.population) × (items.old.count + length (heard_bars beat.peer.0 beat.ballot.0 beat.commit.0 beat.exec.0 beat.snap.0 (view node mem.old)).items ≤ places items.old.area.now) }
+    ensures same_area { items.new.area.ghost_name ≡ items.old.area.ghost_name }
+    ensures does { Does (heard_bars beat.peer.0 beat.ballot.0 beat.commit.0 beat.exec.0 beat.snap.0 (view node mem.old)) items.old.count mem.old items.old.area.now result items.new.count mem.new items.new.area.now }
 {
-    if exec < node.exec_bar {
-        return Taken { node, count: 0 };
+    if beat.exec < node.exec_bar {
+        return node;
     }
-    let end = advance_commit_bar::advance(
+    let window = node::window(node, mem);
+    advance_commit_bar::advance(
         &mut mem[layout::SLOTS_AT..layout::WRITTEN_AT],
-        area,
-        place,
-        node.start_slot,
-        node.slots,
+        window,
         node.commit_bar,
-        ballot,
-        commit,
+        beat.ballot,
+        beat.commit,
+        items,
     );
     let snap_bar = peer_exec_bar::heard_peer(
         &mut mem[layout::EXECS_AT..layout::ROWS_AT],
         node.population,
         node.id,
         node.snap_bar,
-        peer,
-        exec,
-        snap,
+        beat.peer,
+        beat.exec,
+        beat.snap,
     );
-    Taken {
-        node: Node { snap_bar, ..node },
-        count: end - place,
-    }
+    Node { snap_bar, ..node }
 }
 
 // How many items that has.
-fn count_bars(node: Node, mem: &[u64], ballot: Ballot, commit: Slot, exec: Slot) -> usize
+fn count_bars(node: Node, mem: &[u64], beat: Beat) -> usize
     requires { ready node mem.now ≡ true }
-    ensures { (peer snap : ℕ) → result ≡ length (heard_bars peer ballot.0 commit.0 exec.0 snap (view node mem.now)).items }
+    ensures { result ≡ length (heard_bars beat.peer.0 beat.ballot.0 beat.commit.0 beat.exec.0 beat.snap.0 (view node mem.now)).items }
 {
-    if exec < node.exec_bar {
+    if beat.exec < node.exec_bar {
         return 0;
     }
     advance_commit_bar::count_commits(
-        &mem[layout::SLOTS_AT..layout::WRITTEN_AT],
-        node.start_slot,
-        node.slots,
+        node::insts(mem),
+        node::window(node, mem),
         node.commit_bar,
-        ballot,
-        commit,
+        beat.ballot,
+        beat.commit,
     )
 }
 
@@ -94,19 +91,12 @@ fn is_fitting(conf: Option<RespondersConf>, rows: &[u64]) -> bool
 }
 
 // Whether a roster is to be installed: at a higher ballot, or another one of the ballot's proposer.
-fn installs(
-    node: Node,
-    mem: &[u64],
-    peer: Replica,
-    ballot: Ballot,
-    conf: RespondersConf,
-    rows: &[u64],
-) -> bool
+fn installs(node: Node, mem: &[u64], beat: Beat, conf: RespondersConf, rows: &[u64]) -> bool
     requires { (ready node mem.now ≡ true) × (whole conf.count rows.now ≡ true) }
-    ensures { result ≡ installs (view node mem.now) peer.0 ballot.0 (roster_of conf rows.now) }
+    ensures { result ≡ installs (view node mem.now) beat.peer.0 beat.ballot.0 (roster_of conf rows.now) }
 {
-    node.bal_max_seen < ballot
-        || (roster_compare::from_proposer(peer, ballot)
+    node.bal_max_seen < beat.ballot
+        || (roster_compare::from_proposer(beat.peer, beat.ballot)
             && !roster_compare::same(
                 conf,
                 rows,
@@ -119,16 +109,15 @@ fn installs(
 fn installed(
     node: Node,
     mem: &[u64],
-    peer: Replica,
-    ballot: Ballot,
+    beat: Beat,
     conf: Option<RespondersConf>,
     rows: &[u64],
 ) -> Option<RespondersConf>
     requires { (ready node mem.now ≡ true) × (fitting conf rows.now ≡ true) }
-    ensures { (carried result rows.now ≡ installed (view node mem.now) peer.0 ballot.0 (carried conf rows.now)) × (fitting result rows.now ≡ true) }
+    ensures { (carried result rows.now ≡ installed (view node mem.now) beat.peer.0 beat.ballot.0 (carried conf rows.now)) × (fitting result rows.now ≡ true) }
 {
     let conf = conf?;
-    installs(node, mem, peer, ballot, conf, rows).then_some(conf)
+    installs(node, mem, beat, conf, rows).then_some(conf)
 }
 
 // ---- refusals
@@ -157,10 +146,10 @@ fn is_misfit(population: u8, conf: Option<RespondersConf>, rows: &[u64]) -> bool
 }
 
 // 8.
-fn is_far(commit: Slot, exec: Slot, snap: Slot) -> bool
-    ensures { result ≡ far commit.0 || far exec.0 || far snap.0 }
+fn is_far(beat: Beat) -> bool
+    ensures { result ≡ far beat.commit.0 || far beat.exec.0 || far beat.snap.0 }
 {
-    Slot::TOP < commit || Slot::TOP < exec || Slot::TOP < snap
+    Slot::TOP < beat.commit || Slot::TOP < beat.exec || Slot::TOP < beat.snap
 }
 
 // 12.
@@ -168,6 +157,14 @@ fn lacks_roster(seen: Ballot, ballot: Ballot, conf: Option<RespondersConf>) -> b
     ensures { result ≡ lacks_roster seen.0 ballot.0 conf }
 {
     seen < ballot && conf.is_none()
+}
+
+// Whether a slot that the node holds is open.
+fn any_open(node: Node, mem: &[u64]) -> bool
+    requires { ready node mem.now ≡ true }
+    ensures { result ≡ any_open (view node mem.now).insts }
+{
+    node::insts(mem).any_open(node::window(node, mem))
 }
 
 // 15: for a null slot, at a step-up that finds no slot open.
@@ -179,11 +176,7 @@ fn lacks_slot(node: Node, mem: &[u64], ballot: Ballot, conf: Option<RespondersCo
         Some(c) => {
             node.bal_max_seen <= ballot
                 && node::leads(c.leader, node.id)
-                && !insts::any_open(
-                    &mem[layout::SLOTS_AT..layout::WRITTEN_AT],
-                    node.start_slot,
-                    node.slots,
-                )
+                && !any_open(node, mem)
                 && (Node::WINDOW <= node.slots
                     || Slot::TOP.0 < node.start_slot.0 + node.slots as u64)
         }
@@ -193,32 +186,27 @@ fn lacks_slot(node: Node, mem: &[u64], ballot: Ballot, conf: Option<RespondersCo
 
 // The first refusal before 15; what 2 says of buffers is not among them.
 fn early_refusal(
-    population: u8,
-    seen: Ballot,
-    peer: Replica,
-    ballot: Ballot,
+    node: Node,
+    beat: Beat,
     conf: Option<RespondersConf>,
     rows: &[u64],
-    commit: Slot,
-    exec: Slot,
-    snap: Slot,
 ) -> Result<(), Refusal>
     requires { fitting conf rows.now ≡ true }
-    ensures { refused_by result ≡ lowest (early population seen.0 peer.0 ballot.0 (carried conf rows.now) commit.0 exec.0 snap.0) }
+    ensures { refused_by result ≡ lowest (early node.population node.bal_max_seen.0 beat.peer.0 beat.ballot.0 (carried conf rows.now) beat.commit.0 beat.exec.0 beat.snap.0) }
 {
     if is_unformed(conf, rows) {
         return Err(Refusal::NotReady);
     }
-    if is_foreign(population, peer, conf) {
+    if is_foreign(node.population, beat.peer, conf) {
         return Err(Refusal::NoSuchReplica);
     }
-    if is_misfit(population, conf, rows) {
+    if is_misfit(node.population, conf, rows) {
         return Err(Refusal::MaskTooWide);
     }
-    if is_far(commit, exec, snap) {
+    if is_far(beat) {
         return Err(Refusal::SlotTooLarge);
     }
-    if lacks_roster(seen, ballot, conf) {
+    if lacks_roster(node.bal_max_seen, beat.ballot, conf) {
         return Err(Refusal::RosterMissing);
     }
     Ok(())
@@ -227,40 +215,34 @@ fn early_refusal(
 // ---- `heard_heartbeat`, of the roster that is to be installed, if any
 
 // How many items a heartbeat has whose ballot is not lower.
-fn count_items(
-    node: Node,
-    mem: &[u64],
-    ballot: Ballot,
-    conf: Option<RespondersConf>,
-    commit: Slot,
-    exec: Slot,
-) -> usize
+fn count_items(node: Node, mem: &[u64], beat: Beat, conf: Option<RespondersConf>) -> usize
     requires { ready node mem.now ≡ true }
-    ensures { (peer snap : ℕ) (rows : List ℕ) → result ≡ length (heard_by (carried conf rows) peer ballot.0 commit.0 exec.0 snap (view node mem.now)).items }
+    ensures { (rows : List ℕ) → result ≡ length (heard_by (carried conf rows) beat.peer.0 beat.ballot.0 beat.commit.0 beat.exec.0 beat.snap.0 (view node mem.now)).items }
 {
     if let Some(c) = conf
         && node::leads(c.leader, node.id)
     {
         return heard_new_conf::count_new_conf(node, mem, c);
     }
-    count_bars(node, mem, ballot, commit, exec)
+    count_bars(node, mem, beat)
 }
 
 // The roster, where it is installed.
 fn heard_conf(
     node: Node,
     mem: &mut [u64],
-    area: &mut [u64],
     ballot: Ballot,
     conf: Option<RespondersConf>,
     rows: &[u64],
-) -> Taken
-    requires { (ready node mem.old ≡ true) × Installable node mem.old conf rows.now × (length (conf_by (carried conf rows.now) ballot.0 (view node mem.old)).items ≤ places area.old) }
-    ensures { Does (conf_by (carried conf rows.now) ballot.0 (view node mem.old)) 0 mem.old area.old (taken_of result) mem.new area.new }
+    items: &mut Items<'_>,
+) -> Node
+    requires { (ready node mem.old ≡ true) × Installable node mem.old conf rows.now × (items.old.count + length (conf_by (carried conf rows.now) ballot.0 (view node mem.old)).items ≤ places items.old.area.now) }
+    ensures same_area { items.new.area.ghost_name ≡ items.old.area.ghost_name }
+    ensures does { Does (conf_by (carried conf rows.now) ballot.0 (view node mem.old)) items.old.count mem.old items.old.area.now result items.new.count mem.new items.new.area.now }
 {
     match conf {
-        Some(c) => heard_new_conf::heard_new_conf(node, mem, area, ballot, c, rows),
-        None => Taken { node, count: 0 },
+        Some(c) => heard_new_conf::heard_new_conf(node, mem, ballot, c, rows, items),
+        None => node,
     }
 }
 
@@ -268,34 +250,17 @@ fn heard_conf(
 fn heard(
     node: Node,
     mem: &mut [u64],
-    area: &mut [u64],
-    peer: Replica,
-    ballot: Ballot,
+    beat: Beat,
     conf: Option<RespondersConf>,
     rows: &[u64],
-    commit: Slot,
-    exec: Slot,
-    snap: Slot,
-) -> Taken
-    requires { (ready node mem.old ≡ true) × (peer.0 < node.population) × Installable node mem.old conf rows.now × (length (heard_by (carried conf rows.now) peer.0 ballot.0 commit.0 exec.0 snap.0 (view node mem.old)).items ≤ places area.old) }
-    ensures { Does (heard_by (carried conf rows.now) peer.0 ballot.0 commit.0 exec.0 snap.0 (view node mem.old)) 0 mem.old area.old (taken_of result) mem.new area.new }
+    items: &mut Items<'_>,
+) -> Node
+    requires { (ready node mem.old ≡ true) × (beat.peer.0 < node.population) × Installable node mem.old conf rows.now × (items.old.count + length (heard_by (carried conf rows.now) beat.peer.0 beat.ballot.0 beat.commit.0 beat.exec.0 beat.snap.0 (view node mem.old)).items ≤ places items.old.area.now) }
+    ensures same_area { items.new.area.ghost_name ≡ items.old.area.ghost_name }
+    ensures does { Does (heard_by (carried conf rows.now) beat.peer.0 beat.ballot.0 beat.commit.0 beat.exec.0 beat.snap.0 (view node mem.old)) items.old.count mem.old items.old.area.now result items.new.count mem.new items.new.area.now }
 {
-    let first = heard_conf(node, mem, area, ballot, conf, rows);
-    let second = heard_bars(
-        first.node,
-        mem,
-        area,
-        first.count,
-        peer,
-        ballot,
-        commit,
-        exec,
-        snap,
-    );
-    Taken {
-        node: second.node,
-        count: first.count + second.count,
-    }
+    let next = heard_conf(node, mem, beat.ballot, conf, rows, items);
+    heard_bars(next, mem, beat, items)
 }
 
 // `rows` are the attached roster's, where one is attached.
@@ -313,31 +278,31 @@ pub fn heartbeat(
 ) -> Result<Taken, Refusal>
     ensures { Answers (λ n m. ready n m && fitting conf rows.now) view (Heartbeat peer.0 ballot.0 (carried conf rows.now) commit.0 exec.0 snap.0) node mem.old area.old (given_of node result) mem.new area.new }
 {
-    if !node::is_ready(node, mem) || !is_fitting(conf, rows) {
-        return Err(Refusal::NotReady);
-    }
-    early_refusal(
-        node.population,
-        node.bal_max_seen,
+    let beat = Beat {
         peer,
         ballot,
-        conf,
-        rows,
         commit,
         exec,
         snap,
-    )?;
-    let conf = installed(node, mem, peer, ballot, conf, rows);
+    };
+    if !node::is_ready(node, mem) || !is_fitting(conf, rows) {
+        return Err(Refusal::NotReady);
+    }
+    early_refusal(node, beat, conf, rows)?;
+    let conf = installed(node, mem, beat, conf, rows);
     if lacks_slot(node, mem, ballot, conf) {
         return Err(Refusal::WindowFull);
     }
     if ballot < node.bal_max_seen {
         return Ok(Taken { node, count: 0 });
     }
-    if area.len() / 6 < count_items(node, mem, ballot, conf, commit, exec) {
+    if area.len() / 6 < count_items(node, mem, beat, conf) {
         return Err(Refusal::AreaTooSmall);
     }
-    Ok(heard(
-        node, mem, area, peer, ballot, conf, rows, commit, exec, snap,
-    ))
+    let mut items = Items { area, count: 0 };
+    let node = heard(node, mem, beat, conf, rows, &mut items);
+    Ok(Taken {
+        node,
+        count: items.count,
+    })
 }

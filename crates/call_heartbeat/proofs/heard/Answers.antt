@@ -1,24 +1,18 @@
 use Rattle.call_heartbeat.specs.Heartbeat.{carried}
 use Rattle.call_heartbeat.proofs.Call as law
-use native.Mathlib.Omega.{arith}
 use Rattle.call_heartbeat.proofs.heard.Goals as goal
 
-pub heard_conf-first-requires : goal.heard_conf-first-requires
-heard_conf-first-requires c =
+pub heard_conf-next-requires : goal.heard_conf-next-requires
+heard_conf-next-requires c =
     let a = c.args in
-    (c.requires.0, c.requires.2, law.first_room a.node a.mem.now a.area.now a.peer.0 a.ballot.0 (carried a.conf a.rows.now) a.commit.0 a.exec.0 a.snap.0 c.requires.1 c.requires.3)
+    (c.requires.0, c.requires.2, law.first_room a.node a.mem.now a.items.now.area.now a.beat.peer.0 a.beat.ballot.0 (carried a.conf a.rows.now) a.beat.commit.0 a.beat.exec.0 a.beat.snap.0 a.items.now.count c.requires.1 c.requires.3)
 
-pub heard_bars-second-requires : goal.heard_bars-second-requires
-heard_bars-second-requires c =
+pub heard_bars-requires : goal.heard_bars-requires
+heard_bars-requires c =
     let a = c.args in
-    law.then_room a.node a.mem.now a.area.now a.peer.0 a.ballot.0 (carried a.conf a.rows.now) a.commit.0 a.exec.0 a.snap.0 c.requires.1 c.requires.3 _ _ _ c.heard_conf-first.ensures
+    law.then_room a.node a.mem.now a.items.now.area.now a.beat.peer.0 a.beat.ballot.0 (carried a.conf a.rows.now) a.beat.commit.0 a.beat.exec.0 a.beat.snap.0 a.items.now.count c.requires.1 c.requires.3 _ _ _ _ c.heard_conf-next.ensures.does
 
-pub overflow_add-result : goal.overflow_add-result
-overflow_add-result c =
+pub returns-clause-does : goal.returns-clause-does
+returns-clause-does c =
     let a = c.args in
-    omega (arith, law.sum_room a.node a.mem.now a.area.now a.peer.0 a.ballot.0 (carried a.conf a.rows.now) a.commit.0 a.exec.0 a.snap.0 c.requires.1 c.requires.3 _ _ _ c.heard_conf-first.ensures _ _ _ c.heard_bars-second.ensures)
-
-pub returns : goal.returns
-returns c =
-    let a = c.args in
-    law.heard_does a.node a.mem.now a.area.now a.peer.0 a.ballot.0 (carried a.conf a.rows.now) a.commit.0 a.exec.0 a.snap.0 c.requires.1 c.requires.3 _ _ _ c.heard_conf-first.ensures _ _ _ c.heard_bars-second.ensures
+    law.heard_does a.node a.mem.now a.items.now.area.now a.beat.peer.0 a.beat.ballot.0 (carried a.conf a.rows.now) a.beat.commit.0 a.beat.exec.0 a.beat.snap.0 a.items.now.count c.requires.1 c.requires.3 _ _ _ _ c.heard_conf-next.ensures.does _ _ _ _ c.heard_bars.ensures.does

@@ -1,18 +1,8 @@
-use native.Mathlib.Omega.{arith}
+use Rattle.std.proofs.Common.{arith}
 use Rattle.std.proofs.lemmas.Grind.{common_steps}
 use Rattle.call_heartbeat.proofs.Refusals as law
 use Rattle.heard_new_conf.proofs.Laws.{readied}
 use Rattle.call_heartbeat.proofs.lacks_slot.Goals as goal
-
-pub slice_bounds-any_open-end : goal.slice_bounds-any_open-end
-slice_bounds-any_open-end c =
-    let a = c.args in
-    omega (arith, (readied a.node a.mem.now c.requires).long)
-
-pub any_open-requires : goal.any_open-requires
-any_open-requires c =
-    let a = c.args in
-    law.slots_room a.node a.mem.now c.requires a.ballot.0
 
 pub overflow_add-result : goal.overflow_add-result
 overflow_add-result c =
@@ -21,12 +11,12 @@ overflow_add-result c =
 
 pub returns-then-node-ge-WINDOW : goal.returns-then-node-ge-WINDOW
 returns-then-node-ge-WINDOW c =
-    λ rows. let a = c.args in let e = law.lacks_is a.node a.mem.now c.requires a.ballot.0 c.in-Some.c rows in grind (arith, common_steps)
+    λ rows. let a = c.args in let e = law.lacks_is a.node a.mem.now a.ballot.0 c.in-Some.c rows in grind (arith, common_steps)
 
 pub returns-else-node-ge-WINDOW : goal.returns-else-node-ge-WINDOW
 returns-else-node-ge-WINDOW c =
-    λ rows. let a = c.args in let e = law.lacks_is a.node a.mem.now c.requires a.ballot.0 c.in-Some.c rows in grind (arith, common_steps)
+    λ rows. let a = c.args in let e = law.lacks_is a.node a.mem.now a.ballot.0 c.in-Some.c rows in grind (arith, common_steps)
 
 pub returns-else-not-any_open : goal.returns-else-not-any_open
 returns-else-not-any_open c =
-    λ rows. let a = c.args in let e = law.lacks_is a.node a.mem.now c.requires a.ballot.0 c.in-Some.c rows in grind (arith, common_steps)
+    λ rows. let a = c.args in let e = law.lacks_is a.node a.mem.now a.ballot.0 c.in-Some.c rows in grind (arith, common_steps)
