@@ -24,10 +24,9 @@ struct Asked<'a> {
     key: &'a [u8],
 }
 
-fn read_call<'a>(line: &'a [u8], at: usize) -> Option<Asked<'a>>
-    ensures { Asks (is_read (fields_from line.now at)) (call_of Read (fields_from line.now at)) result }
+fn read_call<'a>(mut reader: LineReader<'a>) -> Option<Asked<'a>>
+    ensures { Asks (is_read (fields_from reader.entry.line.now reader.entry.at)) (call_of Read (fields_from reader.entry.line.now reader.entry.at)) result }
 {
-    let mut reader = LineReader::new(line, at);
     let client = reader.next_number()?;
     let request = reader.next_number()?;
     let leases = reader.next_number()?;
@@ -37,7 +36,7 @@ fn read_call<'a>(line: &'a [u8], at: usize) -> Option<Asked<'a>>
     let key = reader.next_field();
     reader.is_ended().then_some(Asked {
         call: Call::Read(client, request, leases),
-        key: &line[key.start..key.end],
+        key: &reader.line[key.start..key.end],
     })
 }
 
@@ -48,37 +47,37 @@ fn keyless<'a>(call: Call) -> Asked<'a>
     Asked { call, key: &[] }
 }
 
-fn call_at<'a>(kind: CallKind, line: &'a [u8], at: usize) -> Option<Asked<'a>>
-    ensures { Asks (is_call kind (fields_from line.now at)) (call_of kind (fields_from line.now at)) result }
+fn call_at<'a>(kind: CallKind, reader: LineReader<'a>) -> Option<Asked<'a>>
+    ensures { Asks (is_call kind (fields_from reader.entry.line.now reader.entry.at)) (call_of kind (fields_from reader.entry.line.now reader.entry.at)) result }
 {
     match kind {
         CallKind::Guard => {
-            let [peer, ballot, bar] = line_reader::numbers::<3>(line, at)?;
+            let [peer, ballot, bar] = reader.numbers::<3>()?;
             Some(keyless(Call::Guard(line_host::replica(peer), Ballot(ballot), Slot(bar))))
         }
         CallKind::Prepared => {
-            let [ballot] = line_reader::numbers::<1>(line, at)?;
+            let [ballot] = reader.numbers::<1>()?;
             Some(keyless(Call::Prepared(Ballot(ballot))))
         }
         CallKind::Reply => {
-            let [peer, slot, ballot] = line_reader::numbers::<3>(line, at)?;
+            let [peer, slot, ballot] = reader.numbers::<3>()?;
             Some(keyless(Call::Reply(line_host::replica(peer), Slot(slot), Ballot(ballot))))
         }
         CallKind::Notice => {
-            let [peer, slot, ballot] = line_reader::numbers::<3>(line, at)?;
+            let [peer, slot, ballot] = reader.numbers::<3>()?;
             Some(keyless(Call::Notice(line_host::replica(peer), Slot(slot), Ballot(ballot))))
         }
         CallKind::Commit => {
-            let [peer, ballot, bar] = line_reader::numbers::<3>(line, at)?;
+            let [peer, ballot, bar] = reader.numbers::<3>()?;
             Some(keyless(Call::Commit(line_host::replica(peer), Ballot(ballot), Slot(bar))))
         }
         CallKind::Bars => {
-            let [start, accept, commit, exec] = line_reader::numbers::<4>(line, at)?;
+            let [start, accept, commit, exec] = reader.numbers::<4>()?;
             Some(keyless(Call::Bars(Slot(start), Slot(accept), Slot(commit), Slot(exec))))
         }
-        CallKind::Read => read_call(line, at),
+        CallKind::Read => read_call(reader),
         CallKind::Release => {
-            let [slot] = line_reader::numbers::<1>(line, at)?;
+            let [slot] = reader.numbers::<1>()?;
             Some(keyless(Call::Release(Slot(slot))))
         }
     }
@@ -90,20 +89,19 @@ pub fn call_line(
     node: Node,
     mem: &mut [u64],
     area: &mut [u64],
-    line: &[u8],
-    at: usize,
+    reader: LineReader<'_>,
 ) -> Result<Taken, Refusal>
-    ensures { AnswersLine (is_call kind (fields_from line.now at)) (call_of kind (fields_from line.now at)) node mem.old area.old result mem.new area.new }
+    ensures { AnswersLine (is_call kind (fields_from reader.entry.line.now reader.entry.at)) (call_of kind (fields_from reader.entry.line.now reader.entry.at)) node mem.old area.old result mem.new area.new }
 {
-    let asked = call_at(kind, line, at).ok_or(Refusal::Malformed)?;
+    let asked = call_at(kind, reader).ok_or(Refusal::Malformed)?;
     call_apply::apply(node, mem, area, asked.call, &[], asked.key)
 }
 
 // The heartbeat that the fields of a heard line are, with the draft where WITH is 1.
-fn heard_call(line: &[u8], at: usize, draft: RespondersConf) -> Option<Call>
-    ensures { ReadsHeard draft (fields_from line.now at) result }
+fn heard_call(draft: RespondersConf, reader: LineReader<'_>) -> Option<Call>
+    ensures { ReadsHeard draft (fields_from reader.entry.line.now reader.entry.at) result }
 {
-    let [peer, ballot, with, commit, exec, snap] = line_reader::numbers::<6>(line, at)?;
+    let [peer, ballot, with, commit, exec, snap] = reader.numbers::<6>()?;
     if 1 < with {
         return None;
     }
@@ -124,11 +122,10 @@ pub fn heard_line(
     area: &mut [u64],
     draft: RespondersConf,
     rows: &[u64],
-    line: &[u8],
-    at: usize,
+    reader: LineReader<'_>,
 ) -> Result<Taken, Refusal>
-    ensures { holds_rows (length rows.now) draft.count ≡ true → AnswersLine (is_heard (fields_from line.now at)) (heard_by draft rows.now (fields_from line.now at)) node mem.old area.old result mem.new area.new }
+    ensures { holds_rows (length rows.now) draft.count ≡ true → AnswersLine (is_heard (fields_from reader.entry.line.now reader.entry.at)) (heard_by draft rows.now (fields_from reader.entry.line.now reader.entry.at)) node mem.old area.old result mem.new area.new }
 {
-    let call = heard_call(line, at, draft).ok_or(Refusal::Malformed)?;
-    call_apply::apply(node, mem, area, call, rows, line)
+    let call = heard_call(draft, reader).ok_or(Refusal::Malformed)?;
+    call_apply::apply(node, mem, area, call, rows, reader.line)
 }

@@ -4,7 +4,7 @@
 
 ghost use Rattle.std.specs.Prelude.{◌≤◌, length};
 ghost use Rattle.layout.specs.Layout.{node_words};
-ghost use Rattle.line_kind.specs.declared.EditKind.TheVariants.{Lead, Range, Whole, Drop, Reset};
+ghost use Rattle.line_kind.specs.declared.EditKind.TheVariants.{Range};
 ghost use Rattle.line_fields.specs.Split.{fields_from};
 ghost use Rattle.line_fields.specs.Number.{numbers, number_at};
 ghost use Rattle.node.specs.View.{in_range};
@@ -22,58 +22,6 @@ use roster_conf::RespondersConf;
 
 // ---- the draft
 
-fn lead_line(
-    draft: RespondersConf,
-    rows: &[u64],
-    population: u8,
-    line: &[u8],
-    at: usize,
-) -> Result<RespondersConf, Refusal>
-    ensures { EditsLine (is_edit Lead (fields_from line.now at)) (edit_of Lead (fields_from line.now at)) population draft rows.now result rows.now }
-{
-    let [leader] = line_reader::numbers::<1>(line, at).ok_or(Refusal::Malformed)?;
-    draft.set_leader(rows, population, line_host::replica(leader))
-}
-
-fn drop_line(
-    draft: RespondersConf,
-    rows: &mut [u64],
-    population: u8,
-    line: &[u8],
-    at: usize,
-) -> Result<RespondersConf, Refusal>
-    ensures { EditsLine (is_edit Drop (fields_from line.now at)) (edit_of Drop (fields_from line.now at)) population draft rows.old result rows.new }
-{
-    let [dropped] = line_reader::numbers::<1>(line, at).ok_or(Refusal::Malformed)?;
-    draft.into_filtered(rows, population, line_host::replica(dropped))
-}
-
-fn whole_line(
-    draft: RespondersConf,
-    rows: &mut [u64],
-    population: u8,
-    line: &[u8],
-    at: usize,
-) -> Result<RespondersConf, Refusal>
-    ensures { EditsLine (is_edit Whole (fields_from line.now at)) (edit_of Whole (fields_from line.now at)) population draft rows.old result rows.new }
-{
-    let [mask] = line_reader::numbers::<1>(line, at).ok_or(Refusal::Malformed)?;
-    draft.set_full(rows, population, mask)
-}
-
-fn reset_line(
-    draft: RespondersConf,
-    rows: &[u64],
-    population: u8,
-    line: &[u8],
-    at: usize,
-) -> Result<RespondersConf, Refusal>
-    ensures { EditsLine (is_edit Reset (fields_from line.now at)) (edit_of Reset (fields_from line.now at)) population draft rows.now result rows.now }
-{
-    line_reader::numbers::<0>(line, at).ok_or(Refusal::Malformed)?;
-    draft.reset_full(rows, population)
-}
-
 // The fields of a range line.
 #[derive(Clone, Copy)]
 struct RangeFields {
@@ -82,10 +30,9 @@ struct RangeFields {
     mask: u64,
 }
 
-fn range_fields(line: &[u8], at: usize) -> Option<RangeFields>
-    ensures { ReadsRange line.now at result }
+fn range_fields(mut reader: LineReader<'_>) -> Option<RangeFields>
+    ensures { ReadsRange reader.entry.line.now reader.entry.at result }
 {
-    let mut reader = LineReader::new(line, at);
     let start = reader.next_field();
     let end = reader.next_field();
     let mask = reader.next_number()?;
@@ -98,14 +45,13 @@ fn range_line(
     draft: RespondersConf,
     rows: &mut [u64],
     population: u8,
-    line: &[u8],
-    at: usize,
+    reader: LineReader<'_>,
 ) -> Result<RespondersConf, Refusal>
-    ensures { EditsLine (is_edit Range (fields_from line.now at)) (edit_of Range (fields_from line.now at)) population draft rows.old result rows.new }
+    ensures { EditsLine (is_edit Range (fields_from reader.entry.line.now reader.entry.at)) (edit_of Range (fields_from reader.entry.line.now reader.entry.at)) population draft rows.old result rows.new }
 {
-    let f = range_fields(line, at).ok_or(Refusal::Malformed)?;
-    let start = &line[f.start.start..f.start.end];
-    let end = &line[f.end.start..f.end.end];
+    let f = range_fields(reader).ok_or(Refusal::Malformed)?;
+    let start = &reader.line[f.start.start..f.start.end];
+    let end = &reader.line[f.end.start..f.end.end];
     draft.set_responders(rows, population, start, end, f.mask)
 }
 
@@ -115,17 +61,28 @@ pub fn edit_line(
     draft: RespondersConf,
     rows: &mut [u64],
     population: u8,
-    line: &[u8],
-    at: usize,
+    reader: LineReader<'_>,
 ) -> Result<RespondersConf, Refusal>
-    ensures { EditsLine (is_edit kind (fields_from line.now at)) (edit_of kind (fields_from line.now at)) population draft rows.old result rows.new }
+    ensures { EditsLine (is_edit kind (fields_from reader.entry.line.now reader.entry.at)) (edit_of kind (fields_from reader.entry.line.now reader.entry.at)) population draft rows.old result rows.new }
 {
     match kind {
-        EditKind::Lead => lead_line(draft, rows, population, line, at),
-        EditKind::Range => range_line(draft, rows, population, line, at),
-        EditKind::Whole => whole_line(draft, rows, population, line, at),
-        EditKind::Drop => drop_line(draft, rows, population, line, at),
-        EditKind::Reset => reset_line(draft, rows, population, line, at),
+        EditKind::Lead => {
+            let [leader] = reader.numbers::<1>().ok_or(Refusal::Malformed)?;
+            draft.set_leader(rows, population, line_host::replica(leader))
+        }
+        EditKind::Range => range_line(draft, rows, population, reader),
+        EditKind::Whole => {
+            let [mask] = reader.numbers::<1>().ok_or(Refusal::Malformed)?;
+            draft.set_full(rows, population, mask)
+        }
+        EditKind::Drop => {
+            let [dropped] = reader.numbers::<1>().ok_or(Refusal::Malformed)?;
+            draft.into_filtered(rows, population, line_host::replica(dropped))
+        }
+        EditKind::Reset => {
+            reader.numbers::<0>().ok_or(Refusal::Malformed)?;
+            draft.reset_full(rows, population)
+        }
     }
 }
 
@@ -134,12 +91,11 @@ pub fn show_line(
     rows: &[u64],
     area: &mut [u64],
     population: u8,
-    line: &[u8],
-    at: usize,
+    reader: LineReader<'_>,
 ) -> Result<usize, Refusal>
-    ensures { ShowsLine (numbers 0 (fields_from line.now at)) population draft rows.now area.old result area.new }
+    ensures { ShowsLine (numbers 0 (fields_from reader.entry.line.now reader.entry.at)) population draft rows.now area.old result area.new }
 {
-    line_reader::numbers::<0>(line, at).ok_or(Refusal::Malformed)?;
+    reader.numbers::<0>().ok_or(Refusal::Malformed)?;
     if population == 0 {
         return Err(Refusal::NotReady);
     }
@@ -166,10 +122,10 @@ fn begin(mem: &mut [u64], id: u64, population: u64, quorum: u64) -> Result<Taken
     made(mem, Replica(id), population, quorum)
 }
 
-pub fn node_line(node: Node, mem: &mut [u64], line: &[u8], at: usize) -> Result<Taken, Refusal>
-    ensures { node_words ≤ length mem.old → BeginsLine (numbers 3 (fields_from line.now at)) (number_at (fields_from line.now at) 0) (number_at (fields_from line.now at) 1) (number_at (fields_from line.now at) 2) node mem.old result mem.new }
+pub fn node_line(node: Node, mem: &mut [u64], reader: LineReader<'_>) -> Result<Taken, Refusal>
+    ensures { node_words ≤ length mem.old → BeginsLine (numbers 3 (fields_from reader.entry.line.now reader.entry.at)) (number_at (fields_from reader.entry.line.now reader.entry.at) 0) (number_at (fields_from reader.entry.line.now reader.entry.at) 1) (number_at (fields_from reader.entry.line.now reader.entry.at) 2) node mem.old result mem.new }
 {
-    let [id, population, quorum] = line_reader::numbers::<3>(line, at).ok_or(Refusal::Malformed)?;
+    let [id, population, quorum] = reader.numbers::<3>().ok_or(Refusal::Malformed)?;
     if node::is_ready(node, mem) {
         return Err(Refusal::NotReady);
     }

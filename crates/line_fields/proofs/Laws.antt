@@ -8,22 +8,22 @@ use Prim.Native.Nat.{ℕ, zero, suc, ◌+◌, ◌-◌, ◌*◌, ◌^◌, ◌≤�
 use native.Mathlib.Nat.{le_refl, le_trans, sub_self, add-zero}
 use native.Mathlib.Numerals.{add-one}
 use native.Mathlib.Omega.{arith}
-use lib.ListN.{length, get_or, take, drop, set, drop_of_length-le, length-drop, length-set}
+use lib.ListN.{length, get_or, take, drop, set, drop_of_length-le, length-take, length-drop, length-set}
 use lib.Seq.{drop-cons, drop-drop, take-suc, take-length, get_or-drop, get_or-set_same, get_or-set_other}
 use Rattle.std.specs.Prelude.{◌==◌, position}
 use Rattle.std.specs.Option.{unwrap_or}
 use Rattle.std.specs.List.{position_or_len}
 use Rattle.std.proofs.Common.{nat_lt}
-use Rattle.std.proofs.lemmas.List.{take-append-drop}
+use Rattle.std.specs.Bool.{then_some}
 use Rattle.std.proofs.lemmas.List.Sums.{fails_before_first, passes_at_first, prefix_len-le-length}
-use lib.Dec.{ltb, eqb, lit<}
+use lib.Dec.{leb, ltb, eqb, lit<}
 use native.Mathlib.Decide.{dec_lt}
-use borrow.Author.Tests.{lt-ltb, le-ltb, le-leb, lt-leb, eq-eqb, ne_eqb, eqb-true, ltb-true, ltb-false}
+use borrow.Author.Tests.{lt-ltb, le-ltb, le-leb, lt-leb, eq-eqb, ne_eqb, eqb-true, leb-true, ltb-true, ltb-false}
 use Rattle.words.specs.Text.{Bytes}
 use Rattle.line_fields.specs.declared.NumberAt.{NumberAt}
 use Rattle.line_fields.specs.Split.{on_first, fields_of, fields_from}
 use Rattle.line_fields.specs.Number.{is_digit, all_digits, value_from, value_of, has_byte, is_number, all_numbers, numbers, number_at}
-use Rattle.line_fields.specs.Reads.{none_left, between, ReadsField, number_in, FirstNumber, leading, PutsNumbers, Stops, ReadsNumbersAt}
+use Rattle.line_fields.specs.Reads.{none_left, between, ReadsField, number_in, FirstNumber, is_optional, FirstOptional, leading, PutsNumbers, Stops, ReadsNumbersAt}
 
 differ : true ≡ false → ⊥
 differ h = let z : ◌≡◌ {A = ℕ} 0 1 = cc in omega arith
@@ -148,6 +148,14 @@ module _ (s : Bytes) (at i : ℕ) (p : Passed s at i) where
   pub at_end : i ≡ length s → fields_from s at ≡ between s at i ∷ fields_from s (i + 1)
   at_end e = closes (from_end s i e)
 
+  -- another byte is in it
+  pub at_other : i < length s → (get_or s i 0 ≡ 44 → ⊥) → get_or (fields_from s at) 0 [] ≡ between s at i ++ (get_or s i 0 ∷ get_or (fields_from s (i + 1)) 0 [])
+  at_other h n = ap (λ (l : List Bytes). get_or l 0 []) (p.fields ∙ ap (onto (between s at i)) (from_other s i h n)) ∙ go (fields_from s (i + 1))
+    where
+      go : (l : List Bytes) → get_or (onto (between s at i) (on_first (get_or s i 0) l)) 0 [] ≡ between s at i ++ (get_or s i 0 ∷ get_or l 0 [])
+      go [] = refl
+      go (f ∷ fs) = refl
+
 -- ---- what field_at says
 
 pub field_past : (s : Bytes) (at : ℕ) → length s < at → ReadsField s at (record { start = at; end = at; next = at })
@@ -249,57 +257,197 @@ unfolding is_number
 is_number_lem [] h d v = absurd (omega arith)
 is_number_lem (c ∷ p) h d v = rw (d, lt-ltb (value_of (c ∷ p)) (2 ^ 64) v)
 
--- ---- what number_of says
-
--- the bytes before the i-th are digits, of that value
-pub record DigitsTo (s : Bytes) (acc i : ℕ) : Type 0 where
-  pub digits : all_digits (take i s) ≡ true
-  pub value : acc ≡ value_of (take i s)
-  pub small : acc < 2 ^ 64
-
-pub digits_none : (s : Bytes) → DigitsTo s 0 0
-unfolding all_digits value_from
-digits_none s = record { digits = refl; value = refl; small = lit< tt }
-
-pub no_bytes : (s : Bytes) → length s ≡ 0 → None ≡ number_in s
-unfolding is_number
-no_bytes [] e = refl
-no_bytes (c ∷ s) e = absurd (omega arith)
-
-module _ (s : Bytes) (value i : ℕ) (p : DigitsTo s value i) (h : i < length s) where
-  parts : s ≡ take i s ++ (get_or s i 0 ∷ drop (i + 1) s)
-  parts = sym (take-append-drop i s) ∙ ap (λ (l : Bytes). take i s ++ l) (uncons s i h)
-
-  is_not : is_number (take i s ++ (get_or s i 0 ∷ drop (i + 1) s)) ≡ false → None ≡ number_in s
-  is_not e = let f : is_number s ≡ false = ap is_number parts ∙ e in rw f
-
-  pub other_byte : is_digit (get_or s i 0) ≡ false → None ≡ number_in s
-  other_byte e = is_not (other_number (take i s) (get_or s i 0) (drop (i + 1) s) e)
-
-  pub too_large : 2 ^ 64 ≤ value * 10 + (get_or s i 0 - 48) → None ≡ number_in s
-  too_large l = is_not (over_number (take i s) (get_or s i 0) (drop (i + 1) s) (rw (← p.value) l))
-
-  pub digits_more : is_digit (get_or s i 0) ≡ true → (acc : ℕ) → acc ≡ value * 10 + (get_or s i 0 - 48) → acc < 2 ^ 64 → DigitsTo s acc (i + 1)
-  unfolding all_digits value_from
-  digits_more e acc v l =
-      let m : take (i + 1) s ≡ take i s ++ (get_or s i 0 ∷ []) = rw (add-one i, take-suc s i 0 h) in
-      record {
-        digits = rw (m, digits_append (take i s) (get_or s i 0 ∷ []), p.digits, e);
-        value = v ∙ sym (ap value_of m ∙ value_append 0 (take i s) (get_or s i 0 ∷ []) ∙ rw (← p.value));
-        small = l;
-      }
-
-pub digits_all : (s : Bytes) (value i : ℕ) → DigitsTo s value i → i ≡ length s → (length s ≡ 0 → ⊥) → Some value ≡ number_in s
-digits_all s value i p q z =
-    let h : 0 < length s = omega arith in
-    let e : take i s ≡ s = rw (q, take-length s) in
-    let n : is_number s ≡ true = is_number_lem s h (ap all_digits (sym e) ∙ p.digits) (rw (← e, ← p.value) p.small) in
-    rw n (ap Some (p.value ∙ ap value_of e))
-
 -- ---- what number_at says
 
-pub no_first : (s : Bytes) (at : ℕ) → none_left (fields_from s at) ≡ true → is_number (get_or (fields_from s at) 0 []) ≡ false
-no_first s at e = rw (all_read (fields_from s at) e) none_number
+length_between : (s : Bytes) (at i : ℕ) → i ≤ length s → length (between s at i) ≡ i - at
+length_between s at i h = simp (length-take, length-drop) (omega arith)
+
+-- the first field up to i is digits, of value acc
+pub record Digits (s : Bytes) (at acc i : ℕ) : Type 0 where
+  pub passed : Passed s at i
+  pub digits : all_digits (between s at i) ≡ true
+  pub value : acc ≡ value_of (between s at i)
+  pub small : acc < 2 ^ 64
+
+pub digits_none : (s : Bytes) (at : ℕ) → Digits s at 0 at
+unfolding all_digits value_from
+digits_none s at = record { passed = passed_none s at; digits = rw (between_none s at); value = rw (between_none s at); small = lit< tt }
+
+pub no_first : (s : Bytes) (at : ℕ) → length s < at → is_number (get_or (fields_from s at) 0 []) ≡ false
+no_first s at h = rw (from_past s at h) none_number
+
+-- the bytes of a line from a position on
+abbrev rest : Bytes → ℕ → Bytes
+rest s at = take (length s - at) (drop at s)
+
+-- by the k-th of them
+module _ (s : Bytes) (at acc i k : ℕ) (p : Digits s at acc i) (e : i ≡ at + k) (l : at ≤ length s) where
+  rest_is : rest s at ≡ drop at s
+  rest_is = ap (λ (n : ℕ). take n (drop at s)) (sym (length-drop at s)) ∙ take-length (drop at s)
+
+  rest_length : length (rest s at) ≡ length s - at
+  rest_length = ap length rest_is ∙ length-drop at s
+
+  byte_is : get_or (rest s at) k 0 ≡ get_or s i 0
+  byte_is = ap (λ (b : Bytes). get_or b k 0) rest_is ∙ get_or-drop at s k 0 ∙ ap (λ (j : ℕ). get_or s j 0) (sym e)
+
+  module _ (h : k < length (rest s at)) where
+    inside : i < length s
+    inside = omega (arith, rest_length)
+
+    -- the first field is no number where another byte is in it
+    not_by : (get_or (rest s at) k 0 ≡ 44 → ⊥) → is_number (between s at i ++ (get_or s i 0 ∷ get_or (fields_from s (i + 1)) 0 [])) ≡ false → is_number (get_or (fields_from s at) 0 []) ≡ false
+    not_by n f = ap is_number (at_other s at i p.passed inside (λ z. n (byte_is ∙ z))) ∙ f
+
+    pub other_byte : (get_or (rest s at) k 0 ≡ 44 → ⊥) → is_digit (get_or (rest s at) k 0) ≡ false → is_number (get_or (fields_from s at) 0 []) ≡ false
+    other_byte n f = not_by n (other_number (between s at i) (get_or s i 0) (get_or (fields_from s (i + 1)) 0 []) (ap is_digit (sym byte_is) ∙ f))
+
+    pub too_large : (get_or (rest s at) k 0 ≡ 44 → ⊥) → (d : ℕ) → d ≡ get_or (rest s at) k 0 - 48 → false ≡ ltb (acc * 10 + d) (2 ^ 64) → is_number (get_or (fields_from s at) 0 []) ≡ false
+    too_large n d q f =
+        let g : d ≡ get_or s i 0 - 48 = q ∙ ap (λ (b : ℕ). b - 48) byte_is in
+        let w : 2 ^ 64 ≤ value_of (between s at i) * 10 + (get_or s i 0 - 48) = rw (← p.value, ← g) (ltb-false (acc * 10 + d) (2 ^ 64) (sym f)) in
+        not_by n (over_number (between s at i) (get_or s i 0) (get_or (fields_from s (i + 1)) 0 []) w)
+
+    pub digits_more : (get_or (rest s at) k 0 ≡ 44 → ⊥) → is_digit (get_or (rest s at) k 0) ≡ true → (d : ℕ) → d ≡ get_or (rest s at) k 0 - 48 → true ≡ ltb (acc * 10 + d) (2 ^ 64) → Digits s at (acc * 10 + d) (i + 1)
+    unfolding all_digits value_from
+    digits_more n f d q v =
+        let b : is_digit (get_or s i 0) ≡ true = ap is_digit (sym byte_is) ∙ f in
+        let g : d ≡ get_or s i 0 - 48 = q ∙ ap (λ (b : ℕ). b - 48) byte_is in
+        let m = between_more s at i p.passed.low inside in
+        record {
+          passed = passed_more s at i p.passed inside (λ z. n (byte_is ∙ z));
+          digits = ap all_digits m ∙ digits_append (between s at i) (get_or s i 0 ∷ []) ∙ rw (p.digits, b);
+          value = sym (ap value_of m ∙ value_append 0 (between s at i) (get_or s i 0 ∷ []) ∙ rw (← p.value, ← g));
+          small = ltb-true (acc * 10 + d) (2 ^ 64) (sym v);
+        }
+
+    pub ends_comma : get_or (rest s at) k 0 ≡ 44 → fields_from s at ≡ between s at i ∷ fields_from s (i + 1)
+    ends_comma z = at_comma s at i p.passed inside (sym byte_is ∙ z)
+
+  -- the field ends at i
+  pub ends_last : length (rest s at) ≤ k → fields_from s at ≡ between s at i ∷ fields_from s (i + 1)
+  ends_last h =
+      let g : i ≤ length s = elim (dec_lt at i) [ yes b ↦ p.passed.high b | no b ↦ omega (arith, p.passed.low) ] in
+      at_end s at i p.passed (omega (arith, rest_length))
+
+  pub empty_first : fields_from s at ≡ between s at i ∷ fields_from s (i + 1) → i ≡ at → is_number (get_or (fields_from s at) 0 []) ≡ false
+  empty_first f z = ap (λ (x : List Bytes). is_number (get_or x 0 [])) f ∙ ap (λ (j : ℕ). is_number (between s at j)) z ∙ ap is_number (between_none s at) ∙ none_number
+
+  pub whole_first : fields_from s at ≡ between s at i ∷ fields_from s (i + 1) → (i ≡ at → ⊥) → FirstNumber s at (record { value = acc; next = i + 1 })
+  whole_first f z =
+      let m : at < i = omega (arith, p.passed.low) in
+      let h : i ≤ length s = p.passed.high m in
+      let q : get_or (fields_from s at) 0 [] ≡ between s at i = ap (λ (x : List Bytes). get_or x 0 []) f in
+      let n : 0 < length (between s at i) = rw (length_between s at i h) (omega arith) in
+      let v : value_of (between s at i) < 2 ^ 64 = rw (← p.value) p.small in
+      record {
+        good = ap is_number q ∙ is_number_lem (between s at i) n p.digits v;
+        value = p.value ∙ sym (ap value_of q);
+        low = omega arith;
+        high = omega arith;
+        here = f ∙ ap {B = List Bytes} (λ (x : Bytes). x ∷ fields_from s (i + 1)) (sym q);
+      }
+
+-- ---- what number_of says
+
+both_first : (a b : Bool) → (a && b) ≡ true → a ≡ true
+both_first true b e = refl
+both_first false b e = e
+
+both_second : (a b : Bool) → (a && b) ≡ true → b ≡ true
+both_second true b e = e
+both_second false b e = cc
+
+digit_from : (c : ℕ) → is_digit c ≡ true → 48 ≤ c
+digit_from c e = leb-true 48 c (both_first (leb 48 c) (leb c 57) e)
+
+-- digits have no comma among them
+whole_field : (s : Bytes) → all_digits s ≡ true → fields_of s ≡ s ∷ []
+unfolding all_digits fields_of
+whole_field [] e = refl
+whole_field (c ∷ s) e =
+    let b : is_digit c ≡ true = both_first (is_digit c) (all_digits s) e in
+    let n : eqb c 44 ≡ false = ne_eqb c 44 (λ z. omega (arith, digit_from c b)) in
+    rw (n, whole_field s (both_second (is_digit c) (all_digits s) e))
+
+-- a line of one field is that field
+one_field : (s f : Bytes) → fields_of s ≡ f ∷ [] → f ≡ s
+unfolding fields_of
+one_field [] f e = cc
+one_field (c ∷ s) f e = go (eqb c 44) (fields_of s) (some_field s) (one_field s) e
+  where
+    go : (t : Bool) (l : List Bytes) → l ≡ get_or l 0 [] ∷ drop 1 l → ((g : Bytes) → l ≡ g ∷ [] → g ≡ s) → (if t then [] ∷ l else on_first c l) ≡ f ∷ [] → f ≡ c ∷ s
+    go t [] h k e = absurd (omega (arith, ap length h))
+    go true (g ∷ gs) h k e = absurd (omega (arith, ap length e))
+    go false (g ∷ []) h k e = let q = k g refl in cc
+    go false (g ∷ g' ∷ gs) h k e = absurd (omega (arith, ap length e))
+
+digits_of : (s : Bytes) → is_number s ≡ true → all_digits s ≡ true
+unfolding is_number
+digits_of s e = both_second (has_byte s) (all_digits s) (both_first (has_byte s && all_digits s) (ltb (value_of s) (2 ^ 64)) e)
+
+-- a number is the one field of its line
+number_alone : (s : Bytes) → is_number s ≡ true → fields_from s 0 ≡ s ∷ []
+number_alone s e = from_start s ∙ whole_field s (digits_of s e)
+
+pub number_bad : (s : Bytes) → is_number (get_or (fields_from s 0) 0 []) ≡ false → None ≡ number_in s
+number_bad s g = go (is_number s) refl
+  where
+    go : (t : Bool) → is_number s ≡ t → None ≡ (if t then Some (value_of s) else None)
+    go true y = absurd (not_both (ap (λ (l : List Bytes). is_number (get_or l 0 [])) (number_alone s y) ∙ y) g)
+    go false y = refl
+
+pub number_whole : (s : Bytes) (r : NumberAt) → FirstNumber s 0 r → (t : Bool) → t ≡ none_left (fields_from s r.next) → then_some t r.value ≡ number_in s
+number_whole s r a true f =
+    let z : fields_from s r.next ≡ [] = all_read (fields_from s r.next) (sym f) in
+    let w : get_or (fields_from s 0) 0 [] ≡ s = one_field s (get_or (fields_from s 0) 0 []) (sym (from_start s) ∙ a.here ∙ ap {B = List Bytes} (λ l. get_or (fields_from s 0) 0 [] ∷ l) z) in
+    let n : is_number s ≡ true = ap is_number (sym w) ∙ a.good in
+    rw n (ap Some (a.value ∙ ap value_of w))
+number_whole s r a false f = go (is_number s) refl
+  where
+    go : (t : Bool) → is_number s ≡ t → None ≡ (if t then Some (value_of s) else None)
+    go true y = let z : fields_from s r.next ≡ [] = ap (drop 1) (sym a.here ∙ number_alone s y) in absurd (differ (sym (ap none_left z) ∙ sym f))
+    go false y = refl
+
+-- ---- what optional_at says
+
+pub past_optional : (s : Bytes) (at : ℕ) → length s < at → is_optional (fields_from s at) ≡ false
+past_optional s at h = rw (from_past s at h)
+
+empty_optional : (s : Bytes) (at : ℕ) → at ≤ length s → fields_from s at ≡ [] ∷ fields_from s (at + 1) → FirstOptional s at (record { value = None; next = at + 1 })
+empty_optional s at h e = record { good = rw e; value = rw e; low = omega arith; high = omega arith; here = rw e }
+
+pub end_optional : (s : Bytes) (at : ℕ) → at ≡ length s → FirstOptional s at (record { value = None; next = at + 1 })
+end_optional s at e = empty_optional s at (omega arith) (from_end s at e)
+
+pub comma_optional : (s : Bytes) (at : ℕ) → at < length s → get_or s at 0 ≡ 44 → FirstOptional s at (record { value = None; next = at + 1 })
+comma_optional s at h e = empty_optional s at (omega arith) (from_comma s at h e)
+
+-- a field that begins with another byte
+module _ (s : Bytes) (at : ℕ) (h : at < length s) (n : get_or s at 0 ≡ 44 → ⊥) where
+  some_byte : has_byte (get_or (fields_from s at) 0 []) ≡ true
+  some_byte =
+      let e = at_other s at at (passed_none s at) h n in
+      let f : get_or (fields_from s at) 0 [] ≡ get_or s at 0 ∷ get_or (fields_from s (at + 1)) 0 [] = e ∙ ap (λ (b : Bytes). b ++ (get_or s at 0 ∷ get_or (fields_from s (at + 1)) 0 [])) (between_none s at) in
+      ap has_byte f
+
+  pub no_optional : is_number (get_or (fields_from s at) 0 []) ≡ false → is_optional (fields_from s at) ≡ false
+  no_optional e = rw (some_byte, e) (go (none_left (fields_from s at)))
+    where
+      go : (t : Bool) → (not t && false) ≡ false
+      go true = refl
+      go false = refl
+
+  pub number_optional : (r : NumberAt) → FirstNumber s at r → FirstOptional s at (record { value = Some r.value; next = r.next })
+  number_optional r a =
+      let l : none_left (fields_from s at) ≡ false = ap none_left a.here in
+      record {
+        good = rw (l, some_byte, a.good);
+        value = rw some_byte (ap Some a.value);
+        low = a.low;
+        high = a.high;
+        here = a.here;
+      }
 
 -- ---- what numbers says
 

@@ -78,7 +78,8 @@ LineFollows t h mem rows area r mem' rows' area' = LineFollowsBy t.host t.outcom
 abbrev pub result_by : Host → Option Line → LineResult
 result_by h o = if_none o then refused_line h 1 else at_host h
 
--- ---- the lines of calls, and of the draft's edits: where the fields are not well-formed it is refused 1, else it is that call or edit
+-- ---- the lines of calls, and of the draft's edits: where the fields are not well-formed it is refused 1, else it is
+-- that call or edit
 
 pub record AnswersLine (good : Bool) (c : Call) (node : Node) (mem area : List ℕ) (a : Result Taken Refusal) (mem' area' : List ℕ) : Type 0 where
   pub bad : good ≡ false → Refuses ready view 1 node mem area (given_of node a) mem' area'

@@ -3,7 +3,7 @@
 
 ghost use Rattle.std.specs.Prelude.{◌≡◌};
 ghost use Rattle.line_fields.specs.Split.{fields_from};
-ghost use Rattle.line_fields.specs.Reads.{none_left, ReadsField, ReadsNumbers};
+ghost use Rattle.line_fields.specs.Reads.{none_left, ReadsNumbers};
 ghost use Rattle.line_reader.specs.Takes.{TakesField, TakesNumber, TakesNumbers, TakesOptional};
 
 use line_fields::Field;
@@ -55,8 +55,8 @@ impl<'a> LineReader<'a> {
         Some(optional.value)
     }
 
-    // As many numbers as `out` has words, if the first fields that are left are so many numbers. The reader moves on past
-    // those that are, and stands at the first that is none.
+    // As many numbers as `out` has words, if the first fields that are left are so many numbers. The reader moves on
+    // past those that are, and stands at the first that is none.
     pub fn next_numbers(&mut self, out: &mut [u64]) -> Option<()>
         ensures { TakesNumbers self.old out.old result self.new out.new }
     {
@@ -71,21 +71,13 @@ impl<'a> LineReader<'a> {
             }
         }
     }
-}
 
-// The first field from a position on.
-pub fn field_from(line: &[u8], at: usize) -> Field
-    ensures { ReadsField line.now at result }
-{
-    LineReader::new(line, at).next_field()
-}
-
-// The fields from a position on, if they are N numbers.
-pub fn numbers<const N: usize>(line: &[u8], at: usize) -> Option<[u64; N]>
-    ensures { ReadsNumbers line.now at N result }
-{
-    let mut reader = LineReader::new(line, at);
-    let mut out = [0; N];
-    reader.next_numbers(&mut out)?;
-    reader.is_ended().then_some(out)
+    // The fields that are left, if they are N numbers.
+    pub fn numbers<const N: usize>(mut self) -> Option<[u64; N]>
+        ensures { ReadsNumbers self.entry.line.now self.entry.at N result }
+    {
+        let mut out = [0; N];
+        self.next_numbers(&mut out)?;
+        self.is_ended().then_some(out)
+    }
 }

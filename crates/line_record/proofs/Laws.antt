@@ -21,7 +21,8 @@ use Rattle.line_fields.specs.declared.Field.{Field}
 use Rattle.line_fields.specs.Split.{fields_from}
 use Rattle.line_fields.specs.Number.{value_of, has_byte, is_number}
 use Rattle.line_fields.specs.Reads.{none_left, between, ReadsField, FirstNumber, is_optional, FirstOptional}
-use Rattle.line_fields.proofs.Laws.{from_past, some_left}
+use borrow.Author.Tests.{ltb-false}
+use Rattle.line_fields.proofs.Laws.{from_past, some_left, all_read, none_left_lem}
 use Rattle.line_reader.specs.declared.LineReader.{LineReader}
 use Rattle.line_reader.specs.Takes.{moved_to, TakesField, TakesNumber, TakesOptional}
 use Rattle.bodega.specs.Replica.{Request, Put, Get, Record}
@@ -131,46 +132,40 @@ module _ (s : Bytes) (at : ℕ) where
                   ∙ rw (a.value, b.value, command_is (has_byte (get_or (fields_from s key.next) 0 [])) o (value_of (get_or (fields_from s key.next) 0 [])) d.value);
             }
 
--- by what a reader of the line, begun at that position, took
-module _ (line : Bor (List ℕ)) (at : ℕ) (r₀ : LineReader) (e : r₀ ≡ record { line = line; at = at }) where
-  pub other_client : is_number (get_or (fields_from r₀.line.now r₀.at) 0 []) ≡ false → ReadsGroup line.now at None
-  other_client n = group_client line.now at (rw e at n)
+-- by what a reader took
+module _ (r₀ : LineReader) where
+  pub other_client : is_number (get_or (fields_from r₀.line.now r₀.at) 0 []) ≡ false → ReadsGroup r₀.line.now r₀.at None
+  other_client n = group_client r₀.line.now r₀.at n
 
   module _ (v : ℕ) (r₁ : LineReader) (a : TakesNumber r₀ (Some v) r₁) where
-    first : FirstNumber line.now at (record { value = v; next = r₁.at })
-    first = rw e at a.0
+    line_is : r₁.line.now ≡ r₀.line.now
+    line_is = ap (λ (r : LineReader). r.line.now) a.1
 
-    after : r₁ ≡ record { line = line; at = r₁.at }
-    after = a.1 ∙ ap (λ (r : LineReader). moved_to r r₁.at) e
-
-    line_is : r₁.line.now ≡ line.now
-    line_is = ap (λ (r : LineReader). r.line.now) after
-
-    pub other_request : is_number (get_or (fields_from r₁.line.now r₁.at) 0 []) ≡ false → ReadsGroup line.now at None
-    other_request n = λ _. group_request line.now at v r₁.at first (rw line_is at n)
+    pub other_request : is_number (get_or (fields_from r₁.line.now r₁.at) 0 []) ≡ false → ReadsGroup r₀.line.now r₀.at None
+    other_request n = λ _. group_request r₀.line.now r₀.at v r₁.at a.0 (rw line_is at n)
 
     module _ (w : ℕ) (r₂ : LineReader) (b : TakesNumber r₁ (Some w) r₂) where
-      second : FirstNumber line.now r₁.at (record { value = w; next = r₂.at })
+      second : FirstNumber r₀.line.now r₁.at (record { value = w; next = r₂.at })
       second = rw line_is at b.0
 
-      line_is_2 : r₂.line.now ≡ line.now
+      line_is_2 : r₂.line.now ≡ r₀.line.now
       line_is_2 = ap (λ (r : LineReader). r.line.now) b.1 ∙ line_is
 
       module _ (key : Field) (r₃ : LineReader) (c : TakesField r₂ key r₃) where
-        third : ReadsField line.now r₂.at key
+        third : ReadsField r₀.line.now r₂.at key
         third = rw line_is_2 at c.0
 
-        line_is_3 : r₃.line.now ≡ line.now
+        line_is_3 : r₃.line.now ≡ r₀.line.now
         line_is_3 = ap (λ (r : LineReader). r.line.now) c.1 ∙ line_is_2
 
         at_is_3 : r₃.at ≡ key.next
         at_is_3 = ap (λ (r : LineReader). r.at) c.1
 
-        pub other_value : is_optional (fields_from r₃.line.now r₃.at) ≡ false → ReadsGroup line.now at None
-        other_value n = λ _. group_value line.now at v r₁.at first w r₂.at second key third (rw (line_is_3, at_is_3) at n)
+        pub other_value : is_optional (fields_from r₃.line.now r₃.at) ≡ false → ReadsGroup r₀.line.now r₀.at None
+        other_value n = λ _. group_value r₀.line.now r₀.at v r₁.at a.0 w r₂.at second key third (rw (line_is_3, at_is_3) at n)
 
-        pub whole_group : (o : Option ℕ) (r₄ : LineReader) → TakesOptional r₃ (Some o) r₄ → FirstGroup line.now at (record { client = v; request = w; value = o; start = key.start; length = key.end - key.start; next = r₄.at })
-        whole_group o r₄ d = group_whole line.now at v r₁.at first w r₂.at second key third o r₄.at (rw (line_is_3, at_is_3) at d.0)
+        pub whole_group : (o : Option ℕ) (r₄ : LineReader) → TakesOptional r₃ (Some o) r₄ → FirstGroup r₀.line.now r₀.at (record { client = v; request = w; value = o; start = key.start; length = key.end - key.start; next = r₄.at })
+        whole_group o r₄ d = group_whole r₀.line.now r₀.at v r₁.at a.0 w r₂.at second key third o r₄.at (rw (line_is_3, at_is_3) at d.0)
 
 -- ---- the rows of the groups
 
@@ -218,39 +213,53 @@ pub record Grouped (s : Bytes) (at : ℕ) (rows₀ rows : List ℕ) (next n : �
 pub grouped_none : (s : Bytes) (at : ℕ) (rows : List ℕ) → Grouped s at rows rows at 0
 grouped_none s at rows = record { size = refl; few = omega arith; low = omega arith; good = refl; batch = refl }
 
-module _ (s : Bytes) (at : ℕ) (rows₀ rows : List ℕ) (next n : ℕ) (p : Grouped s at rows₀ rows next n) where
-  -- the next row fits
-  pub row_fits : next ≤ length s → length s ≤ 1024 → 1542 ≤ length rows₀ → n * 6 + 6 ≤ length rows
-  row_fits h l r = omega (arith, p.low, p.size)
+some_at : (s : Bytes) (at : ℕ) → false ≡ none_left (fields_from s at) → at ≤ length s
+some_at s at e = ltb-false (length s) at (none_left_lem s at ∙ sym e)
 
-  pub grouped_more : (g : Group) (rows' : List ℕ) → next ≤ length s → length s ≤ 1024 → 1542 ≤ length rows₀ → FirstGroup s next g → rows' ≡ writes rows (n * 6) (row_of g)
-      → Grouped s at rows₀ rows' g.next (n + 1)
-  grouped_more g rows' h l r f w =
-      let old : tab (given_at rows' s) 0 n ≡ tab (given_at rows s) 0 n =
-      tab_ext (given_at rows' s) (given_at rows s) 0 n
-      (λ i x y. given_near rows' rows s (i * 6) (λ j b c. rw w (writes_other rows (n * 6) (row_of g) j (inl (omega arith))))) in
-      let new : given_at rows' s n ≡ request_in s g = rw w (given_row rows s (n * 6) g (row_fits h l r)) in
+-- by where a reader of the line stands
+module _ (line : Bor (List ℕ)) (at : ℕ) (rows₀ rows : List ℕ) (r : LineReader) (n : ℕ) (p : Grouped line.now at rows₀ rows r.at n) (q : r.line ≡ line) where
+  line_now : r.line.now ≡ line.now
+  line_now = ap (λ (b : Bor (List ℕ)). b.now) q
+
+  pub grouped_more : (g : Group) (rows' : List ℕ) → n < 257 → 1542 ≤ length rows₀ → FirstGroup r.line.now r.at g → rows' ≡ writes rows (n * 6) (row_of g) → Grouped line.now at rows₀ rows' g.next (n + 1)
+  grouped_more g rows' m l h w =
+      let f : FirstGroup line.now r.at g = rw line_now at h in
+      let room : n * 6 + 6 ≤ length rows = omega (arith, p.size) in
+      let old : tab (given_at rows' line.now) 0 n ≡ tab (given_at rows line.now) 0 n =
+      tab_ext (given_at rows' line.now) (given_at rows line.now) 0 n
+      (λ i x y. given_near rows' rows line.now (i * 6) (λ j b c. rw w (writes_other rows (n * 6) (row_of g) j (inl (omega arith))))) in
+      let new : given_at rows' line.now n ≡ request_in line.now g = rw w (given_row rows line.now (n * 6) g room) in
       record {
         size = ap length w ∙ length_writes rows (n * 6) (row_of g) ∙ p.size;
-        few = omega (arith, p.low);
+        few = omega arith;
         low = omega (arith, p.low, f.low);
         good = sym f.good ∙ p.good;
-        batch = rw (tab_snoc (given_at rows' s) 0 n, zero-add n, old, new, append_assoc, ← f.batch) p.batch;
+        batch = rw (tab_snoc (given_at rows' line.now) 0 n, zero-add n, old, new, append_assoc, ← f.batch) p.batch;
       }
 
-  pub grouped_bad : are_groups (fields_from s next) ≡ false → are_groups (fields_from s at) ≡ false
-  grouped_bad e = sym p.good ∙ e
+  pub grouped_bad : false ≡ none_left (fields_from r.line.now r.at) → ReadsGroup r.line.now r.at None → are_groups (fields_from line.now at) ≡ false
+  grouped_bad e h = sym p.good ∙ (rw line_now at (h (some_at r.line.now r.at e)))
 
-  pub grouped_all : length s < next → 1542 ≤ length rows₀ → AllGroups s at n rows
+  all_groups : fields_from line.now r.at ≡ [] → 1542 ≤ length rows₀ → AllGroups line.now at n rows
   unfolding are_groups batch_of
-  grouped_all h r =
-      let z : fields_from s next ≡ [] = from_past s next h in
+  all_groups z l =
       let k : n * 6 ≤ length rows = omega (arith, p.few, p.size) in
       record {
         good = sym p.good ∙ ap are_groups z;
         few = p.few;
-        batch = given_take rows s n k ∙ sym (append-nil (tab (given_at rows s) 0 n)) ∙ ap {B = List Request} (λ (l : List Bytes). tab (given_at rows s) 0 n ++ batch_of l) (sym z) ∙ p.batch;
+        batch =
+            given_take rows line.now n k
+            ∙ sym (append-nil (tab (given_at rows line.now) 0 n))
+            ∙ ap {B = List Request} (λ (l : List Bytes). tab (given_at rows line.now) 0 n ++ batch_of l) (sym z)
+            ∙ p.batch;
       }
+
+  pub grouped_all : true ≡ none_left (fields_from r.line.now r.at) → 1542 ≤ length rows₀ → AllGroups line.now at n rows
+  grouped_all e l = all_groups (rw line_now at (all_read (fields_from r.line.now r.at) (sym e))) l
+
+  -- a line of at most 1,024 bytes has no more of them
+  pub grouped_full : n ≡ 257 → length line.now ≤ 1024 → 1542 ≤ length rows₀ → AllGroups line.now at 257 rows
+  grouped_full m h l = rw m at (all_groups (from_past line.now r.at (omega (arith, p.low))) l)
 
 -- ---- the line
 

@@ -30,7 +30,8 @@ abbrev pub ReadsGroup : Bytes → ℕ → Option Group → Type 0
 ReadsGroup s at None = at ≤ length s → are_groups (fields_from s at) ≡ false
 ReadsGroup s at (Some g) = FirstGroup s at g
 
--- ---- all of them: whether the fields that are left are whole groups, and their rows; each group takes at least four positions of a line of at most 1,024 bytes
+-- ---- all of them: whether the fields that are left are whole groups, and their rows; each group takes at least four
+-- positions of a line of at most 1,024 bytes
 
 pub record AllGroups (s : Bytes) (at count : ℕ) (rows : List ℕ) : Type 0 where
   pub good : are_groups (fields_from s at) ≡ true

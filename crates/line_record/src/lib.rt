@@ -32,11 +32,10 @@ struct RecordFields {
     count: usize,
 }
 
-// The group that begins at a position.
-fn group_at(line: &[u8], at: usize) -> Option<Group>
-    ensures { ReadsGroup line.now at result }
+// The first group that is left.
+fn group_at(mut reader: LineReader<'_>) -> Option<Group>
+    ensures { ReadsGroup reader.entry.line.now reader.entry.at result }
 {
-    let mut reader = LineReader::new(line, at);
     let client = reader.next_number()?;
     let request = reader.next_number()?;
     let key = reader.next_field();
@@ -56,39 +55,39 @@ fn put_group(groups: &mut [u64], i: usize, g: Group)
     requires { i * 6 + 6 ≤ length groups.old }
     ensures { groups.new ≡ writes groups.old (i * 6) (row_of g) }
 {
-    let p = i * 6;
-    groups[p] = g.client;
-    groups[p + 1] = g.request;
-    groups[p + 2] = u64::from(g.value.is_some());
-    groups[p + 3] = g.value.unwrap_or(0);
-    groups[p + 4] = g.start;
-    groups[p + 5] = g.length;
+    groups[i * 6..i * 6 + 6].copy_from_slice(&[
+        g.client,
+        g.request,
+        u64::from(g.value.is_some()),
+        g.value.unwrap_or(0),
+        g.start,
+        g.length,
+    ]);
 }
 
-// The groups from a position on, if the fields are whole groups: puts their rows, and says how many.
-fn groups_at(line: &[u8], at: usize, groups: &mut [u64]) -> Option<usize>
-    requires { (length line.now ≤ 1024) × (1542 ≤ length groups.old) }
-    ensures { ReadsGroups line.now at result groups.new }
+// The groups that are left, if the fields are whole groups: puts their rows, and says how many.
+fn groups_at(groups: &mut [u64], mut reader: LineReader<'_>) -> Option<usize>
+    requires { (length reader.line.now ≤ 1024) × (1542 ≤ length groups.old) }
+    ensures { ReadsGroups reader.entry.line.now reader.entry.at result groups.new }
 {
-    let mut next = at;
-    let mut count = 0;
-    while next <= line.len() {
-        let group = group_at(line, next)?;
+    for count in 0..257 {
+        if reader.is_ended() {
+            return Some(count);
+        }
+        let group = group_at(reader)?;
         put_group(groups, count, group);
-        next = group.next;
-        count += 1;
+        reader.at = group.next;
     }
-    Some(count)
+    Some(257)
 }
 
-fn record_fields(line: &[u8], at: usize, groups: &mut [u64]) -> Option<RecordFields>
-    requires { (length line.now ≤ 1024) × (1542 ≤ length groups.old) }
-    ensures { ReadsRecord line.now at result groups.new }
+fn record_fields(groups: &mut [u64], mut reader: LineReader<'_>) -> Option<RecordFields>
+    requires { (length reader.line.now ≤ 1024) × (1542 ≤ length groups.old) }
+    ensures { ReadsRecord reader.entry.line.now reader.entry.at result groups.new }
 {
-    let mut reader = LineReader::new(line, at);
     let slot = reader.next_number()?;
     let ballot = reader.next_number()?;
-    let count = groups_at(line, reader.at, groups)?;
+    let count = groups_at(groups, reader)?;
     Some(RecordFields {
         slot,
         ballot,
@@ -102,13 +101,12 @@ pub fn record_line(
     mem: &mut [u64],
     area: &mut [u64],
     groups: &mut [u64],
-    line: &[u8],
-    at: usize,
+    reader: LineReader<'_>,
 ) -> Result<Taken, Refusal>
-    requires { (length line.now ≤ 1024) × (1542 ≤ length groups.old) }
-    ensures { AnswersLine (is_record (fields_from line.now at)) (record_of (fields_from line.now at)) node mem.old area.old result mem.new area.new }
+    requires { (length reader.line.now ≤ 1024) × (1542 ≤ length groups.old) }
+    ensures { AnswersLine (is_record (fields_from reader.entry.line.now reader.entry.at)) (record_of (fields_from reader.entry.line.now reader.entry.at)) node mem.old area.old result mem.new area.new }
 {
-    let f = record_fields(line, at, groups).ok_or(Refusal::Malformed)?;
+    let f = record_fields(groups, reader).ok_or(Refusal::Malformed)?;
     let call = Call::Record(Slot(f.slot), Ballot(f.ballot));
-    call_apply::apply(node, mem, area, call, &groups[..f.count * 6], line)
+    call_apply::apply(node, mem, area, call, &groups[..f.count * 6], reader.line)
 }
