@@ -12,6 +12,7 @@ use inty::Inty;
 
 // The place in a piece where the line that has begun starts, how much of the output is used, and whether bytes of that
 // line were dropped.
+// A flag, since the place and the used length are there in both cases.
 #[derive(Clone, Copy)]
 pub struct Fed {
     pub at: usize,
@@ -70,6 +71,7 @@ pub fn feed(piece: &[u8], mut long: bool, out: &mut [u8]) -> Fed
 {
     let mut at = 0;
     let mut used = 0;
+    // No `for`: where a line begins is known once the one before it has ended.
     loop {
         let end = stream_pieces::line_end(piece, at);
         if end == piece.len() {

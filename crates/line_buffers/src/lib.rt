@@ -1,5 +1,5 @@
-// How large the buffers are that an event line is answered in, a blank one for a program to lend, and one filled from an
-// input.
+// The buffers that an event line is answered in, how large they are, a blank one for a program to lend, and one filled
+// from an input.
 #![tactic(auto)]
 
 ghost use Rattle.std.specs.Prelude.{◌≡◌, ◌≤◌, length, IfOk};
@@ -20,6 +20,15 @@ pub const GROUP_WORDS: usize = 1542;
 
 // Room for any answer's text.
 pub const TEXT_BYTES: usize = 65536;
+
+// What an event line is answered in: a node's words, a draft's rows, the answer area, and room for groups.
+#[derive(Drop)]
+pub struct Buffers<'a> {
+    pub mem: &'a mut [u64],
+    pub rows: &'a mut [u64],
+    pub area: &'a mut [u64],
+    pub groups: &'a mut [u64],
+}
 
 // Of an array only the length is said, so that a proof over it does not go through its elements.
 pub fn blank<T: Copy + Default, const N: usize>() -> [T; N]

@@ -7,13 +7,15 @@ ghost use Rattle.items.specs.Item.{places};
 ghost use Rattle.node.specs.View.{ready};
 ghost use Rattle.line_host.specs.Line.{line_by};
 ghost use Rattle.line_host.specs.Follows.{host_of, sound, LineFollows, result_by};
+ghost use Rattle.line_buffers.specs.Same.{SameBuffers};
 ghost use Rattle.line_event.specs.Ways as ways;
 ghost use Rattle.line_event.specs.Event.{whole, due_in, AnswersEvent};
 
 use ids::Refusal;
-use line_buffers::{GROUP_WORDS, ITEM_PLACES, LINE_BYTES, TEXT_BYTES};
+use line_buffers::{Buffers, GROUP_WORDS, ITEM_PLACES, LINE_BYTES, TEXT_BYTES};
 use line_host::{Host, LineTaken};
 use line_kind::Kind;
+use line_reader::LineReader;
 use node::{Node, Taken};
 use roster_conf::RespondersConf;
 
@@ -65,91 +67,85 @@ fn population_of(node: Node, mem: &[u64]) -> u8
 
 fn act(
     host: Host,
-    mem: &mut [u64],
-    rows: &mut [u64],
-    area: &mut [u64],
-    groups: &mut [u64],
+    buffers: &mut Buffers<'_>,
     kind: Kind,
-    line: &[u8],
-    at: usize,
+    reader: LineReader<'_>,
 ) -> Result<LineTaken, Refusal>
-    requires { (sound host.draft mem.old rows.old ≡ true) × (places area.old ≡ 546) × (1542 ≤ length groups.old) × (length line.now ≤ 1024) }
-    ensures { LineFollows (result_by (host_of host mem.old rows.old) (line_by kind (fields_from line.now at))) host mem.old rows.old area.old result mem.new rows.new area.new }
+    requires { (sound host.draft buffers.old.mem.now buffers.old.rows.now ≡ true) × (places buffers.old.area.now ≡ 546) × (1542 ≤ length buffers.old.groups.now) × (length reader.line.now ≤ 1024) }
+    ensures same { SameBuffers buffers.old buffers.new }
+    ensures follows { let b = buffers.old in let b' = buffers.new in let fields = fields_from reader.entry.line.now reader.entry.at in LineFollows (result_by (host_of host b.mem.now b.rows.now) (line_by kind fields)) host b.mem.now b.rows.now b.area.now result b'.mem.now b'.rows.now b'.area.now }
 {
     let Host { node, draft } = host;
+    let mem = &mut *buffers.mem;
+    let rows = &mut *buffers.rows;
+    let area = &mut *buffers.area;
+    let groups = &mut *buffers.groups;
     match kind {
-        Kind::Node => called(host, line_draft::node_line(node, mem, line, at)),
+        Kind::Node => called(host, line_draft::node_line(node, mem, reader)),
         Kind::Edit(edit) => {
             let population = population_of(node, mem);
             edited(
                 host,
-                line_draft::edit_line(edit, draft, rows, population, line, at),
+                line_draft::edit_line(edit, draft, rows, population, reader),
             )
         }
         Kind::Show => {
             let population = population_of(node, mem);
             shown(
                 host,
-                line_draft::show_line(draft, rows, area, population, line, at),
+                line_draft::show_line(draft, rows, area, population, reader),
             )
         }
         Kind::Heard => called(
             host,
-            line_calls::heard_line(node, mem, area, draft, rows, line, at),
+            line_calls::heard_line(node, mem, area, draft, rows, reader),
         ),
         Kind::Record => called(
             host,
-            line_record::record_line(node, mem, area, groups, line, at),
+            line_record::record_line(node, mem, area, groups, reader),
         ),
-        Kind::Call(call) => called(host, line_calls::call_line(call, node, mem, area, line, at)),
+        Kind::Call(call) => called(host, line_calls::call_line(call, node, mem, area, reader)),
         Kind::Unknown => Err(Refusal::Malformed),
     }
 }
 
 // Whether the lent buffers are long enough, with 546 places for items.
 #[tactic(auto, unfolding(crate::specs::Event::whole))]
-fn is_fit(host: Host, mem: &[u64], rows: &[u64], area: &[u64], groups: &[u64]) -> bool
-    ensures { result ≡ whole host.draft mem.now rows.now area.now groups.now }
+fn is_fit(host: Host, buffers: &Buffers<'_>) -> bool
+    ensures { let b = buffers.now in result ≡ whole host.draft b.mem.now b.rows.now b.area.now b.groups.now }
 {
-    line_host::is_sound(host.draft, mem, rows)
-        && area.len() / 6 == ITEM_PLACES
-        && GROUP_WORDS <= groups.len()
+    line_host::is_sound(host.draft, buffers.mem, buffers.rows)
+        && buffers.area.len() / 6 == ITEM_PLACES
+        && GROUP_WORDS <= buffers.groups.len()
 }
 
 // What a line does, 2 where the buffers do not fit.
-fn hear(
-    host: Host,
-    mem: &mut [u64],
-    rows: &mut [u64],
-    area: &mut [u64],
-    groups: &mut [u64],
-    line: &[u8],
-) -> Result<LineTaken, Refusal>
-    ensures { LineFollows (due_in host mem.old rows.old area.old groups.old line.now) host mem.old rows.old area.old result mem.new rows.new area.new }
+fn hear(host: Host, buffers: &mut Buffers<'_>, line: &[u8]) -> Result<LineTaken, Refusal>
+    ensures same { SameBuffers buffers.old buffers.new }
+    ensures follows { let b = buffers.old in let b' = buffers.new in LineFollows (due_in host b.mem.now b.rows.now b.area.now b.groups.now line.now) host b.mem.now b.rows.now b.area.now result b'.mem.now b'.rows.now b'.area.now }
 {
-    if !is_fit(host, mem, rows, area, groups) {
+    if !is_fit(host, buffers) {
         return Err(Refusal::NotReady);
     }
     if LINE_BYTES < line.len() {
         return Err(Refusal::Malformed);
     }
-    let name = line_reader::field_from(line, 0);
+    let mut reader = LineReader::new(line, 0);
+    let name = reader.next_field();
     let kind = line_kind::kind_of(&line[name.start..name.end]);
-    act(host, mem, rows, area, groups, kind, line, name.next)
+    act(host, buffers, kind, reader)
 }
 
 // Done, and the text that answers it as the n-th line at the start of out, where that has room for any.
 pub fn event(
     host: Host,
-    mem: &mut [u64],
-    rows: &mut [u64],
-    area: &mut [u64],
-    groups: &mut [u64],
+    buffers: &mut Buffers<'_>,
     n: u64,
     line: &[u8],
     out: &mut [u8],
 ) -> LineAnswer
-    ensures { AnswersEvent host mem.old rows.old area.old groups.old n line.now out.old result mem.new rows.new area.new groups.new out.new }
+    ensures same { SameBuffers buffers.old buffers.new }
+    ensures answers { let b = buffers.old in let b' = buffers.new in AnswersEvent host b.mem.now b.rows.now b.area.now b.groups.now n line.now out.old result b'.mem.now b'.rows.now b'.area.now b'.groups.now out.new }
 {
     if out.len() < TEXT_BYTES {
         return LineAnswer {
@@ -157,7 +153,8 @@ pub fn event(
             end: 0,
         };
     }
-    let acted = hear(host, mem, rows, area, groups, line);
+    let acted = hear(host, buffers, line);
+    let area = &mut *buffers.area;
     let end = match acted {
         Ok(taken) => line_answer::put_answer(out, n, 0, taken.count, area),
         Err(refusal) => line_answer::put_answer(out, n, refusal.number(), 0, area),

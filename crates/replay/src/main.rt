@@ -9,9 +9,9 @@ ghost use Rattle.std.specs.Prelude.{◌≡◌, ◌↔◌, true, false, ◌≤◌
 ghost use Rattle.std.specs.IoError.{error_kind};
 ghost use Rattle.layout.specs.Layout.{roster_words, node_words};
 ghost use Rattle.replay.specs.Reads.{answered, filled_as, Filling};
-ghost use Rattle.replay.specs.Steps.{Stands, Steps};
+ghost use Rattle.replay.specs.Steps.{StandsIn, StepsIn};
 
-use line_buffers::{GROUP_WORDS, ITEM_WORDS, LINE_BYTES, TEXT_BYTES, blank};
+use line_buffers::{Buffers, GROUP_WORDS, ITEM_WORDS, LINE_BYTES, TEXT_BYTES, blank};
 use std::io::{ErrorKind, Read, Stdin, Stdout};
 use std::process::ExitCode;
 use std::{fmt, io};
@@ -86,70 +86,62 @@ fn fill(mut input: Stdin, buf: &mut [u8], have: usize) -> Result<Option<usize>, 
     outcome(got, interrupted, have, end)
 }
 
-// A turn over the bytes that wait, and its text written; or, where no line ends in them, a read. At the end of the
-// input, the last line.
-fn step(
+// What the program reads from and writes to, and what it is lent for that.
+#[derive(Drop)]
+struct Program<'a> {
     input: Stdin,
     output: Stdout,
-    buf: &mut [u8],
-    from: Stream,
-    mem: &mut [u64],
-    rows: &mut [u64],
-    area: &mut [u64],
-    groups: &mut [u64],
-    out: &mut [u8],
-) -> Result<Option<Stream>, Failure>
-    requires { Stands from buf.old mem.old rows.old area.old groups.old × (1025 ≤ length buf.old) × (65536 ≤ length out.old) }
-    ensures { IfOk result (λ next. IfSome next (λ stream. Steps from buf.old mem.old rows.old stream buf.new mem.new rows.new area.new groups.new)) }
-{
-    if from.more {
-        let turned = stream_turns::turn(buf, from, mem, rows, area, groups, out);
-        flush(output, out, turned.used)?;
-        return Ok(Some(turned.stream));
-    }
-    if let Some(end) = fill(input, buf, from.end)? {
-        return Ok(Some(Stream {
-            end,
-            more: true,
-            ..from
-        }));
-    }
-    let said = stream_events::last_line(
-        from.place.state,
-        mem,
-        rows,
-        area,
-        groups,
-        from.place.long,
-        &buf[..from.end],
-        out,
-    );
-    flush(output, out, said.end)?;
-    Ok(None)
+    buf: &'a mut [u8],
+    buffers: Buffers<'a>,
+    out: &'a mut [u8],
+    ghost piece_room: { 1025 ≤ length buf.now },
+    ghost answer_room: { 65536 ≤ length out.now },
 }
 
-// A proved loop has to end, and nothing says that the input does: so it counts its steps, up to a number that no run
-// reaches.
-fn run(
-    input: Stdin,
-    output: Stdout,
-    buf: &mut [u8],
-    mem: &mut [u64],
-    rows: &mut [u64],
-    area: &mut [u64],
-    groups: &mut [u64],
-    out: &mut [u8],
-) -> Result<(), Failure>
-    requires { (1025 ≤ length buf.old) × (node_words ≤ length mem.old) × (roster_words ≤ length rows.old) × (length area.old ≡ 3276) × (1542 ≤ length groups.old) × (65536 ≤ length out.old) }
-{
-    let mut stream = Stream::fresh();
-    for _ in 0..u64::MAX {
-        let Some(next) = step(input, output, buf, stream, mem, rows, area, groups, out)? else {
-            break;
-        };
-        stream = next;
+impl Program<'_> {
+    // A turn over the bytes that wait, and its text written; or, where no line ends in them, a read. At the end of the
+    // input, the last line.
+    fn step(&mut self, from: Stream) -> Result<Option<Stream>, Failure>
+        requires { StandsIn from self.old.buf.now self.old.buffers }
+        ensures { IfOk result (λ next. IfSome next (λ stream. StepsIn from self.old.buf.now self.old.buffers stream self.new.buf.now self.new.buffers)) }
+    {
+        if from.more {
+            let turned = stream_turns::turn(self.buf, from, &mut self.buffers, self.out);
+            flush(self.output, self.out, turned.used)?;
+            return Ok(Some(turned.stream));
+        }
+        if let Some(end) = fill(self.input, self.buf, from.end)? {
+            return Ok(Some(Stream {
+                end,
+                more: true,
+                ..from
+            }));
+        }
+        let said = stream_events::last_line(
+            from.place.state,
+            &mut self.buffers,
+            from.place.long,
+            &self.buf[..from.end],
+            self.out,
+        );
+        flush(self.output, self.out, said.end)?;
+        Ok(None)
     }
-    Ok(())
+
+    // A proved loop has to end, and nothing says that the input does: so it counts its steps, up to a number that no
+    // run reaches.
+    fn run(&mut self) -> Result<(), Failure>
+        requires { let b = self.old.buffers in (node_words ≤ length b.mem.now) × (roster_words ≤ length b.rows.now) × (length b.area.now ≡ 3276) × (1542 ≤ length b.groups.now) }
+    {
+        let mut stream = Stream::fresh();
+        for _ in 0..u64::MAX {
+            let Some(next) = self.step(stream)? else {
+                break;
+            };
+            stream = next;
+        }
+        Ok(())
+    }
 }
 
 fn main(rt: HostRuntime) -> ExitCode {
@@ -159,17 +151,19 @@ fn main(rt: HostRuntime) -> ExitCode {
     let mut area: [u64; ITEM_WORDS] = blank();
     let mut groups: [u64; GROUP_WORDS] = blank();
     let mut out: [u8; ANSWERS_BYTES] = blank();
-    let ran = run(
-        rt.stdin(),
-        rt.stdout(),
-        &mut buf,
-        &mut mem,
-        &mut rows,
-        &mut area,
-        &mut groups,
-        &mut out,
-    );
-    if let Err(failure) = ran {
+    let mut program = Program {
+        input: rt.stdin(),
+        output: rt.stdout(),
+        buf: &mut buf,
+        buffers: Buffers {
+            mem: &mut mem,
+            rows: &mut rows,
+            area: &mut area,
+            groups: &mut groups,
+        },
+        out: &mut out,
+    };
+    if let Err(failure) = program.run() {
         let _ = eprintln!(rt; "replay: {failure}");
         return ExitCode::FAILURE;
     }

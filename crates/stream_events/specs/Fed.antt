@@ -4,6 +4,7 @@ use Rattle.words.specs.Text.{Bytes}
 use Rattle.ids.specs.Limits.{items}
 use Rattle.items.specs.Item.{places}
 use Rattle.text.specs.Wrote.{Wrote}
+use Rattle.line_buffers.specs.declared.Buffers.{Buffers}
 use Rattle.line_host.specs.declared.Host.{Host}
 use Rattle.line_host.specs.Follows.{host_of, sound}
 use Rattle.stream_pieces.specs.Pieces.{Begun, before}
@@ -20,6 +21,9 @@ pub record Lent (h : Host) (mem rows area groups : List ℕ) : Type 0 where
   pub is_sound : sound h.draft mem rows ≡ true
   pub area_size : places area ≡ items
   pub groups_size : 1542 ≤ length groups
+
+abbrev pub LentBy : Host → Buffers → Type 0
+LentBy h b = Lent h b.mem.now b.rows.now b.area.now b.groups.now
 
 unfoldable pub state_of : LineState → List ℕ → List ℕ → State
 state_of c mem rows = record { host = host_of c.host mem rows; number = c.number }

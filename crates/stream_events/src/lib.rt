@@ -2,12 +2,13 @@
 #![tactic(auto)]
 
 ghost use Rattle.std.specs.Prelude.{◌≡◌, ◌||◌, List, ℕ, ◌≤◌, ltb, length};
+ghost use Rattle.line_buffers.specs.Same.{SameBuffers};
 ghost use Rattle.line_host.specs.Follows.{line_given};
 ghost use Rattle.stream_events.specs.Lines.{start};
-ghost use Rattle.stream_events.specs.Fed.{Lent, state_of, WritesLine, WritesLastLine, WritesLines};
+ghost use Rattle.stream_events.specs.Fed.{LentBy, state_of, WritesLine, WritesLastLine, WritesLines};
 
 use ids::Refusal;
-use line_buffers::TEXT_BYTES;
+use line_buffers::{Buffers, TEXT_BYTES};
 use line_host::{Host, LineTaken};
 
 // What goes from line to line: the host, and the number of the next line.
@@ -25,6 +26,7 @@ pub struct LineWritten {
 }
 
 // A place in a piece: where the next line starts, what it finds, and whether bytes of it were dropped.
+// A flag, since a line of which bytes were dropped starts somewhere too.
 #[derive(Clone, Copy)]
 pub struct Place {
     pub at: usize,
@@ -63,26 +65,25 @@ fn host_after(host: Host, acted: Result<LineTaken, Refusal>) -> Host
 // Answers a line. If `long`, the line had bytes more, which were dropped.
 pub fn one(
     from: LineState,
-    mem: &mut [u64],
-    rows: &mut [u64],
-    area: &mut [u64],
-    groups: &mut [u64],
+    buffers: &mut Buffers<'_>,
     long: bool,
     line: &[u8],
     out: &mut [u8],
 ) -> LineWritten
-    requires { Lent from.host mem.old rows.old area.old groups.old × (65536 ≤ length out.old) }
-    ensures { WritesLine from mem.old rows.old (record { long = long; line = line.now }) out.old result mem.new rows.new area.new groups.new out.new }
+    requires { LentBy from.host buffers.old × (65536 ≤ length out.old) }
+    ensures same { SameBuffers buffers.old buffers.new }
+    ensures writes { let b = buffers.old in let b' = buffers.new in WritesLine from b.mem.now b.rows.now (record { long = long; line = line.now }) out.old result b'.mem.now b'.rows.now b'.area.now b'.groups.now out.new }
 {
     let number = from.number.saturating_add(1);
     if long {
+        let area = &mut *buffers.area;
         let end = line_answer::put_answer(out, from.number, Refusal::Malformed.number(), 0, area);
         return LineWritten {
             state: LineState { number, ..from },
             end,
         };
     }
-    let heard = line_event::event(from.host, mem, rows, area, groups, from.number, line, out);
+    let heard = line_event::event(from.host, buffers, from.number, line, out);
     let host = host_after(from.host, heard.acted);
     LineWritten {
         state: LineState { host, number },
@@ -91,20 +92,14 @@ pub fn one(
 }
 
 // Answers the lines of a piece from a place on, while the output has room for any answer.
-pub fn feed(
-    piece: &[u8],
-    from: Place,
-    mem: &mut [u64],
-    rows: &mut [u64],
-    area: &mut [u64],
-    groups: &mut [u64],
-    out: &mut [u8],
-) -> Fed
-    requires { (from.at ≤ length piece.now) × Lent from.state.host mem.old rows.old area.old groups.old × (65536 ≤ length out.old) }
-    ensures { WritesLines piece.now from mem.old rows.old out.old result mem.new rows.new area.new groups.new out.new }
+pub fn feed(piece: &[u8], from: Place, buffers: &mut Buffers<'_>, out: &mut [u8]) -> Fed
+    requires { (from.at ≤ length piece.now) × LentBy from.state.host buffers.old × (65536 ≤ length out.old) }
+    ensures same { SameBuffers buffers.old buffers.new }
+    ensures writes { let b = buffers.old in let b' = buffers.new in WritesLines piece.now from b.mem.now b.rows.now out.old result b'.mem.now b'.rows.now b'.area.now b'.groups.now out.new }
 {
     let mut place = from;
     let mut used = 0;
+    // No `for`: where a line begins is known once the one before it has ended.
     while out.len() - used >= TEXT_BYTES {
         let end = stream_pieces::line_end(piece, place.at);
         if end == piece.len() {
@@ -116,10 +111,7 @@ pub fn feed(
         }
         let said = one(
             place.state,
-            mem,
-            rows,
-            area,
-            groups,
+            buffers,
             place.long,
             &piece[place.at..end],
             &mut out[used..],
@@ -148,19 +140,17 @@ fn is_line(long: bool, line: &[u8]) -> bool
 // Answers a last line without a newline, if it has a byte.
 pub fn last_line(
     from: LineState,
-    mem: &mut [u64],
-    rows: &mut [u64],
-    area: &mut [u64],
-    groups: &mut [u64],
+    buffers: &mut Buffers<'_>,
     long: bool,
     line: &[u8],
     out: &mut [u8],
 ) -> LineWritten
-    requires { Lent from.host mem.old rows.old area.old groups.old × (65536 ≤ length out.old) }
-    ensures { WritesLastLine from mem.old rows.old (record { long = long; line = line.now }) out.old result mem.new rows.new area.new groups.new out.new }
+    requires { LentBy from.host buffers.old × (65536 ≤ length out.old) }
+    ensures same { SameBuffers buffers.old buffers.new }
+    ensures writes { let b = buffers.old in let b' = buffers.new in WritesLastLine from b.mem.now b.rows.now (record { long = long; line = line.now }) out.old result b'.mem.now b'.rows.now b'.area.now b'.groups.now out.new }
 {
     if is_line(long, line) {
-        one(from, mem, rows, area, groups, long, line, out)
+        one(from, buffers, long, line, out)
     } else {
         LineWritten {
             state: from,

@@ -3,9 +3,11 @@
 #![tactic(auto)]
 
 ghost use Rattle.std.specs.Prelude.{◌≤◌, length};
-ghost use Rattle.stream_events.specs.Fed.{Lent};
+ghost use Rattle.line_buffers.specs.Same.{SameBuffers};
+ghost use Rattle.stream_events.specs.Fed.{LentBy};
 ghost use Rattle.stream_turns.specs.Turn.{Begins, TurnLeaves};
 
+use line_buffers::Buffers;
 use stream_events::{LineState, Place};
 
 // Where a stream stands: the bytes of the buffer from `place.at` up to `end` were read and are not answered. If `more`,
@@ -44,19 +46,12 @@ impl Stream {
 
 // Answers the lines that end in the bytes, while the output has room for any answer. Where it has room for all, keeps
 // the line that has begun.
-pub fn turn(
-    buf: &mut [u8],
-    from: Stream,
-    mem: &mut [u64],
-    rows: &mut [u64],
-    area: &mut [u64],
-    groups: &mut [u64],
-    out: &mut [u8],
-) -> TurnResult
-    requires { (from.place.at ≤ from.end) × (from.end ≤ length buf.old) × (1024 ≤ length buf.old) × Lent from.place.state.host mem.old rows.old area.old groups.old × (65536 ≤ length out.old) }
-    ensures { TurnLeaves buf.old from mem.old rows.old out.old result buf.new mem.new rows.new area.new groups.new out.new }
+pub fn turn(buf: &mut [u8], from: Stream, buffers: &mut Buffers<'_>, out: &mut [u8]) -> TurnResult
+    requires { (from.place.at ≤ from.end) × (from.end ≤ length buf.old) × (1024 ≤ length buf.old) × LentBy from.place.state.host buffers.old × (65536 ≤ length out.old) }
+    ensures same { SameBuffers buffers.old buffers.new }
+    ensures leaves { let b = buffers.old in let b' = buffers.new in TurnLeaves buf.old from b.mem.now b.rows.now out.old result buf.new b'.mem.now b'.rows.now b'.area.now b'.groups.now out.new }
 {
-    let fed = stream_events::feed(&buf[..from.end], from.place, mem, rows, area, groups, out);
+    let fed = stream_events::feed(&buf[..from.end], from.place, buffers, out);
     if fed.more {
         return TurnResult {
             stream: Stream {

@@ -3,14 +3,15 @@
 #![tactic(auto)]
 
 ghost use Rattle.std.specs.Prelude.{◌≡◌, ◌≤◌, length, IfOk};
+ghost use Rattle.line_buffers.specs.Same.{SameBuffers};
 
 use ids::{Refusal, Slot};
 use line_buffers::{
-    GROUP_WORDS, ITEM_PLACES, ITEM_WORDS, LINE_BYTES, TEXT_BYTES, blank, read_full,
+    Buffers, GROUP_WORDS, ITEM_PLACES, ITEM_WORDS, LINE_BYTES, TEXT_BYTES, blank, read_full,
 };
-use line_fields::NumberAt;
 use line_host::Host;
-use line_kind::{CallKind, EditKind, Kind};
+use line_kind::{EditKind, Kind};
+use line_reader::LineReader;
 use node::{Node, Taken};
 use roster_conf::RespondersConf;
 use std::io;
@@ -48,9 +49,9 @@ fn called(from: State, a: Result<Taken, Refusal>) -> Result<Done, Refusal> {
 }
 
 // Makes a fresh node wherever it can, with an empty draft.
-fn begin(from: State, mem: &mut [u64], line: &[u8], at: usize) -> Result<Done, Refusal> {
+fn begin(from: State, mem: &mut [u64], reader: LineReader<'_>) -> Result<Done, Refusal> {
     let none = Host::fresh();
-    let Taken { node, .. } = line_draft::node_line(none.node, mem, line, at)?;
+    let Taken { node, .. } = line_draft::node_line(none.node, mem, reader)?;
     Ok(Done {
         count: 0,
         state: State {
@@ -66,10 +67,9 @@ fn edit(
     from: State,
     kind: EditKind,
     rows: &mut [u64],
-    line: &[u8],
-    at: usize,
+    reader: LineReader<'_>,
 ) -> Result<Done, Refusal> {
-    let draft = line_draft::edit_line(kind, from.draft, rows, from.population, line, at)?;
+    let draft = line_draft::edit_line(kind, from.draft, rows, from.population, reader)?;
     Ok(Done {
         count: 0,
         state: State { draft, ..from },
@@ -80,52 +80,40 @@ fn show(
     state: State,
     rows: &[u64],
     area: &mut [u64],
-    line: &[u8],
-    at: usize,
+    reader: LineReader<'_>,
 ) -> Result<Done, Refusal> {
-    let count = line_draft::show_line(state.draft, rows, area, state.population, line, at)?;
+    let count = line_draft::show_line(state.draft, rows, area, state.population, reader)?;
     Ok(Done { count, state })
-}
-
-fn record(
-    state: State,
-    mem: &mut [u64],
-    area: &mut [u64],
-    line: &[u8],
-    at: usize,
-) -> Result<Done, Refusal>
-    requires { length line.now ≤ 1024 }
-{
-    let mut groups: [u64; GROUP_WORDS] = blank();
-    called(
-        state,
-        line_record::record_line(state.node, mem, area, &mut groups, line, at),
-    )
 }
 
 fn done_by(
     state: State,
-    mem: &mut [u64],
-    rows: &mut [u64],
-    area: &mut [u64],
+    buffers: &mut Buffers<'_>,
     kind: Kind,
-    line: &[u8],
-    at: usize,
+    reader: LineReader<'_>,
 ) -> Result<Done, Refusal>
-    requires { length line.now ≤ 1024 }
+    requires { (length reader.line.now ≤ 1024) × (1542 ≤ length buffers.old.groups.now) }
+    ensures { SameBuffers buffers.old buffers.new }
 {
+    let mem = &mut *buffers.mem;
+    let rows = &mut *buffers.rows;
+    let area = &mut *buffers.area;
+    let groups = &mut *buffers.groups;
     match kind {
-        Kind::Node => begin(state, mem, line, at),
-        Kind::Edit(kind) => edit(state, kind, rows, line, at),
-        Kind::Show => show(state, rows, area, line, at),
+        Kind::Node => begin(state, mem, reader),
+        Kind::Edit(kind) => edit(state, kind, rows, reader),
+        Kind::Show => show(state, rows, area, reader),
         Kind::Heard => called(
             state,
-            line_calls::heard_line(state.node, mem, area, state.draft, rows, line, at),
+            line_calls::heard_line(state.node, mem, area, state.draft, rows, reader),
         ),
-        Kind::Record => record(state, mem, area, line, at),
+        Kind::Record => called(
+            state,
+            line_record::record_line(state.node, mem, area, groups, reader),
+        ),
         Kind::Call(kind) => called(
             state,
-            line_calls::call_line(kind, state.node, mem, area, line, at),
+            line_calls::call_line(kind, state.node, mem, area, reader),
         ),
         Kind::Unknown => Err(Refusal::Malformed),
     }
@@ -182,151 +170,20 @@ fn jumped(from: State, bar: Slot) -> State {
     }
 }
 
-// The number that begins at a position; where there is none it is 0, and the position stands.
-fn number_or_0(line: &[u8], at: usize) -> NumberAt {
-    line_fields::number_at(line, at).unwrap_or(NumberAt { value: 0, next: at })
-}
-
-// A line that has no answer: `lend`, `draft`, `jump`, or the name of a script.
+// A line that has no answer: `lend`, `draft`, `jump`, or the name of a script. A number that is missing is 0.
 fn prepare(from: State, line: &[u8]) -> State {
-    let name = line_fields::field_at(line, 0);
-    let a = number_or_0(line, name.next);
+    let mut reader = LineReader::new(line, 0);
+    let _ = reader.next_field();
+    let number = reader.next_number().unwrap_or(0);
     match line.first() {
         Some(b'l') => State {
-            words: a.value as usize,
-            rows: number_or_0(line, a.next).value as usize,
+            words: number as usize,
+            rows: reader.next_number().unwrap_or(0) as usize,
             ..from
         },
-        Some(b'd') => drafted(from, a.value),
-        Some(b'j') => jumped(from, Slot(a.value)),
+        Some(b'd') => drafted(from, number),
+        Some(b'j') => jumped(from, Slot(number)),
         _ => from,
-    }
-}
-
-// Done with what is lent of the buffers.
-fn act(
-    s: State,
-    mem: &mut [u64],
-    rows: &mut [u64],
-    area: &mut [u64],
-    places: usize,
-    kind: Kind,
-    line: &[u8],
-    at: usize,
-) -> Result<Done, Refusal>
-    requires { (places ≤ 546) × (length line.now ≤ 1024) }
-{
-    let n = s.words.min(mem.len());
-    let k = s.rows.min(rows.len());
-    let room = (places * 6).min(area.len());
-    done_by(
-        s,
-        &mut mem[..n],
-        &mut rows[..k],
-        &mut area[..room],
-        kind,
-        line,
-        at,
-    )
-}
-
-// Where the line's name ends.
-fn name_end(line: &[u8]) -> usize
-    ensures { result ≤ length line.now }
-{
-    line_fields::field_at(line, 0).end
-}
-
-// A line of document 01, with places for so many items.
-fn call(
-    output: Stdout,
-    s: State,
-    mem: &mut [u64],
-    rows: &mut [u64],
-    places: usize,
-    line: &[u8],
-) -> io::Result<State>
-    requires { (places ≤ 546) × (length line.now ≤ 1024) }
-{
-    let end = name_end(line);
-    let kind = line_kind::kind_of(&line[..end]);
-    let mut area: [u64; ITEM_WORDS] = blank();
-    let done = act(s, mem, rows, &mut area, places, kind, line, end + 1);
-    say_answer(output, s.lines, done, &area)?;
-    let next = done.map_or(s, |done| done.state);
-    say_sums(
-        output,
-        test_node_sum::of_node(next.node, mem),
-        test_node_sum::of_roster(next.draft, rows),
-    )?;
-    Ok(next)
-}
-
-fn take(
-    output: Stdout,
-    from: State,
-    mem: &mut [u64],
-    rows: &mut [u64],
-    line: &[u8],
-) -> io::Result<State> {
-    let s = State {
-        lines: from.lines.wrapping_add(1),
-        ..from
-    };
-    let Some(places) = line_fields::number_at(line, 0) else {
-        return Ok(prepare(s, line));
-    };
-    let Some(line) = line.get(places.next..) else {
-        return Ok(s);
-    };
-    if LINE_BYTES < line.len() {
-        return Ok(s);
-    }
-    call(
-        output,
-        s,
-        mem,
-        rows,
-        ITEM_PLACES.min(places.value as usize),
-        line,
-    )
-}
-
-// ---- pieces of standard input
-
-// Where the lines of a piece end.
-#[derive(Clone, Copy)]
-struct Place {
-    at: usize,
-    state: State,
-}
-
-// Where the line that begins at a position ends.
-fn line_end(piece: &[u8], at: usize) -> usize
-    requires { at ≤ length piece.now }
-    ensures { (at ≤ result) × (result ≤ length piece.now) }
-{
-    stream_pieces::line_end(piece, at)
-}
-
-fn drain(
-    output: Stdout,
-    piece: &[u8],
-    from: State,
-    mem: &mut [u64],
-    rows: &mut [u64],
-) -> io::Result<Place>
-    ensures { IfOk result (λ place. place.at ≤ length piece.now) }
-{
-    let mut state = from;
-    let mut at = 0;
-    loop {
-        let end = line_end(piece, at);
-        if end == piece.len() {
-            return Ok(Place { at, state });
-        }
-        state = take(output, state, mem, rows, &piece[at..end])?;
-        at = end + 1;
     }
 }
 
@@ -343,43 +200,101 @@ fn fresh() -> State {
     }
 }
 
-// Reads a piece behind the bytes that were kept, and returns where it ends.
-fn fill(mut input: Stdin, buf: &mut [u8], have: usize) -> io::Result<usize>
-    requires { have ≤ length buf.old }
-    ensures { IfOk result (λ end. (have ≤ end) × (end ≤ length buf.old)) }
-{
-    Ok(have + read_full(&mut input, &mut buf[have..])?)
+// Where the program writes, what it lends, and what goes from line to line.
+#[derive(Drop)]
+struct Program<'a> {
+    output: Stdout,
+    mem: &'a mut [u64],
+    rows: &'a mut [u64],
+    state: State,
 }
 
-// Reads pieces, each behind the bytes that were kept, and takes the lines that end in them.
-// A proved loop has to end, and nothing says that the input does: so it counts its turns, up to a number that no run
-// reaches.
-fn run(
-    input: Stdin,
-    output: Stdout,
-    buf: &mut [u8],
-    mem: &mut [u64],
-    rows: &mut [u64],
-) -> io::Result<()>
-    requires { length buf.old ≡ 65536 }
-{
-    let mut state = fresh();
-    let mut have = 0;
-    for _ in 0..u64::MAX {
-        let end = fill(input, buf, have)?;
-        if end == have {
-            break;
+impl Program<'_> {
+    // A line of document 01, with places for so many items.
+    fn call(&mut self, places: usize, line: &[u8]) -> io::Result<()>
+        requires { (places ≤ 546) × (length line.now ≤ 1024) }
+    {
+        let mut reader = LineReader::new(line, 0);
+        let name = reader.next_field();
+        let kind = line_kind::kind_of(&line[name.start..name.end]);
+        let mut area: [u64; ITEM_WORDS] = blank();
+        let mut groups: [u64; GROUP_WORDS] = blank();
+        let words = self.state.words.min(self.mem.len());
+        let rows = self.state.rows.min(self.rows.len());
+        let mut buffers = Buffers {
+            mem: &mut self.mem[..words],
+            rows: &mut self.rows[..rows],
+            area: &mut area[..places * 6],
+            groups: &mut groups,
+        };
+        let done = done_by(self.state, &mut buffers, kind, reader);
+        say_answer(self.output, self.state.lines, done, &area)?;
+        if let Ok(done) = done {
+            self.state = done.state;
         }
-        let place = drain(output, &buf[..end], state, mem, rows)?;
-        have = stream_pieces::keep(buf, place.at, end, false).have;
-        state = place.state;
+        say_sums(
+            self.output,
+            test_node_sum::of_node(self.state.node, self.mem),
+            test_node_sum::of_roster(self.state.draft, self.rows),
+        )
     }
-    Ok(())
+
+    fn take(&mut self, line: &[u8]) -> io::Result<()> {
+        self.state.lines = self.state.lines.wrapping_add(1);
+        let mut reader = LineReader::new(line, 0);
+        let Some(places) = reader.next_number() else {
+            self.state = prepare(self.state, line);
+            return Ok(());
+        };
+        match line.get(reader.at..) {
+            Some(line) if line.len() <= LINE_BYTES => {
+                self.call(ITEM_PLACES.min(places as usize), line)
+            }
+            _ => Ok(()),
+        }
+    }
+
+    // Takes the lines that end in a piece, and returns where the one that has begun starts.
+    fn drain(&mut self, piece: &[u8]) -> io::Result<usize>
+        ensures { IfOk result (λ at. at ≤ length piece.now) }
+    {
+        let Some(last) = piece.iter().rposition(|b| *b == b'\n') else {
+            return Ok(0);
+        };
+        for line in piece[..last].split(|b| *b == b'\n') {
+            self.take(line)?;
+        }
+        Ok(last + 1)
+    }
+
+    // Reads pieces, each behind the bytes that were kept, and takes the lines that end in them.
+    // A proved loop has to end, and nothing says that the input does: so it counts its turns, up to a number that no
+    // run reaches.
+    fn run(&mut self, mut input: Stdin, buf: &mut [u8]) -> io::Result<()>
+        requires { length buf.old ≡ 65536 }
+    {
+        let mut have = 0;
+        for _ in 0..u64::MAX {
+            let end = have + read_full(&mut input, &mut buf[have..])?;
+            if end == have {
+                break;
+            }
+            let at = self.drain(&buf[..end])?;
+            have = stream_pieces::keep(buf, at, end, false).have;
+        }
+        Ok(())
+    }
 }
 
 fn main(rt: HostRuntime) -> io::Result<()> {
     let mut buf: [u8; PIECE_BYTES] = blank();
     let mut mem: [u64; Node::WORDS] = blank();
     let mut rows: [u64; RespondersConf::WORDS] = blank();
-    run(rt.stdin(), rt.stdout(), &mut buf, &mut mem, &mut rows)
+    let mut program = Program {
+        output: rt.stdout(),
+        mem: &mut mem,
+        rows: &mut rows,
+        state: fresh(),
+    };
+    program.run(rt.stdin(), &mut buf)
 }

@@ -51,58 +51,12 @@ fn plus_all(sum: u32, numbers: &[u64]) -> u32
     numbers.iter().fold(sum, |s, n| plus(s, *n))
 }
 
-// The word at an index, 0 past the end.
-fn word(m: &[u64], i: usize) -> u64
-    ensures { result ≡ get_or m.now i 0 }
-{
-    m.get(i).copied().unwrap_or(0)
-}
-
-// The n words from an index on.
-#[tactic(auto, using(crate::proofs::Laws::words_turn), unfolding(crate::specs::Sum::plus_numbers))]
-fn plus_words(sum: u32, m: &[u64], at: usize, n: usize) -> u32
-    requires { at + n < 65536 }
-    ensures { result ≡ plus_numbers sum (words_from n m.now at) }
-{
-    let mut s = sum;
-    for i in 0..n {
-        s = plus(s, word(m, at + i));
-    }
-    s
-}
-
-// A count, and at most so many rows of w words.
-fn plus_table(sum: u32, m: &[u64], at: usize, w: usize, most: usize) -> u32
-    requires { (at < 10000) × (w < 16) × (most ≤ written_places) }
-    ensures { result ≡ plus_numbers sum (table_of m.now at w most) }
-{
-    let n = most.min(word(m, at) as usize);
-    plus_words(sum, m, at, 1 + w * n)
-}
-
-// ---- a roster
-
+// Neither type is of this crate, so that it is no `From`.
 fn leader_number(leader: Option<Replica>) -> u64
     ensures { result ≡ leader_number leader }
 {
     leader.map_or(0, |l| u64::from(l.0) + 1)
 }
-
-#[tactic(auto, using(crate::proofs::Laws::append), unfolding(crate::specs::Numbers::roster_numbers, crate::specs::Sum::plus_numbers))]
-pub fn of_roster(conf: RespondersConf, rows: &[u64]) -> u32
-    ensures { result ≡ sum_of (roster_numbers conf rows.now) }
-{
-    let short = [leader_number(conf.leader), conf.count as u64, conf.default];
-    let s = plus_all(0, &short);
-    plus_words(
-        s,
-        rows,
-        0,
-        layout::ROSTER_ROW * conf.count.min(RespondersConf::RANGES),
-    )
-}
-
-// ---- a slot
 
 fn if_any(has: u64, v: u64) -> u64
     ensures { result ≡ if_any has v }
@@ -110,73 +64,148 @@ fn if_any(has: u64, v: u64) -> u64
     if has == 0 { 0 } else { v }
 }
 
-#[tactic(auto, unfolding(crate::specs::Numbers::cell_of))]
-fn plus_cell(sum: u32, m: &[u64], at: usize) -> u32
-    requires { at < 10000 }
-    ensures { result ≡ plus_numbers sum (cell_of m.now at) }
-{
-    let acks = word(m, at + 2);
-    let book = word(m, at + 4);
-    let cell = [
-        word(m, at),
-        word(m, at + 1),
-        acks,
-        if_any(acks, word(m, at + 3)),
-        book,
-        if_any(book, word(m, at + 5)),
-        if_any(book, word(m, at + 6)),
-    ];
-    plus_all(sum, &cell)
+// ---- sums over words
+
+// The sum so far, and the words that it goes over.
+#[derive(Clone, Copy)]
+struct Sum<'a> {
+    value: u32,
+    words: &'a [u64],
 }
 
-#[tactic(auto, unfolding(crate::specs::Numbers::reads_of, crate::specs::Sum::plus_numbers))]
-fn plus_reads(sum: u32, m: &[u64], c: usize) -> u32
-    requires { c < slot_places }
-    ensures { result ≡ plus_numbers sum (reads_of m.now c) }
-{
-    if word(m, layout::SLOTS_AT + layout::CELL_ROW * c + 4) == 0 {
-        plus(sum, 0)
-    } else {
-        plus_table(
-            sum,
-            m,
-            READS_AT + layout::HELD_WORDS * c,
-            layout::HELD_ROW,
-            layout::HELD_PLACES,
-        )
+impl<'a> Sum<'a> {
+    // The word at an index, 0 past the end.
+    fn word(&self, i: usize) -> u64
+        ensures { result ≡ get_or self.now.words.now i 0 }
+    {
+        self.words.get(i).copied().unwrap_or(0)
+    }
+
+    // The n words from an index on.
+    #[tactic(auto, using(crate::proofs::Laws::words_turn), unfolding(crate::specs::Sum::plus_numbers))]
+    fn plus_words(self, at: usize, n: usize) -> Sum<'a>
+        requires { at + n < 65536 }
+        ensures { result ≡ record { value = plus_numbers self.entry.value (words_from n self.entry.words.now at); words = self.entry.words } }
+    {
+        let mut value = self.value;
+        for i in 0..n {
+            value = plus(value, self.word(at + i));
+        }
+        Sum { value, ..self }
+    }
+
+    // A count, and at most so many rows of w words.
+    fn plus_table(self, at: usize, w: usize, most: usize) -> Sum<'a>
+        requires { (at < 10000) × (w < 16) × (most ≤ written_places) }
+        ensures { result ≡ record { value = plus_numbers self.entry.value (table_of self.entry.words.now at w most); words = self.entry.words } }
+    {
+        let n = most.min(self.word(at) as usize);
+        self.plus_words(at, 1 + w * n)
+    }
+
+    // ---- a slot
+
+    #[tactic(auto, unfolding(crate::specs::Numbers::cell_of))]
+    fn plus_cell(self, at: usize) -> Sum<'a>
+        requires { at < 10000 }
+        ensures { result ≡ record { value = plus_numbers self.entry.value (cell_of self.entry.words.now at); words = self.entry.words } }
+    {
+        let acks = self.word(at + 2);
+        let book = self.word(at + 4);
+        let cell = [
+            self.word(at),
+            self.word(at + 1),
+            acks,
+            if_any(acks, self.word(at + 3)),
+            book,
+            if_any(book, self.word(at + 5)),
+            if_any(book, self.word(at + 6)),
+        ];
+        Sum {
+            value: plus_all(self.value, &cell),
+            ..self
+        }
+    }
+
+    #[tactic(auto, unfolding(crate::specs::Numbers::reads_of, crate::specs::Sum::plus_numbers))]
+    fn plus_reads(self, c: usize) -> Sum<'a>
+        requires { c < slot_places }
+        ensures { result ≡ record { value = plus_numbers self.entry.value (reads_of self.entry.words.now c); words = self.entry.words } }
+    {
+        if self.word(layout::SLOTS_AT + layout::CELL_ROW * c + 4) == 0 {
+            Sum {
+                value: plus(self.value, 0),
+                ..self
+            }
+        } else {
+            self.plus_table(
+                READS_AT + layout::HELD_WORDS * c,
+                layout::HELD_ROW,
+                layout::HELD_PLACES,
+            )
+        }
+    }
+
+    #[tactic(auto, using(crate::proofs::Laws::append), unfolding(crate::specs::Numbers::slot_of))]
+    fn plus_slot(self, c: usize) -> Sum<'a>
+        requires { c < slot_places }
+        ensures { result ≡ record { value = plus_numbers self.entry.value (slot_of self.entry.words.now c); words = self.entry.words } }
+    {
+        self.plus_cell(layout::SLOTS_AT + layout::CELL_ROW * c)
+            .plus_table(
+                BATCHES_AT + layout::BATCH_WORDS * c,
+                layout::REQUEST_ROW,
+                layout::REQUEST_PLACES,
+            )
+            .plus_reads(c)
+    }
+
+    #[tactic(auto, using(crate::proofs::Laws::slots_turn), unfolding(crate::specs::Sum::plus_numbers, crate::specs::Numbers::slots_of))]
+    fn plus_slots(self, start: Slot, n: usize) -> Sum<'a>
+        requires { n ≤ slot_places }
+        ensures { result ≡ record { value = plus_numbers self.entry.value (slots_of self.entry.words.now start.0 n); words = self.entry.words } }
+    {
+        let first = (start.0 % layout::PLACES) as usize;
+        let mut sum = self;
+        for i in 0..n {
+            sum = sum.plus_slot((first + i) % layout::SLOT_PLACES);
+        }
+        sum
+    }
+
+    // ---- a node
+
+    // All guard pairs, and the exec bars but for the own one.
+    #[tactic(auto, using(crate::proofs::Laws::append), unfolding(crate::specs::Numbers::peers_of))]
+    fn plus_peers(self, id: Replica, population: u8) -> Sum<'a>
+        ensures { result ≡ record { value = plus_numbers self.entry.value (peers_of id.0 population self.entry.words.now); words = self.entry.words } }
+    {
+        let me = usize::from(id.0);
+        let n = usize::from(population);
+        self.plus_words(0, n)
+            .plus_words(layout::BARS_AT, n)
+            .plus_words(layout::EXECS_AT, me)
+            .plus_words(layout::EXECS_AT + (me + 1), n.saturating_sub(me + 1))
     }
 }
 
-#[tactic(auto, using(crate::proofs::Laws::append), unfolding(crate::specs::Numbers::slot_of))]
-fn plus_slot(sum: u32, m: &[u64], c: usize) -> u32
-    requires { c < slot_places }
-    ensures { result ≡ plus_numbers sum (slot_of m.now c) }
-{
-    let a = plus_cell(sum, m, layout::SLOTS_AT + layout::CELL_ROW * c);
-    let b = plus_table(
-        a,
-        m,
-        BATCHES_AT + layout::BATCH_WORDS * c,
-        layout::REQUEST_ROW,
-        layout::REQUEST_PLACES,
-    );
-    plus_reads(b, m, c)
-}
+// ---- a roster and a node
 
-#[tactic(auto, using(crate::proofs::Laws::slots_turn), unfolding(crate::specs::Sum::plus_numbers, crate::specs::Numbers::slots_of))]
-fn plus_slots(sum: u32, m: &[u64], start: Slot, n: usize) -> u32
-    requires { n ≤ slot_places }
-    ensures { result ≡ plus_numbers sum (slots_of m.now start.0 n) }
+#[tactic(auto, using(crate::proofs::Laws::append), unfolding(crate::specs::Numbers::roster_numbers, crate::specs::Sum::plus_numbers))]
+pub fn of_roster(conf: RespondersConf, rows: &[u64]) -> u32
+    ensures { result ≡ sum_of (roster_numbers conf rows.now) }
 {
-    let first = (start.0 % layout::PLACES) as usize;
-    let mut s = sum;
-    for i in 0..n {
-        s = plus_slot(s, m, (first + i) % layout::SLOT_PLACES);
-    }
-    s
+    let short = [leader_number(conf.leader), conf.count as u64, conf.default];
+    let sum = Sum {
+        value: plus_all(0, &short),
+        words: rows,
+    };
+    sum.plus_words(
+        0,
+        layout::ROSTER_ROW * conf.count.min(RespondersConf::RANGES),
+    )
+    .value
 }
-
-// ---- a node
 
 #[tactic(auto, unfolding(crate::specs::Numbers::short_of))]
 fn of_short(node: Node) -> u32
@@ -204,31 +233,20 @@ fn of_short(node: Node) -> u32
     plus_all(0, &short)
 }
 
-// All guard pairs, and the exec bars but for the own one.
-#[tactic(auto, using(crate::proofs::Laws::append), unfolding(crate::specs::Numbers::peers_of))]
-fn plus_peers(sum: u32, m: &[u64], id: Replica, population: u8) -> u32
-    ensures { result ≡ plus_numbers sum (peers_of id.0 population m.now) }
-{
-    let me = usize::from(id.0);
-    let n = usize::from(population);
-    let a = plus_words(sum, m, 0, n);
-    let b = plus_words(a, m, layout::BARS_AT, n);
-    let c = plus_words(b, m, layout::EXECS_AT, me);
-    plus_words(c, m, layout::EXECS_AT + (me + 1), n.saturating_sub(me + 1))
-}
-
 #[tactic(auto, using(crate::proofs::Laws::append), unfolding(crate::specs::Numbers::node_numbers))]
 pub fn of_node(node: Node, mem: &[u64]) -> u32
     ensures { result ≡ sum_of (node_numbers node mem.now) }
 {
-    let a = of_short(node);
-    let b = plus_peers(a, mem, node.id, node.population);
-    let c = plus_words(
-        b,
-        mem,
-        layout::ROWS_AT,
-        layout::ROSTER_ROW * node.bodega_conf.count.min(RespondersConf::RANGES),
-    );
-    let d = plus_slots(c, mem, node.start_slot, node.slots.min(layout::SLOT_PLACES));
-    plus_table(d, mem, layout::WRITTEN_AT, layout::WRITTEN_ROW, Node::KEYS)
+    let sum = Sum {
+        value: of_short(node),
+        words: mem,
+    };
+    sum.plus_peers(node.id, node.population)
+        .plus_words(
+            layout::ROWS_AT,
+            layout::ROSTER_ROW * node.bodega_conf.count.min(RespondersConf::RANGES),
+        )
+        .plus_slots(node.start_slot, node.slots.min(layout::SLOT_PLACES))
+        .plus_table(layout::WRITTEN_AT, layout::WRITTEN_ROW, Node::KEYS)
+        .value
 }

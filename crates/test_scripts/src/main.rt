@@ -6,11 +6,12 @@
 mod scripts;
 
 ghost use Rattle.std.specs.Prelude.{◌+◌, ◌≤◌, length, IfSome};
-ghost use Rattle.stream_events.specs.Fed.{Lent};
+ghost use Rattle.stream_events.specs.Fed.{LentBy};
 
-use line_buffers::{GROUP_WORDS, ITEM_WORDS, LINE_BYTES, TEXT_BYTES, blank, read_full};
+use line_buffers::{Buffers, GROUP_WORDS, ITEM_WORDS, LINE_BYTES, TEXT_BYTES, blank, read_full};
 use node::Node;
 use roster_conf::RespondersConf;
+use scripts::Script;
 use std::io;
 use std::io::Stdout;
 use stream_events::{LineState, Place};
@@ -43,6 +44,7 @@ struct Drained {
 }
 
 // Whether what is written is what was recorded, and how many lines were answered.
+// A flag, since the lines count in both cases.
 #[derive(Clone, Copy)]
 struct Outcome {
     same: bool,
@@ -64,19 +66,17 @@ fn drain(
     answers: &[u8],
     from: Place,
     before: Option<usize>,
-    mem: &mut [u64],
-    rows: &mut [u64],
-    area: &mut [u64],
-    groups: &mut [u64],
+    buffers: &mut Buffers<'_>,
     out: &mut [u8],
 ) -> Drained
-    requires { (from.at ≤ length piece.now) × Lent from.state.host mem.old rows.old area.old groups.old × (65536 ≤ length out.old) }
-    ensures { (result.place.at ≤ length piece.now) × Lent result.place.state.host mem.new rows.new area.new groups.new }
+    requires { (from.at ≤ length piece.now) × LentBy from.state.host buffers.old × (65536 ≤ length out.old) }
+    ensures { (result.place.at ≤ length piece.now) × LentBy result.place.state.host buffers.new }
 {
     let mut place = from;
     let mut met = before;
+    // No `for`: whether there is one more turn is known once one has ended.
     loop {
-        let fed = stream_events::feed(piece, place, mem, rows, area, groups, out);
+        let fed = stream_events::feed(piece, place, buffers, out);
         met = meet(answers, met, &out[..fed.used]);
         place = fed.place;
         if !fed.more {
@@ -91,14 +91,11 @@ fn hear(
     answers: &[u8],
     p: Progress,
     buf: &mut [u8],
-    mem: &mut [u64],
-    rows: &mut [u64],
-    area: &mut [u64],
-    groups: &mut [u64],
+    buffers: &mut Buffers<'_>,
     out: &mut [u8],
 ) -> Progress
-    requires { (p.line.have ≤ 1024) × (1024 + length bytes.now ≤ length buf.old) × Lent p.state.host mem.old rows.old area.old groups.old × (65536 ≤ length out.old) }
-    ensures { (result.line.have ≤ 1024) × Lent result.state.host mem.new rows.new area.new groups.new }
+    requires { (p.line.have ≤ 1024) × (1024 + length bytes.now ≤ length buf.old) × LentBy p.state.host buffers.old × (65536 ≤ length out.old) }
+    ensures { (result.line.have ≤ 1024) × LentBy result.state.host buffers.new }
 {
     let end = p.line.have + bytes.len();
     buf[p.line.have..end].copy_from_slice(bytes);
@@ -107,17 +104,7 @@ fn hear(
         state: p.state,
         long: p.line.long,
     };
-    let drained = drain(
-        &buf[..end],
-        answers,
-        from,
-        p.met,
-        mem,
-        rows,
-        area,
-        groups,
-        out,
-    );
+    let drained = drain(&buf[..end], answers, from, p.met, buffers, out);
     let place = drained.place;
     Progress {
         state: place.state,
@@ -131,24 +118,12 @@ fn finish(
     answers: &[u8],
     p: Progress,
     buf: &[u8],
-    mem: &mut [u64],
-    rows: &mut [u64],
-    area: &mut [u64],
-    groups: &mut [u64],
+    buffers: &mut Buffers<'_>,
     out: &mut [u8],
 ) -> Outcome
-    requires { (p.line.have ≤ length buf.now) × Lent p.state.host mem.old rows.old area.old groups.old × (65536 ≤ length out.old) }
+    requires { (p.line.have ≤ length buf.now) × LentBy p.state.host buffers.old × (65536 ≤ length out.old) }
 {
-    let said = stream_events::last_line(
-        p.state,
-        mem,
-        rows,
-        area,
-        groups,
-        p.line.long,
-        &buf[..p.line.have],
-        out,
-    );
+    let said = stream_events::last_line(p.state, buffers, p.line.long, &buf[..p.line.have], out);
     let met = meet(answers, p.met, &out[..said.end]);
     Outcome {
         same: met == Some(answers.len()),
@@ -166,6 +141,12 @@ fn run(first: &[u8], second: &[u8], answers: &[u8]) -> Outcome
     let mut area: [u64; ITEM_WORDS] = blank();
     let mut groups: [u64; GROUP_WORDS] = blank();
     let mut out: [u8; ANSWERS_BYTES] = blank();
+    let mut buffers = Buffers {
+        mem: &mut mem,
+        rows: &mut rows,
+        area: &mut area,
+        groups: &mut groups,
+    };
     let p = Progress {
         state: LineState::fresh(),
         line: Carry {
@@ -174,38 +155,9 @@ fn run(first: &[u8], second: &[u8], answers: &[u8]) -> Outcome
         },
         met: Some(0),
     };
-    let q = hear(
-        first,
-        answers,
-        p,
-        &mut buf,
-        &mut mem,
-        &mut rows,
-        &mut area,
-        &mut groups,
-        &mut out,
-    );
-    let r = hear(
-        second,
-        answers,
-        q,
-        &mut buf,
-        &mut mem,
-        &mut rows,
-        &mut area,
-        &mut groups,
-        &mut out,
-    );
-    finish(
-        answers,
-        r,
-        &buf,
-        &mut mem,
-        &mut rows,
-        &mut area,
-        &mut groups,
-        &mut out,
-    )
+    let q = hear(first, answers, p, &mut buf, &mut buffers, &mut out);
+    let r = hear(second, answers, q, &mut buf, &mut buffers, &mut out);
+    finish(answers, r, &buf, &mut buffers, &mut out)
 }
 
 // ---- the scripts
@@ -246,12 +198,17 @@ fn counted(t: Tally, lines: u64, same: bool) -> Tally {
 }
 
 // Replays a script as a whole and in two pieces.
-fn replay(output: Stdout, t: Tally, name: &[u8], input: &[u8], answers: &[u8]) -> io::Result<Tally>
-    requires { length input.now ≤ 262144 }
+fn replay(output: Stdout, t: Tally, script: Script<'_>) -> io::Result<Tally>
+    requires { length script.input.now ≤ 262144 }
 {
-    let middle = input.len() / 2;
+    let Script {
+        name,
+        input,
+        answers,
+    } = script;
+    let (first, second) = input.split_at(input.len() / 2);
     let whole = run(input, &[], answers);
-    let cut = run(&input[..middle], &input[middle..], answers);
+    let cut = run(first, second, answers);
     let same = whole.same && cut.same;
     if !same {
         differs(output, name)?;
@@ -268,19 +225,14 @@ fn replay_all(output: Stdout, file: &[u8]) -> io::Result<()>
         lines: 0,
         differ: 0,
     };
-    let mut at = 0;
-    while at < file.len() {
-        let Some(s) = scripts::script_at(file, at) else {
-            return malformed(output, at);
+    let mut rest = file;
+    // No `for`: where a script begins is known once the one before it is read.
+    while !rest.is_empty() {
+        let Some((script, after)) = scripts::split_first(rest) else {
+            return malformed(output, file.len() - rest.len());
         };
-        t = replay(
-            output,
-            t,
-            &file[s.name..s.name_end],
-            &file[s.input..s.answers],
-            &file[s.answers..s.end],
-        )?;
-        at = s.end;
+        t = replay(output, t, script)?;
+        rest = after;
     }
     report(output, t)
 }

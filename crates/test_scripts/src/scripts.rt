@@ -2,75 +2,52 @@
 // answers, and at once the next script.
 ghost use Rattle.std.specs.Prelude.{◌<◌, ◌≤◌, length, IfSome};
 
-// Where a script's name, its event lines and the answers to them are.
+use line_reader::LineReader;
+
+// A script's name, its event lines and the answers to them.
 #[derive(Clone, Copy)]
-pub(crate) struct Script {
-    pub name: usize,
-    pub name_end: usize,
-    pub input: usize,
-    pub answers: usize,
-    pub end: usize,
+pub(crate) struct Script<'a> {
+    pub name: &'a [u8],
+    pub input: &'a [u8],
+    pub answers: &'a [u8],
 }
 
-// A script's first line: where its name is, and the two byte counts.
+// A script's first line: its name, and how many bytes of event lines and of answers follow.
 #[derive(Clone, Copy)]
-struct Header {
-    name: usize,
-    name_end: usize,
-    input: u64,
-    output: u64,
+struct Header<'a> {
+    name: &'a [u8],
+    input: usize,
+    answers: usize,
 }
 
-fn read_header(line: &[u8]) -> Option<Header>
-    ensures { IfSome result (λ h. (h.name ≤ h.name_end) × (h.name_end ≤ length line.now)) }
-{
-    let word = line_fields::field_at(line, 0);
+fn read_header(line: &[u8]) -> Option<Header<'_>> {
+    let mut reader = LineReader::new(line, 0);
+    let word = reader.next_field();
     if &line[word.start..word.end] != b"script".as_slice() {
         return None;
     }
-    let name = line_fields::field_at(line, word.next);
-    let input = line_fields::number_at(line, name.next)?;
-    let output = line_fields::number_at(line, input.next)?;
-    line_fields::ended(line, output.next).then_some(Header {
-        name: name.start,
-        name_end: name.end,
-        input: input.value,
-        output: output.value,
+    let name = reader.next_field();
+    let input = reader.next_number()?;
+    let answers = reader.next_number()?;
+    reader.is_ended().then_some(Header {
+        name: &line[name.start..name.end],
+        input: input as usize,
+        answers: answers as usize,
     })
 }
 
-// Where the line that begins at a position ends.
-fn line_end(file: &[u8], at: usize) -> usize
-    requires { at ≤ length file.now }
-    ensures { (at ≤ result) × (result ≤ length file.now) }
+// The first script of a file, and what follows it.
+pub(crate) fn split_first(file: &[u8]) -> Option<(Script<'_>, &[u8])>
+    ensures { IfSome result (λ r. (length r.0.input.now ≤ length file.now) × (length r.1.now < length file.now)) }
 {
-    stream_pieces::line_end(file, at)
-}
-
-// The script that begins at a position.
-pub(crate) fn script_at(file: &[u8], at: usize) -> Option<Script>
-    requires { at < length file.now }
-    ensures { IfSome result (λ s. (s.name ≤ s.name_end) × (s.name_end ≤ length file.now) × (s.input ≤ s.answers) × (s.answers ≤ s.end) × (at < s.end) × (s.end ≤ length file.now)) }
-{
-    let n = file.len();
-    let line = line_end(file, at);
-    if line == n {
-        return None;
-    }
-    let h = read_header(&file[at..line])?;
-    let input = line + 1;
-    if h.input > (n - input) as u64 {
-        return None;
-    }
-    let answers = input + h.input as usize;
-    if h.output > (n - answers) as u64 {
-        return None;
-    }
-    Some(Script {
-        name: at + h.name,
-        name_end: at + h.name_end,
+    let end = file.iter().position(|b| *b == b'\n')?;
+    let header = read_header(&file[..end])?;
+    let (input, rest) = file[end + 1..].split_at_checked(header.input)?;
+    let (answers, rest) = rest.split_at_checked(header.answers)?;
+    let script = Script {
+        name: header.name,
         input,
         answers,
-        end: answers + h.output as usize,
-    })
+    };
+    Some((script, rest))
 }

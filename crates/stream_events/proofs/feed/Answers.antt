@@ -16,7 +16,7 @@ slice_bounds-one-end c = search (rules, law.feed_part_end)
 
 pub overflow_add-used : goal.overflow_add-used
 overflow_add-used c =
-    law.feed_fits _ _ _ _ _ _ _ _ _ _ _ _ c.loop-out.invariant.0 _ c.line_end-end.ensures c.loop-out-test.true c.if-end-piece.false _ _ _ _ _ _ c.one-said.ensures (omega (arith, c.well_formed.1.1.1.1.1.1.0.1))
+    law.feed_fits _ _ _ _ _ _ _ _ _ _ _ _ c.loop-out.invariant.0 _ c.line_end-end.ensures c.loop-out-test.true c.if-end-piece.false _ _ _ _ _ _ c.one-said.ensures.writes (omega (arith, c.well_formed.1.1.1.0.1))
 
 pub overflow_add-place : goal.overflow_add-place
 overflow_add-place c =
@@ -27,7 +27,7 @@ loop-out-smaller c = pieces.next_less _ _ _ c.loop-out.invariant.0.within c.line
 
 pub loop-out-preserved : goal.loop-out-preserved
 loop-out-preserved c =
-    (law.inv_turn _ _ _ _ _ _ _ _ _ _ _ _ c.loop-out.invariant.0 _ c.line_end-end.ensures c.loop-out-test.true c.if-end-piece.false _ _ _ _ _ _ c.one-said.ensures, c.one-said.auto.mem ∙ c.loop-out.invariant.1, c.one-said.auto.rows ∙ c.loop-out.invariant.2, c.one-said.auto.area ∙ c.loop-out.invariant.3, c.one-said.auto.groups ∙ c.loop-out.invariant.4)
+    (law.inv_turn _ _ _ _ _ _ _ _ _ _ _ _ c.loop-out.invariant.0 _ c.line_end-end.ensures c.loop-out-test.true c.if-end-piece.false _ _ _ _ _ _ c.one-said.ensures.writes, search rules)
 
 pub returns : goal.returns
 returns c = search (rules, law.feeds_full)

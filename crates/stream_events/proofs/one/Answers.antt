@@ -2,10 +2,10 @@ use Rattle.stream_events.proofs.Laws as law
 use native.Mathlib.Omega.{arith}
 use Rattle.stream_events.proofs.one.Goals as goal
 
-pub returns-then-long : goal.returns-then-long
-returns-then-long c =
+pub returns-then-long-clause-writes : goal.returns-then-long-clause-writes
+returns-then-long-clause-writes c =
     law.says_long _ _ _ _ _ _ _ _ _ c.requires.0 (law.counted _ _ (omega arith) c.saturating_add-number.ensures) _ _ c.if-long.true (rw c.number.ensures at c.put_answer-end.ensures)
 
-pub returns : goal.returns
-returns c =
-    law.says_heard _ _ _ _ _ _ _ _ _ c.requires.0 (law.counted _ _ (omega arith) c.saturating_add-number.ensures) _ _ _ _ _ _ _ c.requires.1 c.if-long.false c.host_after-host.ensures c.event-heard.ensures
+pub returns-clause-writes : goal.returns-clause-writes
+returns-clause-writes c =
+    law.says_heard _ _ _ _ _ _ _ _ _ c.requires.0 (law.counted _ _ (omega arith) c.saturating_add-number.ensures) _ _ _ _ _ _ _ c.requires.1 c.if-long.false c.host_after-host.ensures c.event-heard.ensures.answers
