@@ -211,8 +211,8 @@ module _ (n : Node) (m : List ℕ) (slot ballot : ℕ) (ok : ready n m ≡ true)
       unfolding part
       words_same = part_before m written_at written_words w' (omega (arith, r.long)) long_w slots_at slot_words (omega arith)
 
-      pub acceptable : (l : ℕ) → l ≡ batch_words → (start ≤ slot) × (slot < start + window) × (slot_words ≤ length (take slot_words (drop slots_at m₁))) × (l ≡ batch_words)
-      acceptable l e = (above, inside, rw words_same (omega (arith, words_long)), e)
+      pub acceptable : (start ≤ slot) × (slot < start + window) × (slot_words ≤ length (take slot_words (drop slots_at m₁)))
+      acceptable = (above, inside, rw words_same (omega (arith, words_long)))
 
       module _ (q : Refreshes slot reqs written w') (lead : Bool) (b : lead ≡ leads_it (leader_of n.bodega_conf.leader) n.id.0) (s' : List ℕ) (held : ℕ)
           (p₁ : Records start n.slots slot ballot lead reqs (take slot_words (drop slots_at m₁)) s' held) where

@@ -4,7 +4,7 @@
 
 ghost use Rattle.std.specs.Prelude.{◌≡◌, true, ◌+◌, ◌≤◌, ◌<◌, length, if◌then◌else◌};
 ghost use Rattle.ids.specs.Leader.{leader_of};
-ghost use Rattle.layout.specs.Layout.{slot_places, batch_words, slot_words};
+ghost use Rattle.layout.specs.Layout.{slot_places, slot_words};
 ghost use Rattle.bodega.specs.Replica.{Record};
 ghost use Rattle.bodega.specs.Answers.{Answers};
 ghost use Rattle.inst_cell.specs.Cell.{book_of};
@@ -15,8 +15,10 @@ ghost use Rattle.node.specs.View.{view, ready, leads_it, given_of};
 ghost use Rattle.call_record.specs.Records.{batch_refusal, slot_refusal, late_refusal, ended, kept_book, accepting_short, Pads, Records, Recorded};
 ghost use Rattle.ids.specs.Refusal.{refused_by};
 
+use highest_slot::Written;
 use ids::{Ballot, Refusal, Slot};
 use inst_cell::{Cell, NoticeBook, Status};
+use inst_reqs::{Batch, BatchMut};
 use insts::{Insts, InstsMut, Window};
 use node::{Node, Taken};
 
@@ -103,10 +105,9 @@ fn kept_book(leader: bool, book: Option<NoticeBook>) -> Option<NoticeBook>
 }
 
 // The slot Accepting, with the batch.
-fn accept_at(insts: &mut InstsMut<'_>, slot: Slot, ballot: Ballot, leader: bool, batch: &[u64])
-    requires { length batch.now ≡ batch_words }
+fn accept_at(insts: &mut InstsMut<'_>, slot: Slot, ballot: Ballot, leader: bool, batch: Batch<'_>)
     ensures same_reference { insts.new.words.ghost_name ≡ insts.old.words.ghost_name }
-    ensures puts { Puts insts.old.words.now (place_of slot.0) (accepting_short leader ballot.0 (short_at insts.old.words.now (place_of slot.0)).replica_bk) (requests_of batch.now) (seen_reads (short_at insts.old.words.now (place_of slot.0)).replica_bk (reads_at insts.old.words.now (place_of slot.0))) insts.new.words.now }
+    ensures puts { Puts insts.old.words.now (place_of slot.0) (accepting_short leader ballot.0 (short_at insts.old.words.now (place_of slot.0)).replica_bk) (requests_of batch.entry.words.now) (seen_reads (short_at insts.old.words.now (place_of slot.0)).replica_bk (reads_at insts.old.words.now (place_of slot.0))) insts.new.words.now }
 {
     insts.clear_unseen(slot);
     insts.put_batch(slot, batch);
@@ -127,10 +128,10 @@ fn accept(
     slot: Slot,
     ballot: Ballot,
     leader: bool,
-    batch: &[u64],
+    batch: Batch<'_>,
 ) -> usize
-    requires { (window.start.0 ≤ slot.0) × (slot.0 < window.start.0 + slot_places) × (slot_words ≤ length words.old) × (length batch.now ≡ batch_words) }
-    ensures { Records window.start.0 window.held slot.0 ballot.0 leader (requests_of batch.now) words.old words.new result }
+    requires { (window.start.0 ≤ slot.0) × (slot.0 < window.start.0 + slot_places) × (slot_words ≤ length words.old) }
+    ensures { Records window.start.0 window.held slot.0 ballot.0 leader (requests_of batch.entry.words.now) words.old words.new result }
 {
     let mut insts = InstsMut { words };
     let held = padded(&mut insts, window, (slot.0 - window.start.0) as usize);
@@ -144,12 +145,13 @@ fn late_refusal(
     mem: &[u64],
     slot: Slot,
     ballot: Ballot,
-    words: &[u64],
+    batch: Batch<'_>,
 ) -> Result<(), Refusal>
-    requires { (ready node mem.now ≡ true) × (length words.now ≡ batch_words) }
-    ensures { refused_by result ≡ late_refusal node mem.now slot.0 ballot.0 (requests_of words.now) }
+    requires { ready node mem.now ≡ true }
+    ensures { refused_by result ≡ late_refusal node mem.now slot.0 ballot.0 (requests_of batch.entry.words.now) }
 {
-    let full = highest_slot_refresh::overflows(&mem[layout::WRITTEN_AT..layout::NODE_WORDS], words);
+    let written = Written::new(&mem[layout::WRITTEN_AT..layout::NODE_WORDS]);
+    let full = highest_slot_refresh::overflows(written, batch);
     slot_refusal(
         node::insts(mem),
         node::window(node, mem),
@@ -161,14 +163,14 @@ fn late_refusal(
 }
 
 // The node after a batch that nothing refuses is recorded.
-fn recorded(node: Node, mem: &mut [u64], slot: Slot, ballot: Ballot, words: &[u64]) -> Node
-    requires { (ready node mem.old ≡ true) × (late_refusal node mem.old slot.0 ballot.0 (requests_of words.now) ≡ 0) × (length words.now ≡ batch_words) }
-    ensures { Recorded slot.0 ballot.0 (requests_of words.now) node mem.old result mem.new }
+fn recorded(node: Node, mem: &mut [u64], slot: Slot, ballot: Ballot, batch: Batch<'_>) -> Node
+    requires { (ready node mem.old ≡ true) × (late_refusal node mem.old slot.0 ballot.0 (requests_of batch.words.now) ≡ 0) }
+    ensures { Recorded slot.0 ballot.0 (requests_of batch.entry.words.now) node mem.old result mem.new }
 {
     let window = node::window(node, mem);
     highest_slot_refresh::refresh(
         &mut mem[layout::WRITTEN_AT..layout::NODE_WORDS],
-        words,
+        batch,
         slot,
     );
     let slots = accept(
@@ -177,7 +179,7 @@ fn recorded(node: Node, mem: &mut [u64], slot: Slot, ballot: Ballot, words: &[u6
         slot,
         ballot,
         node::is_leader(node),
-        words,
+        batch,
     );
     Node { slots, ..node }
 }
@@ -198,8 +200,10 @@ pub fn record(
     }
     batch_refusal(rows, text, slot)?;
     let mut words = [0; layout::BATCH_WORDS];
-    req_batch::load(rows, text, &mut words);
-    late_refusal(node, mem, slot, ballot, &words)?;
-    let node = recorded(node, mem, slot, ballot, &words);
+    let mut batch = BatchMut::new(&mut words);
+    req_batch::load(rows, text, &mut batch);
+    let batch = batch.as_ref();
+    late_refusal(node, mem, slot, ballot, batch)?;
+    let node = recorded(node, mem, slot, ballot, batch);
     Ok(Taken { node, count: 0 })
 }

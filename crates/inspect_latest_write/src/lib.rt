@@ -18,6 +18,7 @@ ghost use Rattle.bodega.specs.Grounds.{overfills};
 ghost use Rattle.node.specs.View.{view, ready};
 ghost use Rattle.inspect_latest_write.specs.Located.{held_at, settled_of, answer_in};
 
+use highest_slot::Written;
 use ids::{Replica, Slot};
 use inst_cell::{Cell, Status};
 use insts::Insts;
@@ -117,9 +118,8 @@ fn inspect_highest_slot(node: Node, insts: Insts<'_>, key: Key, slot: Slot) -> S
     }
 }
 
-fn inspect_latest_write(node: Node, insts: Insts<'_>, written: &[u64], key: Key) -> Settled
-    requires { written_words ≤ length written.now }
-    ensures { (m : List ℕ) → part m slots_at slot_words ≡ insts.entry.words.now → part m written_at written_words ≡ written.now → settled_of result ≡ inspect_latest_write (view node m) (bytes_of key) }
+fn inspect_latest_write(node: Node, insts: Insts<'_>, written: Written<'_>, key: Key) -> Settled
+    ensures { (m : List ℕ) → part m slots_at slot_words ≡ insts.entry.words.now → part m written_at written_words ≡ written.entry.words.now → settled_of result ≡ inspect_latest_write (view node m) (bytes_of key) }
 {
     match highest_slot::highest(written, key) {
         Some(slot) if node.start_slot <= slot => inspect_highest_slot(node, insts, key, slot),
@@ -152,7 +152,7 @@ pub fn settled_by(node: Node, mem: &[u64], leases: u64, key: &[u8], packed: Key)
     inspect_latest_write(
         node,
         node::insts(mem),
-        &mem[layout::WRITTEN_AT..layout::NODE_WORDS],
+        Written::new(&mem[layout::WRITTEN_AT..layout::NODE_WORDS]),
         packed,
     )
 }

@@ -17,13 +17,17 @@ use Rattle.words.specs.Choice.{if_none◌then◌else◌}
 use Rattle.words.specs.Tab.{tab, tab_ext, tab_set, tab_snoc, tab_shift, drop_tab, take_tab, elem_tab, elem_past, length_tab}
 use Rattle.words.specs.Part.{part, splice, part_here, part_before, part_after, length_splice, length_part, get_or_splice, part_set_below}
 use Rattle.words.specs.Writes.{writes, length_writes, part_writes}
-use Rattle.layout.specs.Layout.{cell_row, slot_places, held_places, batch_words, held_words, batches_from, reads_from, slot_words}
+use Rattle.layout.specs.Layout.{request_row, request_places, cell_row, slot_places, held_places, batch_words, held_words, batches_from, reads_from, slot_words}
 use Rattle.bodega.specs.Replica as machine
 use Rattle.bodega.specs.Localread.{last_put}
 use Rattle.bodega.specs.Grounds.{any, holds}
 use Rattle.inst_cell.specs.Cell.{Notices, Short, cell_at, cell_words, with_status, has_book}
 use Rattle.inst_cell.proofs.Laws.{cell_same, cell_other, cell_near, status_same, status_other}
-use Rattle.inst_reqs.specs.Batch.{requests_of}
+use Rattle.std.proofs.Common.{get_or-take}
+use Rattle.std.specs.Prelude.{get_or}
+use Rattle.words.specs.Counted.{counted}
+use Rattle.inst_reqs.specs.Row.{near}
+use Rattle.inst_reqs.specs.Batch.{requests_of, request_from}
 use Rattle.inst_holding.specs.Held.{reads_of, capped, Pushes}
 use Rattle.insts.specs.Slots.{short_at, batch_at, reads_at, seen_reads, inst_of, inst_in, insts_of, null_short, SamePlace, Puts, book_of, batch_start, reads_start}
 use borrow.Rule.Slice.PartMut.{put_mid}
@@ -31,6 +35,17 @@ use borrow.Rule.Slice.PartMut.{put_mid}
 -- how long a part is that is lent from a to a + k
 pub width : (a k : ℕ) → a + k - a ≡ k
 width a k = omega arith
+
+-- ---- a batch reads its own words alone
+
+pub requests_of_part : (w : List ℕ) → requests_of (take batch_words w) ≡ requests_of w
+unfolding counted
+requests_of_part w =
+    let e : get_or (take batch_words w) 0 0 ≡ get_or w 0 0 = get_or-take batch_words w 0 0 (omega arith) in
+    let n : ℕ = min (get_or w 0 0) request_places in
+    ap (λ (k : ℕ). tab (λ i. request_from (take batch_words w) (1 + i * request_row)) 0 (min k request_places)) e
+    ∙ tab_ext (λ i. request_from (take batch_words w) (1 + i * request_row)) (λ i. request_from w (1 + i * request_row)) 0 n
+    (λ i a b. near (take batch_words w) w (1 + i * request_row) (λ j y z. get_or-take batch_words w j 0 (omega arith)))
 
 -- ---- one of the three is stored
 

@@ -7,7 +7,7 @@ ghost use Rattle.bodega.specs.Replica.{null_instance, Instance, is_open};
 ghost use Rattle.bodega.specs.Localread.{last_put};
 ghost use Rattle.bodega.specs.Grounds.{any, holds};
 ghost use Rattle.ids.specs.Limits.{top};
-ghost use Rattle.layout.specs.Layout.{batch_words, held_places, slot_places, slot_words};
+ghost use Rattle.layout.specs.Layout.{held_places, slot_places, slot_words};
 ghost use Rattle.key_words.specs.Key.{bytes_of};
 ghost use Rattle.inst_cell.specs.Cell.{cell_of, status_of, with_status, has_book};
 ghost use Rattle.inst_reqs.specs.Batch.{requests_of};
@@ -193,14 +193,13 @@ impl<'a> InstsMut<'a> {
         inst_cell::store(self.words, place(slot), cell);
     }
 
-    // The batch, as words of crate inst_reqs.
-    pub fn put_batch(&mut self, slot: Slot, words: &[u64])
-        requires { length words.now ≡ batch_words }
+    pub fn put_batch(&mut self, slot: Slot, batch: Batch<'_>)
         ensures same_reference { self.new.words.ghost_name ≡ self.old.words.ghost_name }
-        ensures puts { PutsBatch self.old.words.now (place_of slot.0) (requests_of words.now) self.new.words.now }
+        ensures puts { PutsBatch self.old.words.now (place_of slot.0) (requests_of batch.entry.words.now) self.new.words.now }
     {
         let a = batch_at(place(slot));
-        self.words[a..a + layout::BATCH_WORDS].copy_from_slice(words);
+        self.words[a..a + layout::BATCH_WORDS]
+            .copy_from_slice(&batch.words[..layout::BATCH_WORDS]);
     }
 
     fn clear_batch(&mut self, slot: Slot)

@@ -18,6 +18,7 @@ ghost use Rattle.release_held_reads.specs.Release.{answer_to, answers_of, holdin
 use ids::{Replica, Slot};
 use inst_cell::{Cell, NoticeBook, Status};
 use inst_holding::ReadReq;
+use inst_reqs::Batch;
 use insts::{Insts, InstsMut};
 use items::{Item, Items};
 
@@ -40,9 +41,8 @@ pub fn is_bound(cell: Cell, quorum: u8) -> bool
 }
 
 // What a read gets that the slot of this batch held.
-fn answer_to(bound: bool, leader: Option<Replica>, batch: &[u64], read: ReadReq) -> Item
-    requires { batch_words ≤ length batch.now }
-    ensures { item_of result ≡ answer_to bound (leader_of leader) (requests_of batch.now) (read_of read) }
+fn answer_to(bound: bool, leader: Option<Replica>, batch: Batch<'_>, read: ReadReq) -> Item
+    ensures { item_of result ≡ answer_to bound (leader_of leader) (requests_of batch.entry.words.now) (read_of read) }
 {
     let ReadReq {
         client,
@@ -80,7 +80,7 @@ fn put_answers(
     let batch = insts.batch(slot);
     let reads = insts.reads(slot);
     for i in 0..holding(insts, slot) {
-        items.push(answer_to(bound, leader, batch, inst_holding::get(reads, i)));
+        items.push(answer_to(bound, leader, batch, reads.get(i)));
     }
 }
 

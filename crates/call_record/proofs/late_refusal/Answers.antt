@@ -2,8 +2,8 @@ use Rattle.words.specs.Part.{part}
 use Rattle.call_record.proofs.Laws as law
 use Rattle.call_record.proofs.late_refusal.Goals as goal
 
-pub slice_bounds-overflows-end : goal.slice_bounds-overflows-end
-slice_bounds-overflows-end c = law.long _ _ 0 0 c.requires.0
+pub slice_bounds-new-end : goal.slice_bounds-new-end
+slice_bounds-new-end c = law.long _ _ 0 0 c.requires.0
 
 pub insts-requires : goal.insts-requires
 insts-requires c = law.long _ _ 0 0 c.requires.0
@@ -11,5 +11,5 @@ insts-requires c = law.long _ _ 0 0 c.requires.0
 pub returns : goal.returns
 unfolding part
 returns c =
-    law.late_is _ _ _ _ c.requires.0 _ _ _ _ c.current.ensures c.overflows-full.ensures
+    law.late_is _ _ _ _ c.requires.0 _ _ _ _ c.current.ensures (rw c.new-written.ensures at c.overflows-full.ensures)
     (rw (c.window.ensures.0, c.window.ensures.1, c.insts.ensures) at c.slot_refusal.ensures)

@@ -42,16 +42,16 @@ returns-then-lt c =
 pub insts-requires : goal.insts-requires
 insts-requires c = law.words_long c.args.node c.args.mem.now c.requires.0
 
-pub slice_bounds-inspect_latest_write-end : goal.slice_bounds-inspect_latest_write-end
-slice_bounds-inspect_latest_write-end c = omega (arith, law.words_long c.args.node c.args.mem.now c.requires.0)
+pub slice_bounds-new-end : goal.slice_bounds-new-end
+slice_bounds-new-end c = omega (arith, law.words_long c.args.node c.args.mem.now c.requires.0)
 
-pub inspect_latest_write-requires : goal.inspect_latest_write-requires
+pub new-requires : goal.new-requires
 unfolding part
-inspect_latest_write-requires c =
+new-requires c =
     law.written_long c.args.node c.args.mem.now c.requires.0
 
 pub returns : goal.returns
 unfolding part
 returns c =
     let a = c.args in
-    law.settled_latest a.node a.mem.now a.leases a.key.now _ (c.is_stable_leader.ensures a.mem.now) c.if-is_stable_leader.false (omega arith) c.key_to_inty.result c.key_to_inty.ensures _ c.in-Some.is c.at-stored.result c.at-stored.ensures _ c.is_responder.ensures c.if-not-is_responder.false (ge_from_not_lt a.node.commit_bar.0 a.node.peer_accept_max.0 (sym c.if-lt.ensures)) c.inspect_latest_write.result (rw c.requires.1 at (c.inspect_latest_write.ensures a.mem.now (sym c.insts.ensures) refl))
+    law.settled_latest a.node a.mem.now a.leases a.key.now _ (c.is_stable_leader.ensures a.mem.now) c.if-is_stable_leader.false (omega arith) c.key_to_inty.result c.key_to_inty.ensures _ c.in-Some.is c.at-stored.result c.at-stored.ensures _ c.is_responder.ensures c.if-not-is_responder.false (ge_from_not_lt a.node.commit_bar.0 a.node.peer_accept_max.0 (sym c.if-lt.ensures)) c.inspect_latest_write.result (rw c.requires.1 at (c.inspect_latest_write.ensures a.mem.now (sym c.insts.ensures) (sym c.new.ensures)))
