@@ -5,7 +5,7 @@ ghost use Rattle.std.specs.Prelude.{◌≡◌, false, ◌+◌, ◌≤◌, List, 
 ghost use Rattle.words.specs.Choice.{if_none◌then◌else◌};
 ghost use Rattle.bitmap.specs.Bitmap.{count};
 ghost use Rattle.ids.specs.Leader.{leader_of};
-ghost use Rattle.layout.specs.Layout.{held_places, batch_words};
+ghost use Rattle.layout.specs.Layout.{held_places};
 ghost use Rattle.items.specs.Item.{item_of, places};
 ghost use Rattle.bodega.specs.Replica.{Request, ReadReq as Held};
 ghost use Rattle.bodega.specs.Localread.{is_bound};
