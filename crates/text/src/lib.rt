@@ -59,6 +59,7 @@ impl<'a> TextMut<'a> {
         self.at += 1;
     }
 
+    // The library's copy; the position moves on with it.
     pub fn put_bytes(&mut self, src: &[u8])
         requires { self.old.at + length src.now ≤ length self.old.out.now }
         ensures { Puts self.old src.now (length src.now) self.new }
