@@ -136,8 +136,7 @@ impl RangeMap<'_> {
     }
 }
 
-// `RangeMap::at` of rows that come with their number: the proof of the one caller, over a part of the node's buffer, did
-// not close with the struct.
+// `RangeMap::at` of rows that come with their number.
 pub fn at(rows: &[u64], count: usize, n: Inty) -> Option<u64>
     requires { count * roster_row ≤ length rows.now }
     ensures { result ≡ at (ranges_of rows.now count) (value_of n) }
