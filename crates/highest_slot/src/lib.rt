@@ -93,7 +93,7 @@ pub fn note(written: &mut WrittenMut<'_>, key: Key, slot: Slot) -> bool
     let Some(i) = find(written.as_ref(), key) else {
         return written.push(Entry { slot, key });
     };
-    // The slot alone: storing the whole row again takes 28 instructions more.
+    // The slot alone: storing the whole row again takes 24 instructions more.
     let p = 1 + i * layout::WRITTEN_ROW;
     written.words[p] = slot.0.max(written.words[p]);
     true
