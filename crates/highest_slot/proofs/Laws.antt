@@ -1,21 +1,25 @@
 -- The written keys: a search over the entries, and a write noted in place or after the others.
-use Rattle.std.specs.Prelude.{Option, None, Some, MatchOption, if◌then◌else◌}
+use Rattle.std.specs.Prelude.{Option, None, Some, MatchOption, IfSome, if◌then◌else◌}
 use mathlib.Core.Path.{◌≡◌, refl, sym, ap, ◌∙◌}
 use mathlib.Core.Bool.{Bool, true, false, true≢false}
 use mathlib.Core.List.{List, [], ◌∷◌, ◌++◌}
-use Prim.Native.Nat.{ℕ, zero, suc, ◌+◌, ◌≤◌, ◌<◌, max}
+use Prim.Native.Nat.{ℕ, zero, suc, ◌+◌, ◌*◌, ◌≤◌, ◌<◌, max}
 use native.Mathlib.Nat.{add-zero, zero-add}
 use native.Mathlib.Decide.{dec_lt}
 use native.Mathlib.Omega.{arith}
 use borrow.Author.Tests.{le-leb}
 use lib.ListN.{length, get_or, set}
 use Rattle.words.specs.Tab.{tab, get_or_tab}
-use Rattle.words.specs.Counted.{counted, count_of, length_counted}
-use Rattle.table.specs.Table.{Pushes, Sets}
+use Rattle.words.specs.Counted.{counted, count_of, length_counted, counted_set}
+use Rattle.table.specs.Table.{Pushes}
 use Rattle.table.proofs.Laws.{below}
-use Rattle.layout.specs.Layout.{written_places, written_row}
+use Rattle.layout.specs.Layout.{written_places, written_row, written_words}
 use Rattle.keys.specs.Same.{same_bytes}
-use Rattle.key_words.specs.Key.{bytes_of}
+use Rattle.key_words.specs.Key.{bytes_of, key_at}
+use Rattle.key_words.proofs.Laws.{key_at_agrees}
+use Rattle.highest_slot.specs.Row.{near}
+use lib.Seq.{get_or-set_same, get_or-set_other}
+use mathlib.Core.Logic.{⊎_elim}
 use Rattle.key_words.specs.declared.Key.{Key}
 use Rattle.bodega.specs.Localread.{raise, highest_of}
 use Rattle.bodega.specs.Replica as machine
@@ -105,28 +109,44 @@ module _ (s : List ℕ) (key : Key) (i : ℕ) (told : Some i ≡ place_of 0 (byt
   pub held : i < length (written_of s)
   held = hit_at.below
 
-  pub placed : i < written_places
+  placed : i < written_places
   placed = below highest_at written_row written_places s i held
+
+  entry_is : get_or (written_of s) i nobody ≡ entry_at s i
+  unfolding counted
+  entry_is = get_or_tab (entry_at s) 0 (count_of written_places s) i nobody (rw length_counted at held) ∙ rw zero-add
 
   -- e is the entry that was read
   module _ (e : Entry) (is : highest_in e ≡ entry_at s i) where
-    read : get_or (written_of s) i nobody ≡ highest_in e
-    unfolding counted
-    read = get_or_tab (entry_at s) 0 (count_of written_places s) i nobody (rw length_counted at held) ∙ rw zero-add (sym is)
-
     pub slot_found : Some e.slot.0 ≡ highest_of (bytes_of key) (written_of s)
-    slot_found = sym (hit_at.slot_is ∙ ap (λ (h : machine.Highest). Some h.slot) read)
+    slot_found = sym (hit_at.slot_is ∙ ap (λ (h : machine.Highest). Some h.slot) (entry_is ∙ sym is))
 
-    -- x is the entry that was stored in its place
-    pub note_known : (slot : ℕ) (x : Entry) (t : List ℕ) → x.key ≡ e.key → x.slot.0 ≡ max slot e.slot.0 → Sets highest_at written_row written_places s i (highest_in x) t → Notes s (bytes_of key) slot true t
-    note_known slot x t k v p =
-        let raised : raise slot (bytes_of key) (written_of s) ≡ written_of t = hit_at.raised slot ∙ rw (read, p.rows, k, v) in
-        let l : length (written_of t) ≤ written_places = rw length_counted (omega arith) in
-        record {
-          outcome = rw (raised, le-leb (length (written_of t)) written_places l);
-          refused = λ h. absurd (true≢false h);
-          beyond = p.beyond;
-        }
+  -- the slot is raised where it stands
+  pub note_known : (slot v : ℕ) → written_words ≤ length s → v ≡ max slot (get_or s (1 + i * written_row) 0) → Notes s (bytes_of key) slot true (set s (1 + i * written_row) v)
+  unfolding highest_at
+  note_known slot v fits e =
+      let p : ℕ = 1 + i * written_row in
+      let t : List ℕ = set s p v in
+      let lt = placed in
+      let many : i < count_of written_places s = rw length_counted at held in
+      let read : get_or (written_of s) i nobody ≡ entry_at s i = entry_is in
+      let a : get_or t p 0 ≡ v = get_or-set_same s p v 0 (omega arith) in
+      let k : key_at t (p + 1) ≡ key_at s (p + 1) = key_at_agrees t s (p + 1) (λ j x y. get_or-set_other s p j v 0 (omega arith)) in
+      let here : highest_at t p ≡ record { key = bytes_of (key_at s (p + 1)); slot = v } = rw (a, k) in
+      let raised : written_of t ≡ raise slot (bytes_of key) (written_of s) =
+      counted_set highest_at written_row written_places near s t i (record { key = bytes_of (key_at s (p + 1)); slot = v }) many (get_or-set_other s p 0 v 0 (omega arith)) here
+      (λ j x y. get_or-set_other s p j v 0 (⊎_elim (λ (z : j < p). omega arith) (λ (z : p + written_row ≤ j). omega arith) y))
+      ∙ sym (hit_at.raised slot ∙ rw (read, e)) in
+      let l : length (written_of t) ≤ written_places = rw length_counted (omega arith) in
+      record {
+        outcome = rw (← raised, le-leb (length (written_of t)) written_places l);
+        refused = λ h. absurd (true≢false h);
+        beyond = λ j h. get_or-set_other s p j v 0 (omega arith);
+      }
+
+pub all_placed : (s : List ℕ) (key : Key) (r : Option ℕ) → r ≡ place_of 0 (bytes_of key) (written_of s) → IfSome r (λ i. i < written_places)
+all_placed s key None e = tt
+all_placed s key (Some i) e = placed s key i e
 
 module _ (s : List ℕ) (key : Key) (told : None ≡ place_of 0 (bytes_of key) (written_of s)) where
   pub slot_none : None ≡ highest_of (bytes_of key) (written_of s)

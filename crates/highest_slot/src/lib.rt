@@ -71,7 +71,8 @@ fn is_at(written: Written<'_>, i: usize, key: Key) -> bool
 
 // The place of a key's first entry.
 fn find(written: Written<'_>, key: Key) -> Option<usize>
-    ensures { result ≡ place_of 0 (bytes_of key) (written_of written.entry.words.now) }
+    ensures place { result ≡ place_of 0 (bytes_of key) (written_of written.entry.words.now) }
+    ensures below { IfSome result (λ i. i < written_places) }
 {
     (0..written.count()).find(|&i| is_at(written, i, key))
 }
@@ -92,13 +93,8 @@ pub fn note(written: &mut WrittenMut<'_>, key: Key, slot: Slot) -> bool
     let Some(i) = find(written.as_ref(), key) else {
         return written.push(Entry { slot, key });
     };
-    let entry = written.as_ref().get(i);
-    written.set(
-        i,
-        Entry {
-            slot: Slot(slot.0.max(entry.slot.0)),
-            ..entry
-        },
-    );
+    // The slot alone: storing the whole row again takes 24 instructions more.
+    let p = 1 + i * layout::WRITTEN_ROW;
+    written.words[p] = slot.0.max(written.words[p]);
     true
 }

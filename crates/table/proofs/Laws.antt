@@ -1,11 +1,11 @@
--- A row goes after the others, or in another's place.
-use Rattle.std.proofs.Common.{◌≡◌, refl, ◌∙◌, inl, inr, ⊎_elim, arith, List, [], ◌∷◌, ◌++◌, ℕ, ◌+◌, ◌*◌, ◌≤◌, ◌<◌, length, set, length-append, get_or-set_other}
+-- A row goes after the others.
+use Rattle.std.proofs.Common.{◌≡◌, refl, ◌∙◌, inr, arith, List, [], ◌∷◌, ◌++◌, ℕ, ◌+◌, ◌*◌, ◌≤◌, ◌<◌, length, set, length-append, get_or-set_other}
 use Rattle.std.specs.Prelude.{Some, None, if◌then◌else◌}
 use mathlib.Core.Bool.{Bool, true, false, true≢false}
 use borrow.Author.Tests.{le-leb, lt-leb}
-use Rattle.words.specs.Counted.{count_of, counted, length_counted, counted_push, counted_set, apart}
+use Rattle.words.specs.Counted.{count_of, counted, length_counted, counted_push, apart}
 use Rattle.words.specs.Writes.{writes, Agrees, writes_other}
-use Rattle.table.specs.Table.{Pushes, Sets}
+use Rattle.table.specs.Table.{Pushes}
 
 pub below : {A : Type 0} (f : List ℕ → ℕ → A) (w lim : ℕ) (s : List ℕ) (i : ℕ) → i < length (counted f w lim s) → i < lim
 below f w lim s i b = let c : i < count_of lim s = rw length_counted at b in omega arith
@@ -42,15 +42,3 @@ module _ {R A : Type 0} (at : List ℕ → ℕ → A) (w : ℕ) (view : R → A)
   push_no s n x many full =
       let l : length (counted at w lim s ++ (view x ∷ [])) ≡ lim + 1 = rw (length-append, ← many, full) refl in
       record { outcome = rw (l, lt-leb (lim + 1) lim (omega arith)); refused = λ e. refl; beyond = λ j h. refl }
-
-  pub set_row : (s t : List ℕ) (i : ℕ) (x : R) → 1 + lim * w ≤ length s → i < length (counted at w lim s) → t ≡ writes s (1 + i * w) (words x) → Sets at w lim s i (view x) t
-  set_row s t i x fits b e =
-      let c : i < count_of lim s = rw length_counted at b in
-      let end : i * w + w ≤ lim * w = apart i lim w (omega arith) in
-      let l = width x in
-      let here : at t (1 + i * w) ≡ view x = rw e (back s (1 + i * w) x (omega arith)) in
-      record {
-        rows = counted_set at w lim near s t i (view x) c (rw e (writes_other s (1 + i * w) (words x) 0 (inl (omega arith)))) here
-            (λ j a o. rw e (writes_other s (1 + i * w) (words x) j (⊎_elim (λ (y : j < 1 + i * w). inl y) (λ (y : 1 + i * w + w ≤ j). inr (omega arith)) o)));
-        beyond = λ j h. rw e (writes_other s (1 + i * w) (words x) j (inr (omega arith)));
-      }

@@ -1,6 +1,6 @@
--- Bridge: what a push and a store leave on a table in lent words (words/specs/Counted); tied by the Laws of req_batch,
--- insts and highest_slot.
-use Rattle.std.specs.Prelude.{◌≡◌, Bool, false, List, [], ◌∷◌, ◌++◌, ℕ, ◌+◌, ◌*◌, ◌≤◌, leb, length, get_or, set, if◌then◌else◌}
+-- Bridge: what a push leaves on a table in lent words (words/specs/Counted); tied by the Laws of req_batch, insts and
+-- highest_slot.
+use Rattle.std.specs.Prelude.{◌≡◌, Bool, false, List, [], ◌∷◌, ◌++◌, ℕ, ◌+◌, ◌*◌, ◌≤◌, leb, length, get_or, if◌then◌else◌}
 use Rattle.std.specs.Prelude.{Option, None, Some}
 use Rattle.words.specs.Counted.{counted}
 
@@ -18,9 +18,4 @@ module _ {A : Type 0} (f : List ℕ → ℕ → A) (w lim : ℕ) where
   pub record Pushes (s : List ℕ) (x : A) (r : Bool) (t : List ℕ) : Type 0 where
     pub outcome : (if r then Some (counted f w lim t) else None) ≡ capped lim (counted f w lim s ++ (x ∷ []))
     pub refused : r ≡ false → t ≡ s
-    pub beyond : Beyond w lim s t
-
-  -- the words t are those of s with x for the i-th row
-  pub record Sets (s : List ℕ) (i : ℕ) (x : A) (t : List ℕ) : Type 0 where
-    pub rows : counted f w lim t ≡ set (counted f w lim s) i x
     pub beyond : Beyond w lim s t

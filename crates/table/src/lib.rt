@@ -4,7 +4,7 @@
 ghost use Rattle.std.specs.Prelude.{◌≡◌, List, [], ℕ, ◌+◌, ◌*◌, ◌<◌, ◌≤◌, length, set};
 ghost use Rattle.words.specs.Counted.{counted};
 ghost use Rattle.words.specs.Writes.{writes, Agrees};
-ghost use Rattle.table.specs.Table.{Pushes, Sets};
+ghost use Rattle.table.specs.Table.{Pushes};
 
 use std::alloc::AllocError;
 use std::marker::PhantomData;
@@ -119,15 +119,6 @@ impl<'a, R: Row, const PLACES: usize> TableMut<'a, R, PLACES> {
         row.put(self.words, 1 + n * R::WORDS);
         self.words[0] = (n + 1) as u64;
         true
-    }
-
-    // A row in place of the i-th.
-    pub fn set(&mut self, i: usize, row: R)
-        requires { i < length (counted R.at R.WORDS PLACES self.old.words.now) }
-        ensures same_reference { self.new.words.ghost_name ≡ self.old.words.ghost_name }
-        ensures sets { Sets R.at R.WORDS PLACES self.old.words.now i (R.view row) self.new.words.now }
-    {
-        row.put(self.words, 1 + i * R::WORDS);
     }
 
     #[tactic(auto, using(words::specs::Counted::counted_clear))]
