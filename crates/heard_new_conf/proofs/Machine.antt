@@ -45,17 +45,9 @@ module _ (x : Replica) (bal : ℕ) (c : Conf) where
       go true = h
       go false = g
 
-  pub heard_bar : (heard_new_conf x bal c).replica.bar ≡ x.bar
-  unfolding update_peer_accept_max
-  heard_bar = either (λ d. d.replica.bar) x.bar (rw (step_up_is (adopted x bal c))) refl
-
   pub heard_me : (heard_new_conf x bal c).replica.me ≡ x.me
   unfolding update_peer_accept_max
   heard_me = either (λ d. d.replica.me) x.me (rw (step_up_is (adopted x bal c))) refl
-
-  pub heard_insts : leads c x.me.id ≡ false → (heard_new_conf x bal c).replica.insts ≡ x.insts
-  unfolding update_peer_accept_max
-  heard_insts e = ap (λ (d : Done). d.replica.insts) (heard_following e)
 
   pub heard_count : length (heard_new_conf x bal c).items ≡ (if leads c x.me.id then length (step_up x.bar.start x.me.quorum c.leader bal x.insts).items else 0)
   unfolding update_peer_accept_max
@@ -68,14 +60,3 @@ module _ (x : Replica) (bal : ℕ) (c : Conf) where
   module _ (ballot bar : ℕ) where
     pub advance_leading : leads c x.me.id ≡ true → advance_commit_bar (heard_new_conf x bal c).replica ballot bar ≡ done (heard_new_conf x bal c).replica []
     advance_leading e = rw (heard_leading e) (still (adopted x bal c) ballot bar)
-
-    pub advance_following : leads c x.me.id ≡ false → (advance_commit_bar (heard_new_conf x bal c).replica ballot bar).items ≡ (advance_commit_bar x ballot bar).items
-    unfolding advance_commit_bar update_peer_accept_max
-    advance_following e = rw (heard_following e)
-
-    pub advance_count : length (advance_commit_bar (heard_new_conf x bal c).replica ballot bar).items ≡ (if leads c x.me.id then 0 else length (advance_commit_bar x ballot bar).items)
-    advance_count = go (leads c x.me.id) refl
-      where
-        go : (b : Bool) → leads c x.me.id ≡ b → length (advance_commit_bar (heard_new_conf x bal c).replica ballot bar).items ≡ (if leads c x.me.id then 0 else length (advance_commit_bar x ballot bar).items)
-        go true e = rw (e, advance_leading e)
-        go false e = rw (e, advance_following e)
