@@ -1,6 +1,6 @@
--- A line's fields as the arguments of an edit, a listing or a node.
-use Rattle.std.specs.Prelude.{if◌then◌else◌, Result, Err}
-use mathlib.Core.Path.{◌≡◌, refl, sym, ap, subst, ◌∙◌}
+-- A line's fields as the arguments of an edit.
+use Rattle.std.specs.Prelude.{if◌then◌else◌, Result}
+use mathlib.Core.Path.{◌≡◌, refl, sym, subst, ◌∙◌}
 use mathlib.Core.Bool.{Bool, true, false, ◌&&◌}
 use mathlib.Core.List.{List}
 use Prim.Native.Nat.{ℕ, ◌≤◌}
@@ -10,17 +10,10 @@ use lib.ListN.{length}
 use borrow.Author.Tests.{le-leb, leb-true, ltb-true}
 use Rattle.words.proofs.Tests.{and_both}
 use Rattle.ids.specs.declared.Refusal.{Refusal}
-use Rattle.layout.specs.Layout.{node_words}
 use Rattle.roster_conf.specs.declared.RespondersConf.{RespondersConf}
 use Rattle.roster_conf.specs.Edit.{Edit, SetLeader, IntoFiltered, EditResult, grounds, edit_result, refused}
 use Rattle.roster_conf.specs.Edits.{Edits, Gives, due, view, holds_rows, in_range}
-use Rattle.node.specs.declared.Node.{Node}
-use Rattle.node.specs.View as node
-use Rattle.node.specs.View.{size, ready}
-use Rattle.node.specs.Begins as begins
-use Rattle.bodega.specs.Answers.{Given}
 use Rattle.line_host.specs.Follows.{as_byte}
-use Rattle.line_draft.specs.Drafts.{BeginsBy}
 
 -- ---- a replica number that no byte has
 
@@ -51,13 +44,3 @@ module _ (population : ℕ) (c : RespondersConf) (rows : List ℕ) where
   pub to_dropped : (b id : ℕ) (r : Result RespondersConf Refusal) (rows' : List ℕ) → b ≡ as_byte id → Edits (IntoFiltered b) population c rows r rows' → Edits (IntoFiltered id) population c rows r rows'
   unfolding edit_result grounds
   to_dropped = as_byte_lem IntoFiltered (λ i g. rw g)
-
--- ---- the node line
-
--- a node that is not made
-pub unmade : (id population quorum : ℕ) (n : Node) (mem mem' : List ℕ) (r : Refusal) → node_words ≤ length mem → begins.Begins id population quorum mem (Err r) mem' → BeginsBy (node.in_range id population quorum) id population quorum n mem (Err r) mem'
-unmade id population quorum n mem mem' r long b = go (node.in_range id population quorum) (rw (le-leb node_words (length mem) long) at b)
-  where
-    go : (t : Bool) → begins.Gives t id population quorum mem (Err r) mem' → BeginsBy t id population quorum n mem (Err r) mem'
-    go true h = absurd h
-    go false h = record { answer = ap {B = Given Node} (λ k. record { number = k; count = 0; node = n }) h.0; same_mem = h.1 }

@@ -1,13 +1,9 @@
 -- Bridge: what the functions of the node line and of the draft leave; tied to `answer_line` by line_event/proofs/Laws.
-use Rattle.std.specs.Prelude.{◌≡◌, Bool, true, false, List, [], ℕ, ◌≤◌, length, get_or, Option, None, Some, Result, Err}
-use Rattle.words.specs.Text.{Bytes}
+use Rattle.std.specs.Prelude.{◌≡◌, Bool, true, false, List, ℕ, length, Result, Err}
 use Rattle.words.specs.Part.{Untouched}
 use Rattle.ids.specs.declared.Refusal.{Refusal}
 use Rattle.ids.specs.declared.Refusal.TheVariants.{Malformed, NotReady}
 use Rattle.layout.specs.Layout.{node_words}
-use Rattle.line_fields.specs.Split.{fields_from}
-use Rattle.line_fields.specs.Number.{number_at}
-use Rattle.line_fields.specs.Reads.{between}
 use Rattle.roster_conf.specs.declared.RespondersConf.{RespondersConf}
 use Rattle.roster_show.specs.Show.{Listing, listing}
 use Rattle.bodega.specs.Replica.{fresh}
@@ -15,24 +11,6 @@ use Rattle.bodega.specs.Answers.{Given}
 use Rattle.node.specs.declared.Node.{Node}
 use Rattle.node.specs.declared.Taken.{Taken}
 use Rattle.node.specs.View.{view, ready, in_range, given_of}
-use Rattle.line_host.specs.Line.{is_range}
-use Rattle.line_draft.specs.declared.RangeFields.{RangeFields}
-
--- ---- the fields of a range line: START,END,MASK
-
-pub record RangeAs (s : Bytes) (at : ℕ) (r : RangeFields) : Type 0 where
-  pub good : is_range (fields_from s at) ≡ true
-  pub start_low : r.start.start ≤ r.start.end
-  pub start_high : r.start.end ≤ length s
-  pub start : between s r.start.start r.start.end ≡ get_or (fields_from s at) 0 []
-  pub end_low : r.end.start ≤ r.end.end
-  pub end_high : r.end.end ≤ length s
-  pub end : between s r.end.start r.end.end ≡ get_or (fields_from s at) 1 []
-  pub mask : r.mask ≡ number_at (fields_from s at) 2
-
-abbrev pub ReadsRange : Bytes → ℕ → Option RangeFields → Type 0
-ReadsRange s at None = is_range (fields_from s at) ≡ false
-ReadsRange s at (Some r) = RangeAs s at r
 
 -- ---- show: where no node is made the population is 0
 

@@ -11,10 +11,9 @@ ghost use Rattle.node.specs.View.{in_range};
 ghost use Rattle.node.specs.declared.Node.{Node};
 ghost use Rattle.line_host.specs.Line.{is_edit, edit_of};
 ghost use Rattle.line_host.specs.Follows.{EditsLine};
-ghost use Rattle.line_draft.specs.Drafts.{ReadsRange, ShowsLine, BeginsBy, BeginsLine};
+ghost use Rattle.line_draft.specs.Drafts.{ShowsLine, BeginsBy, BeginsLine};
 
 use ids::{Refusal, Replica};
-use line_fields::Field;
 use line_kind::EditKind;
 use line_reader::LineReader;
 use node::{Node, Taken};
@@ -22,37 +21,23 @@ use roster_conf::RespondersConf;
 
 // ---- the draft
 
-// The fields of a range line.
-#[derive(Clone, Copy)]
-struct RangeFields {
-    start: Field,
-    end: Field,
-    mask: u64,
-}
-
-fn range_fields(mut reader: LineReader<'_>) -> Option<RangeFields>
-    ensures { ReadsRange reader.entry.line.now reader.entry.at result }
-{
-    let start = reader.next_field();
-    let end = reader.next_field();
-    let mask = reader.next_number()?;
-    reader
-        .is_ended()
-        .then_some(RangeFields { start, end, mask })
-}
-
 fn range_line(
     draft: RespondersConf,
     rows: &mut [u64],
     population: u8,
-    reader: LineReader<'_>,
+    mut reader: LineReader<'_>,
 ) -> Result<RespondersConf, Refusal>
     ensures { EditsLine (is_edit Range (fields_from reader.entry.line.now reader.entry.at)) (edit_of Range (fields_from reader.entry.line.now reader.entry.at)) population draft rows.old result rows.new }
 {
-    let f = range_fields(reader).ok_or(Refusal::Malformed)?;
-    let start = &reader.line[f.start.start..f.start.end];
-    let end = &reader.line[f.end.start..f.end.end];
-    draft.set_responders(rows, population, start, end, f.mask)
+    let start = reader.next_field();
+    let end = reader.next_field();
+    let mask = reader.next_number().ok_or(Refusal::Malformed)?;
+    if !reader.is_ended() {
+        return Err(Refusal::Malformed);
+    }
+    let start = &reader.line[start.start..start.end];
+    let end = &reader.line[end.start..end.end];
+    draft.set_responders(rows, population, start, end, mask)
 }
 
 // Any edit of the draft.

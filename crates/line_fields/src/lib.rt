@@ -6,6 +6,7 @@ ghost use Rattle.std.specs.Prelude.{◌≡◌, ◌==◌, ◌+◌, ◌*◌, ◌^�
 ghost use Rattle.line_fields.specs.Split.{fields_from};
 ghost use Rattle.line_fields.specs.Reads.{none_left, number_in, ReadsField, ReadsNumberAt, ReadsNumbersAt, ReadsOptionalAt};
 
+// By positions, as the cursor form has them.
 #[derive(Clone, Copy)]
 pub struct Field {
     pub start: usize,
@@ -28,6 +29,7 @@ pub struct OptionalAt {
 }
 
 // Whether no field is left.
+#[tactic(auto, using(crate::proofs::Laws::none_left_lem))]
 pub fn ended(line: &[u8], at: usize) -> bool
     ensures { result ≡ none_left (fields_from line.now at) }
 {

@@ -18,7 +18,7 @@ pub struct Host {
 }
 
 // What a line gives that is taken: the host after it, and how many items it answers. A line that is refused leaves the
-// host as it was.
+// host as it was. The items stand in a lent area (no heap), so their number goes beside it.
 #[derive(Clone, Copy)]
 pub struct LineTaken {
     pub host: Host,

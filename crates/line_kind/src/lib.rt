@@ -46,7 +46,7 @@ fn is(name: &[u8], word: &[u8]) -> bool
 }
 
 // By its length first: with all words one after the other a name takes more than twice the instructions. A match on the
-// words themselves takes half, but its proof did not close (91 goals).
+// words themselves takes half, but its proof did not close (91 goals). No `From`: a name is not another form of a kind.
 #[tactic(auto, using(crate::proofs::Names::of_4, crate::proofs::Names::of_5, crate::proofs::Names::of_6, crate::proofs::Names::of_7, crate::proofs::Names::of_8, crate::proofs::Names::none))]
 pub fn kind_of(name: &[u8]) -> Kind
     ensures { result ≡ kind_of name.now }
