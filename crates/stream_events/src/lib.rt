@@ -44,6 +44,7 @@ pub struct Fed {
 
 impl LineState {
     // Before the first line.
+    #[tactic(auto, using(crate::proofs::Laws::fresh_state))]
     pub fn fresh() -> LineState
         ensures { ((mem rows : List ℕ) → state_of result mem rows ≡ start) × (result.host.draft.count ≤ 64) }
     {
