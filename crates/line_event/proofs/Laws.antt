@@ -53,7 +53,7 @@ use Rattle.line_answer.proofs.Items.{holds}
 use Rattle.words.specs.Writes.{length_writes}
 use Rattle.layout.specs.Layout.{roster_words, node_words}
 use Rattle.line_event.specs.Ways as ways
-use Rattle.line_event.specs.Event.{whole, fit, due_in, due as due-line, AnswersEvent}
+use Rattle.line_event.specs.Event.{whole, fit, due_in, due as due-line, told, Stays, AnswersEvent}
 use Rattle.std.specs.Prelude.{Result, Ok, Err, option_map}
 use Rattle.std.specs.Bool.{then_some}
 use Rattle.ids.specs.declared.Refusal.{Refusal}
@@ -233,7 +233,7 @@ unfolding show spans_of edits-specs.view
 show_length c rows l = simp (length-append, length-map, length_ranges) (omega arith)
 
 module _ (h : code.Host) (mem rows area area' : List ℕ) (d : Result ℕ Refusal) (s : sound h.draft mem rows ≡ true) (q : places area ≡ items) where
-  shown_refused : (x : Refusal) → 0 < number_of x → d ≡ Err x → area' ≡ area → LineFollowsBy (host_of h mem rows) (lines.Refusal (number_of x)) h mem rows area (line_given h (ways.shown h d)) mem rows area'
+  shown_refused : (x : Refusal) → 0 < number_of x → d ≡ Err x → area' ≡ area → LineFollowsBy (host_of h mem rows) (lines.Refusal (number_of x)) h mem rows area (line_given h (told h d)) mem rows area'
   shown_refused x p f g = rw f (record { refused = p; number = refl; count = refl; same_host = refl; same_mem = refl; same_rows = refl; same_area = g })
 
   room : h.draft.count ≤ 64
@@ -241,7 +241,7 @@ module _ (h : code.Host) (mem rows area area' : List ℕ) (d : Result ℕ Refusa
   room = leb-true h.draft.count 64 (and_both (leb roster_words (length rows)) _ (and_both (leb size (length mem)) _ s).1).1
 
   lists : ◌≡◌ {A = Listing} (record { answer = d; area = area' }) (listing h.draft rows area)
-      → LineFollowsBy (host_of h mem rows) (lines.Items (show (edits-specs.view h.draft rows))) h mem rows area (line_given h (ways.shown h d)) mem rows area'
+      → LineFollowsBy (host_of h mem rows) (lines.Items (show (edits-specs.view h.draft rows))) h mem rows area (line_given h (told h d)) mem rows area'
   unfolding listing sound
   lists f =
       let whole : holds_rows (length rows) h.draft.count ≡ true = (and_both (leb size (length mem)) _ s).1 in
@@ -261,17 +261,17 @@ module _ (h : code.Host) (mem rows area area' : List ℕ) (d : Result ℕ Refusa
       })
 
   shows_line : (good : Bool) (population : ℕ) → population ≡ (if ready h.node mem then h.node.population else 0) → ShowsLine good population h.draft rows area d area'
-      → FollowsGiven (result_by (host_of h mem rows) (only good ShowLine)) h mem rows area (line_given h (ways.shown h d)) mem rows area'
+      → FollowsGiven (result_by (host_of h mem rows) (only good ShowLine)) h mem rows area (line_given h (told h d)) mem rows area'
   unfolding line_at first_line
   shows_line false population p f = shown_refused Malformed (omega arith) (f.bad refl).0 (f.bad refl).1
   shows_line true population p f = go (ready h.node mem) refl p
     where
       go : (t : Bool) → ready h.node mem ≡ t → population ≡ (if t then h.node.population else 0)
-          → FollowsGiven (if_none (if t then Some (view h.node mem) else None) then first_line (host_of h mem rows) ShowLine else λ y. line_at (host_of h mem rows) y ShowLine) h mem rows area (line_given h (ways.shown h d)) mem rows area'
+          → FollowsGiven (if_none (if t then Some (view h.node mem) else None) then first_line (host_of h mem rows) ShowLine else λ y. line_at (host_of h mem rows) y ShowLine) h mem rows area (line_given h (told h d)) mem rows area'
       go true g u = lists (f.well refl (λ z. omega (arith, u, is_ready h.node mem true (sym g) refl)))
       go false g u = shown_refused NotReady (omega arith) (f.unmade refl u).0 (f.unmade refl u).1
 
-pub show_line : (h : code.Host) (mem rows area area' : List ℕ) (d : Result ℕ Refusal) (r : Result LineTaken Refusal) → r ≡ ways.shown h d → sound h.draft mem rows ≡ true → places area ≡ items
+pub show_line : (h : code.Host) (mem rows area area' : List ℕ) (d : Result ℕ Refusal) (r : Result LineTaken Refusal) → r ≡ told h d → sound h.draft mem rows ≡ true → places area ≡ items
     → (good : Bool) (population : ℕ) → population ≡ (if ready h.node mem then h.node.population else 0) → ShowsLine good population h.draft rows area d area'
     → LineFollows (result_by (host_of h mem rows) (only good ShowLine)) h mem rows area r mem rows area'
 show_line h mem rows area area' d r e s q good population p f = rw e (shows_line h mem rows area area' d s q good population p f)
@@ -447,18 +447,19 @@ module _ (h : code.Host) (mem rows area groups : List ℕ) (out line : Bytes) wh
   unfolding due-line fit
   small_fit l = rw (lt-leb 65536 (length out) l, and-false (whole h.draft mem rows area groups))
 
-  pub small_out : (n : ℕ) → length out < 65536 → AnswersEvent h mem rows area groups n line out (record { acted = Err NotReady; end = 0 }) mem rows area groups out
+  pub small_out : (n : ℕ) → length out < 65536 → AnswersEvent h mem rows area groups n line out (record { acted = Err NotReady; end = 0 }) h mem rows area groups out
   small_out n l =
       record {
         acts = subst (λ (t : LineResult). LineFollows t h mem rows area (Err NotReady) mem rows area) (sym (small_fit l)) (turned_acts NotReady (host_of h mem rows) h mem rows area (omega arith));
+        stays = refl;
         text = λ m. absurd (omega arith);
         silent = λ m. (refl, refl);
         groups_size = refl;
       }
 
-  module _ (l : 65536 ≤ length out) (r : Result LineTaken Refusal) (mem' rows' area' : List ℕ) (x : LineFollows (due_in h mem rows area groups line) h mem rows area r mem' rows' area') where
+  module _ (l : 65536 ≤ length out) (a : Result ℕ Refusal) (h' : code.Host) (mem' rows' area' : List ℕ) (x : LineFollows (due_in h mem rows area groups line) h mem rows area (told h' a) mem' rows' area') where
     abbrev pub given : LineGiven
-    given = line_given h r
+    given = line_given h (told h' a)
 
     same_due : due_in h mem rows area groups line ≡ due-line h mem rows area groups out line
     unfolding due_in due-line fit
@@ -492,10 +493,11 @@ module _ (h : code.Host) (mem rows area groups : List ℕ) (out line : Bytes) wh
           let v = w.taken m g.number (holds area area' m given.count g.count (omega (arith, p.0, p.1, g.count, ap length g.items ∙ length_writes area 0 (encode m))) g.items) in
           record { end = v.end; bytes = v.bytes; short = omega (arith, v.short, p.0, g.count) }
 
-      pub tells : (groups' : List ℕ) → length groups' ≡ length groups → AnswersEvent h mem rows area groups n line out (record { acted = r; end = end }) mem' rows' area' groups' out'
-      tells groups' q =
+      pub tells : (groups' : List ℕ) → length groups' ≡ length groups → Stays h a h' → AnswersEvent h mem rows area groups n line out (record { acted = a; end = end }) h' mem' rows' area' groups' out'
+      tells groups' q s =
           record {
-            acts = subst (λ (y : LineResult). LineFollows y h mem rows area r mem' rows' area') same_due x;
+            acts = subst (λ (y : LineResult). LineFollows y h mem rows area (told h' a) mem' rows' area') same_due x;
+            stays = s;
             text = λ m. subst (λ (y : LineResult). Wrote out 0 (text_of n y.outcome) 65536 end out') same_due (wrote _ (due_in h mem rows area groups line).outcome fits x);
             silent = λ m. absurd (omega arith);
             groups_size = q;

@@ -1,5 +1,5 @@
--- Bridge: what a call, an edit or a listing leaves for the host; tied to `LineFollows` by proofs/Laws.
-use Rattle.std.specs.Prelude.{ℕ, Result, Ok, Err}
+-- Bridge: what a call or an edit leaves for the host; tied to `LineFollows` by proofs/Laws.
+use Rattle.std.specs.Prelude.{Result, Ok, Err}
 use Rattle.ids.specs.declared.Refusal.{Refusal}
 use Rattle.roster_conf.specs.declared.RespondersConf.{RespondersConf}
 use Rattle.node.specs.declared.Taken.{Taken}
@@ -13,7 +13,3 @@ called h (Err r) = Err r
 abbrev pub edited : Host → Result RespondersConf Refusal → Result LineTaken Refusal
 edited h (Ok d) = Ok (record { host = record { node = h.node; draft = d }; count = 0 })
 edited h (Err r) = Err r
-
-abbrev pub shown : Host → Result ℕ Refusal → Result LineTaken Refusal
-shown h (Ok n) = Ok (record { host = h; count = n })
-shown h (Err r) = Err r

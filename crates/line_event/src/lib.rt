@@ -9,47 +9,40 @@ ghost use Rattle.line_host.specs.Line.{line_by};
 ghost use Rattle.line_host.specs.Follows.{host_of, sound, LineFollows, result_by};
 ghost use Rattle.line_buffers.specs.Same.{SameBuffers};
 ghost use Rattle.line_event.specs.Ways as ways;
-ghost use Rattle.line_event.specs.Event.{whole, due_in, AnswersEvent};
+ghost use Rattle.line_event.specs.Event.{whole, due_in, told, Stays, AnswersEvent};
 
 use ids::Refusal;
 use line_buffers::{Buffers, GROUP_WORDS, ITEM_PLACES, LINE_BYTES, TEXT_BYTES};
-use line_host::{Host, LineTaken};
+use line_host::Host;
 use line_kind::Kind;
 use line_reader::LineReader;
 use node::{Node, Taken};
 use roster_conf::RespondersConf;
 
-// What a line did, and where its text ends.
+// What a line did: how many items answer it; and where its text ends.
 #[derive(Clone, Copy)]
 pub struct LineAnswer {
-    pub acted: Result<LineTaken, Refusal>,
+    pub acted: Result<usize, Refusal>,
     pub end: usize,
 }
 
-// ---- what a call, an edit or a listing comes to
+// ---- what a call or an edit leaves
 
-fn called(host: Host, a: Result<Taken, Refusal>) -> Result<LineTaken, Refusal>
-    ensures { result ≡ ways.called host a }
+fn called(host: &mut Host, a: Result<Taken, Refusal>) -> Result<usize, Refusal>
+    ensures stays { Stays host.old result host.new }
+    ensures gives { told host.new result ≡ ways.called host.old a }
 {
-    a.map(|Taken { node, count }| LineTaken {
-        host: Host { node, ..host },
-        count,
-    })
+    let Taken { node, count } = a?;
+    host.node = node;
+    Ok(count)
 }
 
-fn edited(host: Host, e: Result<RespondersConf, Refusal>) -> Result<LineTaken, Refusal>
-    ensures { result ≡ ways.edited host e }
+fn edited(host: &mut Host, e: Result<RespondersConf, Refusal>) -> Result<usize, Refusal>
+    ensures stays { Stays host.old result host.new }
+    ensures gives { told host.new result ≡ ways.edited host.old e }
 {
-    e.map(|draft| LineTaken {
-        host: Host { draft, ..host },
-        count: 0,
-    })
-}
-
-fn shown(host: Host, s: Result<usize, Refusal>) -> Result<LineTaken, Refusal>
-    ensures { result ≡ ways.shown host s }
-{
-    s.map(|count| LineTaken { host, count })
+    host.draft = e?;
+    Ok(0)
 }
 
 // 0 where no call made the node.
@@ -66,16 +59,17 @@ fn population_of(node: Node, mem: &[u64]) -> u8
 // ---- by the kind of the line
 
 fn act(
-    host: Host,
+    host: &mut Host,
     buffers: &mut Buffers<'_>,
     kind: Kind,
     reader: LineReader<'_>,
-) -> Result<LineTaken, Refusal>
-    requires { (sound host.draft buffers.old.mem.now buffers.old.rows.now ≡ true) × (places buffers.old.area.now ≡ 546) × (1542 ≤ length buffers.old.groups.now) × (length reader.line.now ≤ 1024) }
+) -> Result<usize, Refusal>
+    requires { (sound host.old.draft buffers.old.mem.now buffers.old.rows.now ≡ true) × (places buffers.old.area.now ≡ 546) × (1542 ≤ length buffers.old.groups.now) × (length reader.line.now ≤ 1024) }
     ensures same { SameBuffers buffers.old buffers.new }
-    ensures follows { let b = buffers.old in let b' = buffers.new in let fields = fields_from reader.entry.line.now reader.entry.at in LineFollows (result_by (host_of host b.mem.now b.rows.now) (line_by kind fields)) host b.mem.now b.rows.now b.area.now result b'.mem.now b'.rows.now b'.area.now }
+    ensures stays { Stays host.old result host.new }
+    ensures follows { let b = buffers.old in let b' = buffers.new in let fields = fields_from reader.entry.line.now reader.entry.at in LineFollows (result_by (host_of host.old b.mem.now b.rows.now) (line_by kind fields)) host.old b.mem.now b.rows.now b.area.now (told host.new result) b'.mem.now b'.rows.now b'.area.now }
 {
-    let Host { node, draft } = host;
+    let Host { node, draft } = *host;
     let mem = &mut *buffers.mem;
     let rows = &mut *buffers.rows;
     let area = &mut *buffers.area;
@@ -91,10 +85,7 @@ fn act(
         }
         Kind::Show => {
             let population = population_of(node, mem);
-            shown(
-                host,
-                line_draft::show_line(draft, rows, area, population, reader),
-            )
+            line_draft::show_line(draft, rows, area, population, reader)
         }
         Kind::Heard => called(
             host,
@@ -120,11 +111,12 @@ fn is_fit(host: Host, buffers: &Buffers<'_>) -> bool
 }
 
 // What a line does, 2 where the buffers do not fit.
-fn hear(host: Host, buffers: &mut Buffers<'_>, line: &[u8]) -> Result<LineTaken, Refusal>
+fn hear(host: &mut Host, buffers: &mut Buffers<'_>, line: &[u8]) -> Result<usize, Refusal>
     ensures same { SameBuffers buffers.old buffers.new }
-    ensures follows { let b = buffers.old in let b' = buffers.new in LineFollows (due_in host b.mem.now b.rows.now b.area.now b.groups.now line.now) host b.mem.now b.rows.now b.area.now result b'.mem.now b'.rows.now b'.area.now }
+    ensures stays { Stays host.old result host.new }
+    ensures follows { let b = buffers.old in let b' = buffers.new in LineFollows (due_in host.old b.mem.now b.rows.now b.area.now b.groups.now line.now) host.old b.mem.now b.rows.now b.area.now (told host.new result) b'.mem.now b'.rows.now b'.area.now }
 {
-    if !is_fit(host, buffers) {
+    if !is_fit(*host, buffers) {
         return Err(Refusal::NotReady);
     }
     if LINE_BYTES < line.len() {
@@ -138,14 +130,14 @@ fn hear(host: Host, buffers: &mut Buffers<'_>, line: &[u8]) -> Result<LineTaken,
 
 // Done, and the text that answers it as the n-th line at the start of out, where that has room for any.
 pub fn event(
-    host: Host,
+    host: &mut Host,
     buffers: &mut Buffers<'_>,
     n: u64,
     line: &[u8],
     out: &mut [u8],
 ) -> LineAnswer
     ensures same { SameBuffers buffers.old buffers.new }
-    ensures answers { let b = buffers.old in let b' = buffers.new in AnswersEvent host b.mem.now b.rows.now b.area.now b.groups.now n line.now out.old result b'.mem.now b'.rows.now b'.area.now b'.groups.now out.new }
+    ensures answers { let b = buffers.old in let b' = buffers.new in AnswersEvent host.old b.mem.now b.rows.now b.area.now b.groups.now n line.now out.old result host.new b'.mem.now b'.rows.now b'.area.now b'.groups.now out.new }
 {
     if out.len() < TEXT_BYTES {
         return LineAnswer {
@@ -156,7 +148,7 @@ pub fn event(
     let acted = hear(host, buffers, line);
     let area = &mut *buffers.area;
     let end = match acted {
-        Ok(taken) => line_answer::put_answer(out, n, 0, taken.count, area),
+        Ok(count) => line_answer::put_answer(out, n, 0, count, area),
         Err(refusal) => line_answer::put_answer(out, n, refusal.number(), 0, area),
     };
     LineAnswer { acted, end }

@@ -17,6 +17,8 @@ use Rattle.layout.specs.Layout.{node_words}
 use Rattle.words.specs.Text.{Bytes}
 use Rattle.words.specs.Part.{splice, splice_same}
 use Rattle.words.specs.Writes.{writes, length_writes}
+use Rattle.std.specs.Prelude.{Result, Ok, Err}
+use Rattle.ids.specs.declared.Refusal as code-refusal
 use Rattle.ids.specs.Limits.{items}
 use Rattle.items.specs.Item.{Item, places, encode}
 use Rattle.roster_conf.specs.Edit as edits
@@ -31,7 +33,7 @@ use Rattle.line_host.specs.Line.{Line, NodeLine, EditLine, ShowLine, HeardLine, 
 use Rattle.line_host.specs.Host.{Host, fresh_host, Outcome, Refusal, Items, LineResult, called, edited, line_at, first_line, at_host, answer_line, text_of}
 use Rattle.line_host.specs.Follows.{host_of, sound, line_given, LineFollowsBy}
 use Rattle.line_event.specs.declared.LineAnswer.{LineAnswer}
-use Rattle.line_event.specs.Event.{whole, fit, due, AnswersEvent}
+use Rattle.line_event.specs.Event.{whole, fit, due, told, Stays as HostStays, AnswersEvent}
 use Rattle.stream_pieces.specs.Pieces.{before}
 use Rattle.stream_pieces.specs.Streamed.{streamed, last_line, output_after}
 use Rattle.stream_pieces.proofs.Laws.{line_none, line_below, done_line}
@@ -112,6 +114,11 @@ heard_stays h s = go (line_of s) refl
     go None p n e = simp p
     go (Some l) p n e = simp p (taking_stays h l n (simp p at e))
 
+-- the host that a line leaves, whether it is refused or not
+left : (h h' : code.Host) (a : Result ℕ code-refusal.Refusal) → HostStays h a h' → h' ≡ (line_given h (told h' a)).host
+left h h' (Ok n) s = refl
+left h h' (Err r) s = s
+
 -- ---- a line in the code's buffers
 module _ (h : code.Host) (mem rows area groups : List ℕ) (n : ℕ) (line out : Bytes) (lent : Lent h mem rows area groups) (room : 65536 ≤ length out) where
   fits : fit h.draft mem rows area groups out ≡ true
@@ -122,24 +129,24 @@ module _ (h : code.Host) (mem rows area groups : List ℕ) (n : ℕ) (line out :
   unfolding due
   is_due = rw fits
 
-  module _ (r : LineAnswer) (mem' rows' area' groups' : List ℕ) (out' : Bytes) (tells : AnswersEvent h mem rows area groups n line out r mem' rows' area' groups' out') where
-    acts : LineFollowsBy (answer_line (host_of h mem rows) line).host (answer_line (host_of h mem rows) line).outcome h mem rows area (line_given h r.acted) mem' rows' area'
+  module _ (r : LineAnswer) (h' : code.Host) (mem' rows' area' groups' : List ℕ) (out' : Bytes) (tells : AnswersEvent h mem rows area groups n line out r h' mem' rows' area' groups' out') where
+    acts : LineFollowsBy (answer_line (host_of h mem rows) line).host (answer_line (host_of h mem rows) line).outcome h mem rows area (line_given h (told h' r.acted)) mem' rows' area'
     acts = rw is_due at tells.acts
 
-    next_host : host_of (line_given h r.acted).host mem' rows' ≡ (answer_line (host_of h mem rows) line).host
+    next_host : host_of (line_given h (told h' r.acted)).host mem' rows' ≡ (answer_line (host_of h mem rows) line).host
     next_host = go (answer_line (host_of h mem rows) line).outcome refl acts
       where
-        go : (a : Outcome) → (answer_line (host_of h mem rows) line).outcome ≡ a → LineFollowsBy (answer_line (host_of h mem rows) line).host a h mem rows area (line_given h r.acted) mem' rows' area' → host_of (line_given h r.acted).host mem' rows' ≡ (answer_line (host_of h mem rows) line).host
+        go : (a : Outcome) → (answer_line (host_of h mem rows) line).outcome ≡ a → LineFollowsBy (answer_line (host_of h mem rows) line).host a h mem rows area (line_given h (told h' r.acted)) mem' rows' area' → host_of (line_given h (told h' r.acted)).host mem' rows' ≡ (answer_line (host_of h mem rows) line).host
         go (Refusal k) e x = rw (x.same_host, x.same_mem, x.same_rows) (sym (heard_stays (host_of h mem rows) line k e))
         go (Items l) e x = x.host
 
-    lent_again : Lent (line_given h r.acted).host mem' rows' area' groups'
+    lent_again : Lent (line_given h (told h' r.acted)).host mem' rows' area' groups'
     lent_again = go (answer_line (host_of h mem rows) line).outcome acts
       where
         more : 1542 ≤ length groups'
         more = omega (arith, lent.groups_size, tells.groups_size)
 
-        go : (a : Outcome) → LineFollowsBy (answer_line (host_of h mem rows) line).host a h mem rows area (line_given h r.acted) mem' rows' area' → Lent (line_given h r.acted).host mem' rows' area' groups'
+        go : (a : Outcome) → LineFollowsBy (answer_line (host_of h mem rows) line).host a h mem rows area (line_given h (told h' r.acted)) mem' rows' area' → Lent (line_given h (told h' r.acted)).host mem' rows' area' groups'
         go (Refusal k) x = record {
           is_sound = rw (x.same_host, x.same_mem, x.same_rows) lent.is_sound;
           area_size = rw x.same_area lent.area_size;
@@ -157,16 +164,17 @@ module _ (c : LineState) (mem rows area groups : List ℕ) (line out : Bytes) (l
       record { next = rw (l, b); text = rw l (record { end = w.end; bytes = w.bytes; short = omega (arith, w.short) }); lent = lent }
 
   -- none were
-  pub says_heard : (r : LineAnswer) (k : code.Host) (mem' rows' area' groups' : List ℕ) (out' : Bytes) → 65536 ≤ length out → long ≡ false → k ≡ (line_given c.host r.acted).host → AnswersEvent c.host mem rows area groups c.number line out r mem' rows' area' groups' out'
+  pub says_heard : (r : LineAnswer) (k : code.Host) (mem' rows' area' groups' : List ℕ) (out' : Bytes) → 65536 ≤ length out → long ≡ false → AnswersEvent c.host mem rows area groups c.number line out r k mem' rows' area' groups' out'
       → WritesLine c mem rows (record { long = long; line = line }) out (record { state = record { host = k; number = m }; end = r.end }) mem' rows' area' groups' out'
   unfolding line_output result_of state_of
-  says_heard r k mem' rows' area' groups' out' room l z t =
+  says_heard r k mem' rows' area' groups' out' room l t =
+      let z : k ≡ (line_given c.host (told k r.acted)).host = left c.host k r.acted t.stays in
       let w : Wrote out 0 (text_of c.number (answer_line (host_of c.host mem rows) line).outcome) 65536 r.end out' =
       rw (is_due c.host mem rows area groups c.number line out lent room) at (t.text room) in
       record {
-        next = rw (l, b, z, next_host c.host mem rows area groups c.number line out lent room r mem' rows' area' groups' out' t);
+        next = rw (l, b, z, next_host c.host mem rows area groups c.number line out lent room r k mem' rows' area' groups' out' t);
         text = rw l w;
-        lent = rw z (lent_again c.host mem rows area groups c.number line out lent room r mem' rows' area' groups' out' t);
+        lent = rw z (lent_again c.host mem rows area groups c.number line out lent room r k mem' rows' area' groups' out' t);
       }
 
 -- ---- the output after an answer was written from used on

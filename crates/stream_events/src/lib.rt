@@ -3,13 +3,12 @@
 
 ghost use Rattle.std.specs.Prelude.{◌≡◌, ◌||◌, List, ℕ, ◌≤◌, ltb, length};
 ghost use Rattle.line_buffers.specs.Same.{SameBuffers};
-ghost use Rattle.line_host.specs.Follows.{line_given};
 ghost use Rattle.stream_events.specs.Lines.{start};
 ghost use Rattle.stream_events.specs.Fed.{LentBy, state_of, WritesLine, WritesLastLine, WritesLines};
 
 use ids::Refusal;
 use line_buffers::{Buffers, TEXT_BYTES};
-use line_host::{Host, LineTaken};
+use line_host::Host;
 
 // What goes from line to line: the host, and the number of the next line.
 #[derive(Clone, Copy)]
@@ -45,6 +44,7 @@ pub struct Fed {
 
 impl LineState {
     // Before the first line.
+    #[tactic(auto, using(crate::proofs::Laws::fresh_state))]
     pub fn fresh() -> LineState
         ensures { ((mem rows : List ℕ) → state_of result mem rows ≡ start) × (result.host.draft.count ≤ 64) }
     {
@@ -53,13 +53,6 @@ impl LineState {
             number: 1,
         }
     }
-}
-
-// A line that is refused leaves the host as it was.
-fn host_after(host: Host, acted: Result<LineTaken, Refusal>) -> Host
-    ensures { result ≡ (line_given host acted).host }
-{
-    acted.map_or(host, |taken| taken.host)
 }
 
 // Answers a line. If `long`, the line had bytes more, which were dropped.
@@ -83,8 +76,8 @@ pub fn one(
             end,
         };
     }
-    let heard = line_event::event(from.host, buffers, from.number, line, out);
-    let host = host_after(from.host, heard.acted);
+    let mut host = from.host;
+    let heard = line_event::event(&mut host, buffers, from.number, line, out);
     LineWritten {
         state: LineState { host, number },
         end: heard.end,

@@ -4,15 +4,15 @@ use Rattle.ids.specs.declared.Refusal.TheVariants.{Malformed, NotReady}
 use Rattle.line_event.proofs.hear.Goals as goal
 
 pub returns-then-not-is_fit-clause-follows : goal.returns-then-not-is_fit-clause-follows
-returns-then-not-is_fit-clause-follows c = let a = c.args in law.unfit a.host a.buffers.now.mem.now a.buffers.now.rows.now a.buffers.now.area.now a.buffers.now.groups.now a.line.now _ (Err NotReady) c.is_fit.ensures c.if-not-is_fit.true
+returns-then-not-is_fit-clause-follows c = let a = c.args in law.unfit a.host.now a.buffers.now.mem.now a.buffers.now.rows.now a.buffers.now.area.now a.buffers.now.groups.now a.line.now _ (Err NotReady) c.is_fit.ensures c.if-not-is_fit.true
 
 pub returns-then-line-gt-LINE_BYTES-clause-follows : goal.returns-then-line-gt-LINE_BYTES-clause-follows
 returns-then-line-gt-LINE_BYTES-clause-follows c =
-    let a = c.args in law.fitted a.host a.buffers.now.mem.now a.buffers.now.rows.now a.buffers.now.area.now a.buffers.now.groups.now a.line.now _ (Err Malformed) c.is_fit.ensures _ _ _ c.if-not-is_fit.false (law.long_line a.host a.buffers.now.mem.now a.buffers.now.rows.now a.buffers.now.area.now a.line.now c.if-line-gt-LINE_BYTES.true)
+    let a = c.args in law.fitted a.host.now a.buffers.now.mem.now a.buffers.now.rows.now a.buffers.now.area.now a.buffers.now.groups.now a.line.now _ (Err Malformed) c.is_fit.ensures _ _ _ c.if-not-is_fit.false (law.long_line a.host.now a.buffers.now.mem.now a.buffers.now.rows.now a.buffers.now.area.now a.line.now c.if-line-gt-LINE_BYTES.true)
 
 pub act-requires : goal.act-requires
 act-requires c =
-    let a = c.args in (law.is_sound_lem a.host.draft a.buffers.now.mem.now a.buffers.now.rows.now a.buffers.now.area.now a.buffers.now.groups.now _ c.is_fit.ensures c.if-not-is_fit.false, law.has_places a.host.draft a.buffers.now.mem.now a.buffers.now.rows.now a.buffers.now.area.now a.buffers.now.groups.now _ c.is_fit.ensures c.if-not-is_fit.false, law.has_groups a.host.draft a.buffers.now.mem.now a.buffers.now.rows.now a.buffers.now.area.now a.buffers.now.groups.now _ c.is_fit.ensures c.if-not-is_fit.false, rw (c.next_field-name.ensures.1, c.new-reader.ensures) c.if-line-gt-LINE_BYTES.false)
+    let a = c.args in (law.is_sound_lem a.host.now.draft a.buffers.now.mem.now a.buffers.now.rows.now a.buffers.now.area.now a.buffers.now.groups.now _ c.is_fit.ensures c.if-not-is_fit.false, law.has_places a.host.now.draft a.buffers.now.mem.now a.buffers.now.rows.now a.buffers.now.area.now a.buffers.now.groups.now _ c.is_fit.ensures c.if-not-is_fit.false, law.has_groups a.host.now.draft a.buffers.now.mem.now a.buffers.now.rows.now a.buffers.now.area.now a.buffers.now.groups.now _ c.is_fit.ensures c.if-not-is_fit.false, rw (c.next_field-name.ensures.1, c.new-reader.ensures) c.if-line-gt-LINE_BYTES.false)
 
 pub returns-clause-follows : goal.returns-clause-follows
 returns-clause-follows c =

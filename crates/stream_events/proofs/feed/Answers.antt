@@ -1,6 +1,5 @@
 use Rattle.stream_events.proofs.Laws as law
 use Rattle.stream_pieces.proofs.Laws as pieces
-use mathlib.Core.Path.{◌∙◌}
 use native.Mathlib.Omega.{arith}
 use borrow.Author.Rules.{rules}
 use Rattle.stream_events.proofs.feed.Goals as goal

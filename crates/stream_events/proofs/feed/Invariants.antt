@@ -1,5 +1,4 @@
 use Rattle.stream_events.proofs.Laws as law
-use mathlib.Core.Path.{◌≡◌}
 use Prim.Native.Nat.{◌-◌}
 use lib.ListN.{length}
 use Rattle.line_buffers.specs.Same.{SameBuffers}

@@ -8,4 +8,4 @@ returns-then-long-clause-writes c =
 
 pub returns-clause-writes : goal.returns-clause-writes
 returns-clause-writes c =
-    law.says_heard _ _ _ _ _ _ _ _ _ c.requires.0 (law.counted _ _ (omega arith) c.saturating_add-number.ensures) _ _ _ _ _ _ _ c.requires.1 c.if-long.false c.host_after-host.ensures c.event-heard.ensures.answers
+    law.says_heard _ _ _ _ _ _ _ _ _ c.requires.0 (law.counted _ _ (omega arith) c.saturating_add-number.ensures) _ _ _ _ _ _ _ c.requires.1 c.if-long.false c.event-heard.ensures.answers

@@ -1,4 +1,4 @@
-use Rattle.std.proofs.Common.{◌-◌, ◌≤◌, length}
+use Rattle.std.proofs.Common.{◌≤◌, length}
 use Rattle.test_scripts.proofs.replay_all.Given as goal
 
 abbrev pub invariant-loop-rest : goal.invariant-loop-rest
