@@ -25,6 +25,7 @@ use insts::Insts;
 use items::Item;
 use key_words::Key;
 use node::{Node, is_leader};
+use roster_map::RangeMap;
 
 // The condition that settles a read, in the order in which the Rust comes to them.
 #[derive(Clone, Copy)]
@@ -142,7 +143,11 @@ pub fn settled_by(node: Node, mem: &[u64], leases: u64, key: &[u8], packed: Key)
         return Settled::UnreadKey;
     };
     let conf = node.bodega_conf;
-    let stored = roster_map::at(&mem[layout::ROWS_AT..layout::SLOTS_AT], conf.count, n);
+    let map = RangeMap {
+        rows: &mem[layout::ROWS_AT..layout::SLOTS_AT],
+        count: conf.count,
+    };
+    let stored = map.at(n);
     if !is_responder(conf.default, node.id, stored) {
         return not_responder(stored);
     }

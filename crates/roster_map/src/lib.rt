@@ -136,14 +136,6 @@ impl RangeMap<'_> {
     }
 }
 
-// `RangeMap::at` of rows that come with their number.
-pub fn at(rows: &[u64], count: usize, n: Inty) -> Option<u64>
-    requires { count * roster_row ≤ length rows.now }
-    ensures { result ≡ at (ranges_of rows.now count) (value_of n) }
-{
-    RangeMap { rows, count }.at(n)
-}
-
 // `RangeMap` to change.
 #[derive(Drop)]
 pub struct RangeMapMut<'a> {

@@ -1,4 +1,5 @@
-use Rattle.std.proofs.Common.{refl, sym}
+use Rattle.std.proofs.Common.{refl, sym, ap, ◌∙◌}
+use Rattle.inst_reqs.specs.Batch.{requests_of}
 use Rattle.bodega.specs.Replica.{Record}
 use Rattle.req_batch.specs.Given.{given}
 use Rattle.node.proofs.Calls.{not_ready}
@@ -28,9 +29,9 @@ load-requires-clause-short c =
 pub returns-in_err-late_refusal : goal.returns-in_err-late_refusal
 returns-in_err-late_refusal c =
     let a = c.args in
-    law.late_refused a.node a.mem.now a.area.now a.slot.0 a.ballot.0 a.rows.now a.text.now (sym c.if-not-is_ready.ensures) c.in_ok-batch_refusal.ensures _ c.load.ensures.requests _ _ c.in_err-late_refusal.ensures c.from_residual-in_err-late_refusal.ensures.1
+    law.late_refused a.node a.mem.now a.area.now a.slot.0 a.ballot.0 a.rows.now a.text.now (sym c.if-not-is_ready.ensures) c.in_ok-batch_refusal.ensures _ (ap requests_of c.as_ref-batch.ensures ∙ c.load.ensures.loads.requests) _ _ c.in_err-late_refusal.ensures c.from_residual-in_err-late_refusal.ensures.1
 
 pub returns : goal.returns
 returns c =
     let a = c.args in
-    law.is_recorded a.node a.mem.now a.area.now a.slot.0 a.ballot.0 a.rows.now a.text.now (sym c.if-not-is_ready.ensures) c.in_ok-batch_refusal.ensures _ c.load.ensures.requests c.in_ok-late_refusal.ensures _ _ c.recorded-node.ensures
+    law.is_recorded a.node a.mem.now a.area.now a.slot.0 a.ballot.0 a.rows.now a.text.now (sym c.if-not-is_ready.ensures) c.in_ok-batch_refusal.ensures _ (ap requests_of c.as_ref-batch.ensures ∙ c.load.ensures.loads.requests) c.in_ok-late_refusal.ensures _ _ c.recorded-node.ensures

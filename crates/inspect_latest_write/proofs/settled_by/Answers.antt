@@ -20,12 +20,12 @@ returns-in_default c =
     let a = c.args in
     law.settled_unread a.node a.mem.now a.leases a.key.now _ (c.is_stable_leader.ensures a.mem.now) c.if-is_stable_leader.false (omega arith) c.key_to_inty.result c.key_to_inty.ensures c.in_default.is
 
-pub slice_bounds-at-end : goal.slice_bounds-at-end
-slice_bounds-at-end c = omega (arith, law.words_long c.args.node c.args.mem.now c.requires.0)
+pub slice_bounds-map-end : goal.slice_bounds-map-end
+slice_bounds-map-end c = omega (arith, law.words_long c.args.node c.args.mem.now c.requires.0)
 
-pub at-stored-requires : goal.at-stored-requires
+pub invariant_of-map : goal.invariant_of-map
 unfolding part
-at-stored-requires c = law.rows_long c.args.node c.args.mem.now c.requires.0
+invariant_of-map c = record { within = law.rows_long c.args.node c.args.mem.now c.requires.0 }
 
 pub returns-then-not-is_responder : goal.returns-then-not-is_responder
 unfolding part
@@ -47,8 +47,7 @@ slice_bounds-new-end c = omega (arith, law.words_long c.args.node c.args.mem.now
 
 pub new-requires : goal.new-requires
 unfolding part
-new-requires c =
-    law.written_long c.args.node c.args.mem.now c.requires.0
+new-requires c = (omega arith, law.written_long c.args.node c.args.mem.now c.requires.0)
 
 pub returns : goal.returns
 unfolding part
