@@ -10,7 +10,7 @@ returns-then-stops-clause-advances c =
     let l = c.loop-k in
     let e = rw (c.as_ref.ensures, c.slot-slot.ensures) at c.stops.ensures in
     let p = law.advances _ _ _ _ _ _ _ _ c.requires.1 c.requires.2
-        (pass.going_stop (stops_at a.ballot.0) law.marked mark_items _ _ (a.bar.0 - a.window.start.0) (a.commit.0 - a.window.start.0) a.items.now.count a.words.now a.items.now.area.now l.k l.items.count l.insts.words.now l.items.area.now l.invariant.going (omega arith) _ e c.if-stops.true) in
+    (pass.going_stop (stops_at a.ballot.0) law.marked mark_items _ _ (a.bar.0 - a.window.start.0) (a.commit.0 - a.window.start.0) a.items.now.count a.words.now a.items.now.area.now l.k l.items.count l.insts.words.now l.items.area.now l.invariant.going (omega arith) _ e c.if-stops.true) in
     search rules
 
 pub mark-requires : goal.mark-requires
@@ -36,5 +36,5 @@ returns-clause-advances c =
     let a = c.args in
     let l = c.loop-k in
     let p = law.advances _ _ _ _ _ _ _ _ c.requires.1 c.requires.2
-        (pass.going_end (stops_at a.ballot.0) law.marked mark_items _ _ (a.bar.0 - a.window.start.0) (a.commit.0 - a.window.start.0) a.items.now.count a.words.now a.items.now.area.now l.k l.items.count l.insts.words.now l.items.area.now l.invariant.going l.invariant.within (omega arith)) in
+    (pass.going_end (stops_at a.ballot.0) law.marked mark_items _ _ (a.bar.0 - a.window.start.0) (a.commit.0 - a.window.start.0) a.items.now.count a.words.now a.items.now.area.now l.k l.items.count l.insts.words.now l.items.area.now l.invariant.going l.invariant.within (omega arith)) in
     search rules
