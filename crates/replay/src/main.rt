@@ -39,11 +39,8 @@ impl fmt::Display for Failure {
     }
 }
 
-// Writes what is used of the output.
-fn flush(output: Stdout, out: &[u8], used: usize) -> Result<(), Failure>
-    requires { used ≤ length out.now }
-{
-    output.write_all(&out[..used]).map_err(|_| Failure::Write)
+fn write(output: Stdout, text: &[u8]) -> Result<(), Failure> {
+    output.write_all(text).map_err(|_| Failure::Write)
 }
 
 // Whether a signal interrupted a read that failed.
@@ -107,7 +104,7 @@ impl Program<'_> {
     {
         if from.more {
             let turned = stream_turns::turn(self.buf, from, &mut self.buffers, self.out);
-            flush(self.output, self.out, turned.used)?;
+            write(self.output, &self.out[..turned.used])?;
             return Ok(Some(turned.stream));
         }
         if let Some(end) = fill(self.input, self.buf, from.end)? {
@@ -124,7 +121,7 @@ impl Program<'_> {
             &self.buf[..from.end],
             self.out,
         );
-        flush(self.output, self.out, said.end)?;
+        write(self.output, &self.out[..said.end])?;
         Ok(None)
     }
 
