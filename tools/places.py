@@ -28,7 +28,8 @@ def functions():
             b = re.search(r"^" + indent + r"\{\n|(?<=[\w>\])]) \{\n", rest, re.M)
             while b and b.group(0) != indent + "{\n" and re.search(r"(requires|ensures)[^\n]*$", rest[:b.start()]):
                 b = re.compile(r"^" + indent + r"\{\n|(?<=[\w>\])]) \{\n", re.M).search(rest, b.end())
-            if not b:
+            # a function of a trait that has no body
+            if not b or re.search(r";$", rest[:b.start()], re.M):
                 continue
             e = re.compile(r"^" + indent + r"\}", re.M).search(rest, b.end())
             if e:

@@ -1,5 +1,6 @@
 // The short part of an instance, in eight lent words: ballot, status, acks, notice book. A slot's batch and held reads
-// stand elsewhere.
+// stand elsewhere. The cells come with a number and the bound that it is one of them, as an index does; `insts` takes
+// slots.
 #![tactic(auto)]
 
 ghost use Rattle.std.specs.Prelude.{◌≡◌, ℕ, ◌+◌, ◌*◌, ◌≤◌, ltb, length, set};

@@ -20,7 +20,8 @@ use inst_holding::{Held, ReadReq};
 use inst_reqs::Batch;
 use key_words::Key;
 
-// Which slots are held: `held` of them from `start` on.
+// Which slots are held: `held` of them from `start` on. A window, or a slot, goes beside the words: in one struct with
+// them, each function that changes a word would have to say that the window stays.
 #[derive(Clone, Copy)]
 pub struct Window {
     pub start: Slot,
@@ -202,14 +203,6 @@ impl<'a> InstsMut<'a> {
             .copy_from_slice(&batch.words[..layout::BATCH_WORDS]);
     }
 
-    fn clear_batch(&mut self, slot: Slot)
-        ensures same_reference { self.new.words.ghost_name ≡ self.old.words.ghost_name }
-        ensures puts { PutsBatch self.old.words.now (place_of slot.0) [] self.new.words.now }
-    {
-        let a = batch_at(place(slot));
-        inst_reqs::clear(&mut self.words[a..a + layout::BATCH_WORDS]);
-    }
-
     pub fn clear_reads(&mut self, slot: Slot)
         ensures same_reference { self.new.words.ghost_name ≡ self.old.words.ghost_name }
         ensures puts { PutsReads self.old.words.now (place_of slot.0) [] self.new.words.now }
@@ -240,7 +233,6 @@ impl<'a> InstsMut<'a> {
     }
 
     // A null slot; the reads held there are not seen without a notice book.
-    #[tactic(auto, using(crate::proofs::Laws::batch_after))]
     fn null_slot(&mut self, slot: Slot)
         ensures same_reference { self.new.words.ghost_name ≡ self.old.words.ghost_name }
         ensures puts { Puts self.old.words.now (place_of slot.0) null_short [] (reads_at self.old.words.now (place_of slot.0)) self.new.words.now }
@@ -252,7 +244,8 @@ impl<'a> InstsMut<'a> {
             replica_bk: None,
         };
         self.store(slot, cell);
-        self.clear_batch(slot);
+        let a = batch_at(place(slot));
+        inst_reqs::clear(&mut self.words[a..a + layout::BATCH_WORDS]);
     }
 
     // Null slots after those of the window, so that there are `to`.

@@ -1,5 +1,6 @@
 // A replica's core: what is short goes by value, the tables stand in one lent buffer of words that counts as part of
-// the node.
+// the node. So document 01 has it, and a host in C lends the buffer and the answer area: node, buffer and area go side
+// by side through the calls, with `ready`, which says of the first two that a call can have made them.
 #![tactic(auto)]
 
 ghost use Rattle.std.specs.Prelude.{◌≡◌, true, ◌&&◌, List, ℕ, ◌≤◌, leb, length, replicate};
