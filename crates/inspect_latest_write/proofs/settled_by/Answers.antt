@@ -45,11 +45,6 @@ insts-requires c = law.words_long c.args.node c.args.mem.now c.requires.0
 pub slice_bounds-inspect_latest_write-end : goal.slice_bounds-inspect_latest_write-end
 slice_bounds-inspect_latest_write-end c = omega (arith, law.words_long c.args.node c.args.mem.now c.requires.0)
 
-pub inspect_latest_write-requires : goal.inspect_latest_write-requires
-unfolding part
-inspect_latest_write-requires c =
-    law.written_long c.args.node c.args.mem.now c.requires.0
-
 pub returns : goal.returns
 unfolding part
 returns c =
