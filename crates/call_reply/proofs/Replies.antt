@@ -225,9 +225,6 @@ module _ (n : Node) (m area : List ℕ) (peer slot ballot : ℕ) (y : ready n m 
   r : Ready n m
   r = is_ready n m true (sym y) refl
 
-  pub asked : (n.start_slot.0 ≤ 281474976710655) × (n.slots ≤ slot_places)
-  asked = (r.start_low_lem, r.window)
-
   abbrev refusal : ℕ
   refusal = reply_refusal n.population n.start_slot.0 n.slots n.bal_prepared.0 peer slot ballot
 
@@ -280,15 +277,15 @@ module _ (n : Node) (m area : List ℕ) (peer slot ballot : ℕ) (y : ready n m 
         after_is (Marks b) s' x = set_at n m slot low high r.window x
         after_is (Commits b) s' x = set_at n m slot low high r.window x
 
-        pub ack_asked : (slot % slot_places < slot_places) × (node_words ≤ length m) × (n.bodega_conf.count ≤ 64)
-        ack_asked = (omega arith, r.long, r.ranges)
+        pub ack_asked : (node_words ≤ length m) × (n.bodega_conf.count ≤ 64)
+        ack_asked = (r.long, r.ranges)
 
         words_long : length words ≡ slot_words
         unfolding part
         words_long = length_part m slots_at slot_words (omega (arith, r.long))
 
-        pub reply_asked : (slot_words ≤ length words) × (n.commit_bar.0 ≤ 281474976710687) × (slot ≤ n.commit_bar.0 + slot_places)
-        reply_asked = (omega (arith, words_long), omega (arith, r), omega (arith, r, high))
+        pub reply_asked : (slot_words ≤ length words) × (slot ≤ n.commit_bar.0 + slot_places)
+        reply_asked = (omega (arith, words_long), omega (arith, r, high))
 
         module _ (a : Ack) (d : a ≡ ack_of (short_at (part m slots_at slot_words) (slot % slot_places)) (batch_at (part m slots_at slot_words) (slot % slot_places)) peer ballot n.quorum (roster_of n.bodega_conf (part m rows_at roster_words))) where
           abbrev items : List Item

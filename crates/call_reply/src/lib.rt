@@ -2,17 +2,16 @@
 // and a slot whose acks suffice commits.
 #![tactic(auto)]
 
-ghost use Rattle.std.specs.Prelude.{◌≡◌, ◌+◌, ◌*◌, ◌%◌, ◌≤◌, ◌<◌, length};
+ghost use Rattle.std.specs.Prelude.{◌≡◌, ◌+◌, ◌-◌, ◌*◌, ◌≤◌, length};
 ghost use Rattle.words.specs.Part.{part};
 ghost use Rattle.words.specs.Writes.{writes};
 ghost use Rattle.ids.specs.Leader.{leader_of};
-ghost use Rattle.ids.specs.Limits.{top};
 ghost use Rattle.layout.specs.Layout.{slot_places, slot_words, roster_words, rows_at, slots_at, node_words};
 ghost use Rattle.items.specs.Item.{encode, places};
 ghost use Rattle.bodega.specs.Replica.{Reply, is_accepting};
 ghost use Rattle.bodega.specs.Answers.{Answers};
 ghost use Rattle.inst_cell.specs.Cell.{status_of};
-ghost use Rattle.insts.specs.Slots.{short_at, batch_at, reads_at, Puts};
+ghost use Rattle.insts.specs.Slots.{short_at, batch_at, place_of, PutsShort};
 ghost use Rattle.roster_conf.specs.Edits.{view as roster_of};
 ghost use Rattle.node.specs.View.{view, ready, given_of};
 ghost use Rattle.call_reply.specs.Resends.{missed_of, resends_of};
@@ -22,7 +21,8 @@ ghost use Rattle.ids.specs.Refusal.{refused_by};
 
 use ids::{Ballot, Refusal, Replica, Slot};
 use inst_cell::{Cell, Status};
-use items::Item;
+use insts::{Insts, InstsMut, Window};
+use items::{Item, Items};
 use node::{Node, Taken};
 use roster_conf::RespondersConf;
 
@@ -43,11 +43,10 @@ fn is_accepting(status: Status) -> bool
 }
 
 #[tactic(auto, unfolding(crate::specs::Resends::missed_of))]
-fn missed_at(s: &[u64], c: usize, peer: Replica, prepared: Ballot) -> Missed
-    requires { (c < slot_places) × (slot_words ≤ length s.now) }
-    ensures { result ≡ missed_of (short_at s.now c) peer.0 prepared.0 }
+fn missed_at(insts: Insts<'_>, slot: Slot, peer: Replica, prepared: Ballot) -> Missed
+    ensures { result ≡ missed_of (short_at insts.entry.words.now (place_of slot.0)) peer.0 prepared.0 }
 {
-    let cell = insts::load(s, c);
+    let cell = insts.load(slot);
     match cell.leader_bk {
         Some(acks) if is_accepting(cell.status) => {
             if bitmap::get(acks, peer) {
@@ -62,15 +61,13 @@ fn missed_at(s: &[u64], c: usize, peer: Replica, prepared: Ballot) -> Missed
     }
 }
 
-// How many Accepts are sent again, of n slots from the commit bar on.
-fn count_resends(s: &[u64], commit: Slot, n: usize, peer: Replica, prepared: Ballot) -> usize
-    requires { (commit.0 ≤ top + slot_places) × (n ≤ slot_places) × (slot_words ≤ length s.now) }
-    ensures { (result ≡ length (resends_of s.now commit.0 peer.0 prepared.0 n)) × (result ≤ slot_places) }
+// How many Accepts are sent again, of the slots from the commit bar up to one, the last of them first.
+fn count_resends(insts: Insts<'_>, commit: Slot, to: Slot, peer: Replica, prepared: Ballot) -> usize
+    ensures { (result ≡ length (resends_of insts.entry.words.now commit.0 peer.0 prepared.0 (to.0 - commit.0))) × (result ≤ to.0 - commit.0) }
 {
     let mut count = 0;
-    for i in (0..n).rev() {
-        let c = ((commit.0 + i as u64) % layout::PLACES) as usize;
-        match missed_at(s, c, peer, prepared) {
+    for slot in (commit.0..to.0).rev() {
+        match missed_at(insts, Slot(slot), peer, prepared) {
             Missed::Skip => {}
             Missed::Stop => return count,
             Missed::Send => count += 1,
@@ -79,31 +76,30 @@ fn count_resends(s: &[u64], commit: Slot, n: usize, peer: Replica, prepared: Bal
     count
 }
 
-// The same n slots: their items from the first place on.
+// The items of the same slots.
 fn put_resends(
-    s: &[u64],
+    insts: Insts<'_>,
     commit: Slot,
-    n: usize,
+    to: Slot,
     peer: Replica,
     prepared: Ballot,
-    area: &mut [u64],
-) -> usize
-    requires { (commit.0 ≤ top + slot_places) × (n ≤ slot_places) × (slot_words ≤ length s.now) × (length (resends_of s.now commit.0 peer.0 prepared.0 n) ≤ places area.old) }
-    ensures { (result ≡ length (resends_of s.now commit.0 peer.0 prepared.0 n)) × (area.new ≡ writes area.old 0 (encode (resends_of s.now commit.0 peer.0 prepared.0 n))) }
+    items: &mut Items<'_>,
+)
+    requires { items.old.count + length (resends_of insts.words.now commit.0 peer.0 prepared.0 (to.0 - commit.0)) ≤ places items.old.area.now }
+    ensures same_reference { items.new.area.ghost_name ≡ items.old.area.ghost_name }
+    ensures counted { items.new.count ≡ items.old.count + length (resends_of insts.entry.words.now commit.0 peer.0 prepared.0 (to.0 - commit.0)) }
+    ensures put { items.new.area.now ≡ writes items.old.area.now (items.old.count * 6) (encode (resends_of insts.entry.words.now commit.0 peer.0 prepared.0 (to.0 - commit.0))) }
 {
-    let mut place = 0;
-    for j in (0..n).rev() {
-        let slot = Slot(commit.0 + j as u64);
-        match missed_at(s, (slot.0 % layout::PLACES) as usize, peer, prepared) {
+    for n in (commit.0..to.0).rev() {
+        let slot = Slot(n);
+        match missed_at(insts, slot, peer, prepared) {
             Missed::Skip => {}
-            Missed::Stop => return place,
+            Missed::Stop => return,
             Missed::Send => {
-                items::put_item(area, place, Item::Resend { slot, peer });
-                place += 1;
+                items.push(Item::Resend { slot, peer });
             }
         }
     }
-    place
 }
 
 // ---- the ack
@@ -118,11 +114,10 @@ enum Ack {
 
 // None where the slot does not wait for it.
 #[tactic(auto, unfolding(crate::specs::Acks::acks_with, bitmap::specs::Bitmap::set_to))]
-fn acks_with(s: &[u64], c: usize, peer: Replica, ballot: Ballot) -> Option<u64>
-    requires { (c < slot_places) × (slot_words ≤ length s.now) }
-    ensures { result ≡ acks_with (short_at s.now c) peer.0 ballot.0 }
+fn acks_with(insts: Insts<'_>, slot: Slot, peer: Replica, ballot: Ballot) -> Option<u64>
+    ensures { result ≡ acks_with (short_at insts.entry.words.now (place_of slot.0)) peer.0 ballot.0 }
 {
-    let cell = insts::load(s, c);
+    let cell = insts.load(slot);
     if !is_accepting(cell.status) || ballot < cell.bal {
         return None;
     }
@@ -137,27 +132,22 @@ fn acks_with(s: &[u64], c: usize, peer: Replica, ballot: Ballot) -> Option<u64>
 // From the slots' words and the roster's rows.
 #[tactic(auto, unfolding(crate::specs::Acks::ack_of))]
 fn ack_at(
-    s: &[u64],
+    insts: Insts<'_>,
     rows: &[u64],
-    c: usize,
+    slot: Slot,
     peer: Replica,
     ballot: Ballot,
     quorum: u8,
     conf: RespondersConf,
 ) -> Ack
-    requires { (c < slot_places) × (slot_words ≤ length s.now) × (roster_words ≤ length rows.now) × (conf.count ≤ 64) }
-    ensures { result ≡ ack_of (short_at s.now c) (batch_at s.now c) peer.0 ballot.0 quorum (roster_of conf rows.now) }
+    requires { (roster_words ≤ length rows.now) × (conf.count ≤ 64) }
+    ensures { result ≡ ack_of (short_at insts.entry.words.now (place_of slot.0)) (batch_at insts.entry.words.now (place_of slot.0)) peer.0 ballot.0 quorum (roster_of conf rows.now) }
 {
-    let batch = insts::batch_at(c);
-    match acks_with(s, c, peer, ballot) {
+    match acks_with(insts, slot, peer, ballot) {
         Some(acks)
-            if commit_condition::commit_condition(
-                acks,
-                &s[batch..batch + layout::BATCH_WORDS],
-                quorum,
-                conf,
-                rows,
-            ) => Ack::Commits(acks),
+            if commit_condition::commit_condition(acks, insts.batch(slot), quorum, conf, rows) => {
+            Ack::Commits(acks)
+        }
         Some(acks) => Ack::Marks(acks),
         None => Ack::Ignored,
     }
@@ -165,25 +155,18 @@ fn ack_at(
 
 // The same, from the whole buffer.
 #[tactic(auto, unfolding(words::specs::Part::part))]
-fn ack_in(
-    mem: &[u64],
-    c: usize,
-    peer: Replica,
-    ballot: Ballot,
-    quorum: u8,
-    conf: RespondersConf,
-) -> Ack
-    requires { (c < slot_places) × (node_words ≤ length mem.now) × (conf.count ≤ 64) }
-    ensures { result ≡ ack_of (short_at (part mem.now slots_at slot_words) c) (batch_at (part mem.now slots_at slot_words) c) peer.0 ballot.0 quorum (roster_of conf (part mem.now rows_at roster_words)) }
+fn ack_in(node: Node, mem: &[u64], slot: Slot, peer: Replica, ballot: Ballot) -> Ack
+    requires { (node_words ≤ length mem.now) × (node.bodega_conf.count ≤ 64) }
+    ensures { result ≡ ack_of (short_at (part mem.now slots_at slot_words) (place_of slot.0)) (batch_at (part mem.now slots_at slot_words) (place_of slot.0)) peer.0 ballot.0 node.quorum (roster_of node.bodega_conf (part mem.now rows_at roster_words)) }
 {
     ack_at(
-        &mem[layout::SLOTS_AT..layout::WRITTEN_AT],
+        node::insts(mem),
         &mem[layout::ROWS_AT..layout::SLOTS_AT],
-        c,
+        slot,
         peer,
         ballot,
-        quorum,
-        conf,
+        node.quorum,
+        node.bodega_conf,
     )
 }
 
@@ -194,37 +177,38 @@ fn commits(ack: Ack) -> usize
     usize::from(matches!(ack, Ack::Commits(_)))
 }
 
-// The item, if there is one, at a place.
-fn put_commit(area: &mut [u64], place: usize, ack: Ack, slot: Slot)
-    requires { place + commits_by ack ≤ places area.old }
-    ensures { area.new ≡ writes area.old (place * 6) (encode (commit_items ack slot.0)) }
+// The item, if there is one.
+fn put_commit(items: &mut Items<'_>, ack: Ack, slot: Slot)
+    requires { items.old.count + commits_by ack ≤ places items.old.area.now }
+    ensures same_reference { items.new.area.ghost_name ≡ items.old.area.ghost_name }
+    ensures put { items.new.area.now ≡ writes items.old.area.now (items.old.count * 6) (encode (commit_items ack slot.0)) }
 {
     if let Ack::Commits(_) = ack {
-        items::put_item(area, place, Item::Commit(slot));
+        items.push(Item::Commit(slot));
     }
 }
 
-fn set_acks(s: &mut [u64], c: usize, acks: u64)
-    requires { (c < slot_places) × (slot_words ≤ length s.old) }
-    ensures { Puts s.old c (with_acks acks (short_at s.old c)) (batch_at s.old c) (reads_at s.old c) s.new }
+fn set_acks(insts: &mut InstsMut<'_>, slot: Slot, acks: u64)
+    ensures same_reference { insts.new.words.ghost_name ≡ insts.old.words.ghost_name }
+    ensures puts { PutsShort insts.old.words.now (place_of slot.0) (with_acks acks (short_at insts.old.words.now (place_of slot.0))) insts.new.words.now }
 {
     let cell = Cell {
         leader_bk: Some(acks),
-        ..insts::load(s, c)
+        ..insts.as_ref().load(slot)
     };
-    insts::store(s, c, cell);
+    insts.store(slot, cell);
 }
 
-fn act(s: &mut [u64], c: usize, ack: Ack)
-    requires { (c < slot_places) × (slot_words ≤ length s.old) }
-    ensures { Acts ack s.old c s.new }
+fn act(insts: &mut InstsMut<'_>, slot: Slot, ack: Ack)
+    ensures same_reference { insts.new.words.ghost_name ≡ insts.old.words.ghost_name }
+    ensures acts { Acts ack insts.old.words.now (place_of slot.0) insts.new.words.now }
 {
     match ack {
         Ack::Ignored => {}
-        Ack::Marks(acks) => set_acks(s, c, acks),
+        Ack::Marks(acks) => set_acks(insts, slot, acks),
         Ack::Commits(acks) => {
-            set_acks(s, c, acks);
-            insts::set_status(s, c, Status::Committed);
+            set_acks(insts, slot, acks);
+            insts.set_status(slot, Status::Committed);
         }
     }
 }
@@ -232,25 +216,22 @@ fn act(s: &mut [u64], c: usize, ack: Ack)
 // ---- `handle_msg_accept_reply`
 
 // 16.
-fn unheld(start: Slot, slots: usize, prepared: Ballot, slot: Slot, ballot: Ballot) -> bool
-    requires { (start.0 ≤ top) × (slots ≤ slot_places) }
-    ensures { result ≡ unheld start.0 slots prepared.0 slot.0 ballot.0 }
+fn unheld(window: Window, prepared: Ballot, slot: Slot, ballot: Ballot) -> bool
+    ensures { result ≡ unheld window.start.0 window.held prepared.0 slot.0 ballot.0 }
 {
-    start <= slot && ballot == prepared && start.0 + slots as u64 <= slot.0
+    window.start <= slot && ballot == prepared && window.slot(window.held) <= slot
 }
 
 // Refusals 3, 8 and 16.
 fn reply_refusal(
     population: u8,
-    start: Slot,
-    slots: usize,
+    window: Window,
     prepared: Ballot,
     peer: Replica,
     slot: Slot,
     ballot: Ballot,
 ) -> Result<(), Refusal>
-    requires { (start.0 ≤ top) × (slots ≤ slot_places) }
-    ensures { refused_by result ≡ reply_refusal population start.0 slots prepared.0 peer.0 slot.0 ballot.0 }
+    ensures { refused_by result ≡ reply_refusal population window.start.0 window.held prepared.0 peer.0 slot.0 ballot.0 }
 {
     if population <= peer.0 {
         return Err(Refusal::NoSuchReplica);
@@ -258,7 +239,7 @@ fn reply_refusal(
     if Slot::TOP < slot {
         return Err(Refusal::SlotTooLarge);
     }
-    if unheld(start, slots, prepared, slot, ballot) {
+    if unheld(window, prepared, slot, ballot) {
         return Err(Refusal::SlotNotHeld);
     }
     Ok(())
@@ -271,39 +252,38 @@ fn awaits(node: Node, slot: Slot, ballot: Ballot) -> bool
     node.start_slot <= slot && ballot == node.bal_prepared && node::is_leader(node)
 }
 
-// How many slots from the commit bar on are looked at for Accepts to send again.
-fn span_of(id: Replica, peer: Replica, commit: Slot, slot: Slot) -> usize
-    requires { slot.0 ≤ commit.0 + slot_places }
-    ensures { (result ≡ span id.0 peer.0 commit.0 slot.0) × (result ≤ slot_places) }
+// The slot up to which the slots from the commit bar on are looked at for Accepts to send again: none upon the own reply.
+fn resends_to(id: Replica, peer: Replica, commit: Slot, slot: Slot) -> Slot
+    ensures { result.0 - commit.0 ≡ span id.0 peer.0 commit.0 slot.0 }
 {
-    if peer == id {
-        return 0;
-    }
-    slot.0.saturating_sub(commit.0) as usize
+    if peer == id { commit } else { slot }
 }
 
-// A reply that is waited on: its items and its ack, or nothing where the area has too few places.
+// A reply that is waited on: its items and its ack, or nothing where the area has too few places. The words come whole:
+// a struct made of a part of the buffer would lose what became of the part.
 fn take_reply(
-    s: &mut [u64],
+    node: Node,
+    words: &mut [u64],
     area: &mut [u64],
-    id: Replica,
-    prepared: Ballot,
-    commit: Slot,
     peer: Replica,
     slot: Slot,
     ack: Ack,
 ) -> Option<usize>
-    requires { (slot_words ≤ length s.old) × (commit.0 ≤ top + slot_places) × (slot.0 ≤ commit.0 + slot_places) }
-    ensures { Replies (items_of s.old id.0 peer.0 commit.0 prepared.0 slot.0 ack) ack (slot.0 % slot_places) s.old area.old result s.new area.new }
+    requires { (slot_words ≤ length words.old) × (slot.0 ≤ node.commit_bar.0 + slot_places) }
+    ensures { Replies (items_of words.old node.id.0 peer.0 node.commit_bar.0 node.bal_prepared.0 slot.0 ack) ack (place_of slot.0) words.old area.old result words.new area.new }
 {
-    let n = span_of(id, peer, commit, slot);
-    let count = count_resends(s, commit, n, peer, prepared) + commits(ack);
+    let commit = node.commit_bar;
+    let prepared = node.bal_prepared;
+    let to = resends_to(node.id, peer, commit, slot);
+    let mut insts = InstsMut { words };
+    let count = count_resends(insts.as_ref(), commit, to, peer, prepared) + commits(ack);
     if area.len() / 6 < count {
         return None;
     }
-    let place = put_resends(s, commit, n, peer, prepared, area);
-    put_commit(area, place, ack, slot);
-    act(s, (slot.0 % layout::PLACES) as usize, ack);
+    let mut items = Items { area, count: 0 };
+    put_resends(insts.as_ref(), commit, to, peer, prepared, &mut items);
+    put_commit(&mut items, ack, slot);
+    act(&mut insts, slot, ack);
     Some(count)
 }
 
@@ -320,10 +300,10 @@ pub fn reply(
     if !node::is_ready(node, mem) {
         return Err(Refusal::NotReady);
     }
+    let window = node::window(node, mem);
     reply_refusal(
         node.population,
-        node.start_slot,
-        node.slots,
+        window,
         node.bal_prepared,
         peer,
         slot,
@@ -332,14 +312,11 @@ pub fn reply(
     if !awaits(node, slot, ballot) {
         return Ok(Taken { node, count: 0 });
     }
-    let c = (slot.0 % layout::PLACES) as usize;
-    let ack = ack_in(mem, c, peer, ballot, node.quorum, node.bodega_conf);
+    let ack = ack_in(node, mem, slot, peer, ballot);
     let count = take_reply(
+        node,
         &mut mem[layout::SLOTS_AT..layout::WRITTEN_AT],
         area,
-        node.id,
-        node.bal_prepared,
-        node.commit_bar,
         peer,
         slot,
         ack,

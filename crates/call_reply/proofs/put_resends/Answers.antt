@@ -1,37 +1,59 @@
-use mathlib.Core.Path.{refl, ap, ◌∙◌}
+use mathlib.Core.Path.{ap, ◌∙◌}
 use native.Mathlib.Omega.{arith}
+use Prim.Native.Nat.{◌<◌}
 use lib.ListN.{length}
+use Rattle.items.specs.Item.{places}
 use Rattle.call_reply.proofs.Resends as law
 use Rattle.call_reply.proofs.put_resends.Goals as goal
 
-pub loop-j-init : goal.loop-j-init
-loop-j-init c = (omega arith, refl, omega arith, refl)
-
-pub loop-j-preserved-in-Skip : goal.loop-j-preserved-in-Skip
-loop-j-preserved-in-Skip c =
+pub loop-n-preserved-in-Skip : goal.loop-n-preserved-in-Skip
+loop-n-preserved-in-Skip c =
     let a = c.args in
-    let l = c.loop-j in
-    let e = law.skipped a.s.now a.commit.0 a.peer.0 a.prepared.0 l.j c.loop-j-test.true c.in-Skip.ensures in
-    (omega arith, l.invariant.1, omega (arith, ap length e), law.put_same a.s.now a.commit.0 a.peer.0 a.prepared.0 l.area _ l.place l.j l.invariant.3 e)
+    let l = c.loop-n in
+    let e = law.skipped a.insts.words.now a.commit.0 a.peer.0 a.prepared.0 l.n c.loop-n-test.true c.in-Skip.ensures in record {
+      same_reference = l.invariant.same_reference;
+      size = l.invariant.size;
+      counted = omega (arith, ap length e, l.invariant.counted);
+      put = law.put_same a.insts.words.now a.commit.0 a.peer.0 a.prepared.0 l.items.area.now _ l.items.count l.n l.invariant.put e;
+    }
 
-pub returns-in-Stop : goal.returns-in-Stop
-returns-in-Stop c =
+pub returns-in-Stop-clause-counted : goal.returns-in-Stop-clause-counted
+returns-in-Stop-clause-counted c =
     let a = c.args in
-    let l = c.loop-j in
-    let e = law.stopped a.s.now a.commit.0 a.peer.0 a.prepared.0 l.j c.loop-j-test.true c.in-Stop.ensures in
-    (omega (arith, ap length e), law.put_end a.s.now a.commit.0 a.peer.0 a.prepared.0 l.area _ l.place l.j l.invariant.3 e)
+    let l = c.loop-n in
+    let e = law.stopped a.insts.words.now a.commit.0 a.peer.0 a.prepared.0 l.n c.loop-n-test.true c.in-Stop.ensures in
+    omega (arith, ap length e, l.invariant.counted)
 
-pub loop-j-preserved : goal.loop-j-preserved
-loop-j-preserved c =
+pub returns-in-Stop-clause-put : goal.returns-in-Stop-clause-put
+returns-in-Stop-clause-put c =
     let a = c.args in
-    let l = c.loop-j in
-    let e = law.sent a.s.now a.commit.0 a.peer.0 a.prepared.0 l.j c.loop-j-test.true c.in-Send.ensures in
-    let p = law.put_step a.s.now a.commit.0 a.peer.0 a.prepared.0 l.area _ l.place l.j l.invariant.3 _ _ _ e (omega (arith, ap length e, l.invariant.1, l.invariant.2)) c.put_item.ensures in
-    (omega arith, p.0 ∙ l.invariant.1, omega (arith, ap length e), p.1)
+    let l = c.loop-n in
+    let e = law.stopped a.insts.words.now a.commit.0 a.peer.0 a.prepared.0 l.n c.loop-n-test.true c.in-Stop.ensures in
+    law.put_end a.insts.words.now a.commit.0 a.peer.0 a.prepared.0 l.items.area.now _ l.items.count l.n l.invariant.put e
 
-pub returns : goal.returns
-returns c =
+pub loop-n-preserved : goal.loop-n-preserved
+loop-n-preserved c =
     let a = c.args in
-    let l = c.loop-j in
-    let e = law.ended a.s.now a.commit.0 a.peer.0 a.prepared.0 l.j c.loop-j-test.false in
-    (omega (arith, ap length e), law.put_end a.s.now a.commit.0 a.peer.0 a.prepared.0 l.area _ l.place l.j l.invariant.3 e)
+    let l = c.loop-n in
+    let e = law.sent a.insts.words.now a.commit.0 a.peer.0 a.prepared.0 l.n c.loop-n-test.true c.in-Send.ensures in
+    let room : l.items.count < places l.items.area.now = omega (arith, ap length e, l.invariant.size, l.invariant.counted) in
+    let p = law.put_step a.insts.words.now a.commit.0 a.peer.0 a.prepared.0 l.items.area.now _ l.items.count l.n l.invariant.put _ _ _ e room c.push.ensures.put in
+    let n = law.pushed l.items.area.now l.items.count _ _ _ _ room c.push.ensures.put c.push.ensures.counted in record {
+      same_reference = c.push.ensures.same_reference ∙ l.invariant.same_reference;
+      size = p.0 ∙ l.invariant.size;
+      counted = omega (arith, n, ap length e, l.invariant.counted);
+      put = rw n p.1;
+    }
+
+pub returns-clause-counted : goal.returns-clause-counted
+returns-clause-counted c =
+    let a = c.args in
+    let l = c.loop-n in
+    omega (arith, ap length (law.ended a.insts.words.now a.commit.0 a.peer.0 a.prepared.0 l.n c.loop-n-test.false), l.invariant.counted)
+
+pub returns-clause-put : goal.returns-clause-put
+returns-clause-put c =
+    let a = c.args in
+    let l = c.loop-n in
+    law.put_end a.insts.words.now a.commit.0 a.peer.0 a.prepared.0 l.items.area.now _ l.items.count l.n l.invariant.put
+    (law.ended a.insts.words.now a.commit.0 a.peer.0 a.prepared.0 l.n c.loop-n-test.false)

@@ -10,24 +10,20 @@ returns-then-not-is_ready c =
     let a = c.args in
     calls.not_ready (Reply a.peer.0 a.slot.0 a.ballot.0) a.node a.mem.now a.area.now _ c.if-not-is_ready.ensures refl
 
-pub reply_refusal-requires : goal.reply_refusal-requires
-reply_refusal-requires c =
-    let a = c.args in law.asked a.node a.mem.now a.area.now a.peer.0 a.slot.0 a.ballot.0 (sym c.if-not-is_ready.ensures)
-
 pub returns-in_err-reply_refusal : goal.returns-in_err-reply_refusal
 returns-in_err-reply_refusal c =
     let a = c.args in
-    law.reply_refused a.node a.mem.now a.area.now a.peer.0 a.slot.0 a.ballot.0 (sym c.if-not-is_ready.ensures) _ _ c.in_err-reply_refusal.ensures c.from_residual.ensures.1
+    law.reply_refused a.node a.mem.now a.area.now a.peer.0 a.slot.0 a.ballot.0 (sym c.if-not-is_ready.ensures) _ _ (rw (c.window-window.ensures.0, c.window-window.ensures.1) at c.in_err-reply_refusal.ensures) c.from_residual.ensures.1
 
 pub returns-then-not-awaits : goal.returns-then-not-awaits
 returns-then-not-awaits c =
     let a = c.args in
-    law.not_awaited a.node a.mem.now a.area.now a.peer.0 a.slot.0 a.ballot.0 (sym c.if-not-is_ready.ensures) c.in_ok-reply_refusal.ensures _ c.awaits.ensures c.if-not-awaits.true
+    law.not_awaited a.node a.mem.now a.area.now a.peer.0 a.slot.0 a.ballot.0 (sym c.if-not-is_ready.ensures) (rw (c.window-window.ensures.0, c.window-window.ensures.1) at c.in_ok-reply_refusal.ensures) _ c.awaits.ensures c.if-not-awaits.true
 
 pub ack_in-ack-requires : goal.ack_in-ack-requires
 ack_in-ack-requires c =
     let a = c.args in
-    law.ack_asked a.node a.mem.now a.area.now a.peer.0 a.slot.0 a.ballot.0 (sym c.if-not-is_ready.ensures) c.in_ok-reply_refusal.ensures _ c.awaits.ensures c.if-not-awaits.false
+    law.ack_asked a.node a.mem.now a.area.now a.peer.0 a.slot.0 a.ballot.0 (sym c.if-not-is_ready.ensures) (rw (c.window-window.ensures.0, c.window-window.ensures.1) at c.in_ok-reply_refusal.ensures) _ c.awaits.ensures c.if-not-awaits.false
 
 pub slice_bounds-take_reply-end : goal.slice_bounds-take_reply-end
 slice_bounds-take_reply-end c =
@@ -36,14 +32,14 @@ slice_bounds-take_reply-end c =
 pub take_reply-requires : goal.take_reply-requires
 take_reply-requires c =
     let a = c.args in
-    law.reply_asked a.node a.mem.now a.area.now a.peer.0 a.slot.0 a.ballot.0 (sym c.if-not-is_ready.ensures) c.in_ok-reply_refusal.ensures _ c.awaits.ensures c.if-not-awaits.false
+    law.reply_asked a.node a.mem.now a.area.now a.peer.0 a.slot.0 a.ballot.0 (sym c.if-not-is_ready.ensures) (rw (c.window-window.ensures.0, c.window-window.ensures.1) at c.in_ok-reply_refusal.ensures) _ c.awaits.ensures c.if-not-awaits.false
 
 pub returns-in_err-count : goal.returns-in_err-count
 returns-in_err-count c =
     let a = c.args in
-    law.reply_full a.node a.mem.now a.area.now a.peer.0 a.slot.0 a.ballot.0 (sym c.if-not-is_ready.ensures) c.in_ok-reply_refusal.ensures _ c.awaits.ensures c.if-not-awaits.false _ c.ack_in-ack.ensures _ _ _ c.take_reply.ensures _ _ c.in_err-count.ensures.value c.from_residual-in_err-count.ensures.1
+    law.reply_full a.node a.mem.now a.area.now a.peer.0 a.slot.0 a.ballot.0 (sym c.if-not-is_ready.ensures) (rw (c.window-window.ensures.0, c.window-window.ensures.1) at c.in_ok-reply_refusal.ensures) _ c.awaits.ensures c.if-not-awaits.false _ c.ack_in-ack.ensures _ _ _ c.take_reply.ensures _ _ c.in_err-count.ensures.value c.from_residual-in_err-count.ensures.1
 
 pub returns : goal.returns
 returns c =
     let a = c.args in
-    law.reply_taken a.node a.mem.now a.area.now a.peer.0 a.slot.0 a.ballot.0 (sym c.if-not-is_ready.ensures) c.in_ok-reply_refusal.ensures _ c.awaits.ensures c.if-not-awaits.false _ c.ack_in-ack.ensures _ _ _ c.take_reply.ensures _ c.in_ok-count.ensures.value
+    law.reply_taken a.node a.mem.now a.area.now a.peer.0 a.slot.0 a.ballot.0 (sym c.if-not-is_ready.ensures) (rw (c.window-window.ensures.0, c.window-window.ensures.1) at c.in_ok-reply_refusal.ensures) _ c.awaits.ensures c.if-not-awaits.false _ c.ack_in-ack.ensures _ _ _ c.take_reply.ensures _ c.in_ok-count.ensures.value
