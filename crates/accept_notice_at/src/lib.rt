@@ -102,7 +102,8 @@ pub fn held_after(held: usize, k: usize) -> usize
     held.max(k + 1)
 }
 
-// How many items a notice has at the k-th slot of the window.
+// How many items a notice has at the k-th slot of the window. The window and k are two arguments, since k may lie past
+// the slots that are held; quorum and leader are two, as in release_held_reads.
 #[tactic(auto, using(crate::proofs::Laws::due_null))]
 pub fn due(insts: Insts<'_>, window: Window, k: usize, quorum: u8, notice: Notice) -> usize
     requires { k < slot_places }

@@ -268,9 +268,6 @@ module _ (n : Node) (m : List ℕ) (e : ready n m ≡ true) where
   pub rows_long : n.bodega_conf.count * 5 ≤ length (part m rows_at roster_words)
   rows_long = rw (length_part m rows_at roster_words (omega (arith, words_long))) (omega (arith, readied.ranges))
 
-  pub written_long : written_words ≤ length (part m written_at written_words)
-  written_long = rw (length_part m written_at written_words (omega (arith, words_long))) (omega arith)
-
 -- ---- a read that is held waits in the notice book of a slot that is held
 
 pub record Waiting (r : machine.Replica) (slot : ℕ) : Type 0 where

@@ -50,11 +50,6 @@ pub insts-requires : goal.insts-requires
 insts-requires c =
     let a = c.args in law.long a.node a.mem.now a.area.now a.peer.0 a.slot.0 a.ballot (sym c.if-not-is_ready.ensures) _ c.is_current-current.ensures
 
-pub due-due-requires : goal.due-due-requires
-due-due-requires c =
-    let a = c.args in
-    (law.below a.node a.mem.now a.area.now a.peer.0 a.slot.0 a.ballot (sym c.if-not-is_ready.ensures) _ c.is_current-current.ensures (rw c.window-window.ensures.0 at c.in_ok-notice_refusal.ensures) (ge_from_not_lt _ _ (sym c.if-lt.ensures)) (ge_from_not_lt _ _ (sym c.if-lt-2.ensures)) c.if-not-current.false).0
-
 pub returns-then-area-due : goal.returns-then-area-due
 returns-then-area-due c =
     let a = c.args in

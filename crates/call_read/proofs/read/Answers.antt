@@ -15,14 +15,6 @@ returns-in_err-packed c =
     let a = c.args in
     law.long_5 a.node a.mem.now a.area.now a.client a.request a.leases a.key.now (sym c.if-not-is_ready.ensures) c.pack.result c.pack.ensures _ _ c.in_err-packed.ensures.value c.from_residual.ensures.1
 
-pub read_answer-answer-requires : goal.read_answer-answer-requires
-read_answer-answer-requires c =
-    let a = c.args in
-    (sym c.if-not-is_ready.ensures, law.bytes_are a.node a.mem.now a.area.now a.client a.request a.leases a.key.now (sym c.if-not-is_ready.ensures) c.pack.result c.pack.ensures c.in_ok-packed.packed (law.ok_is _ _ c.in_ok-packed.ensures.value))
-
-pub overfills-requires : goal.overfills-requires
-overfills-requires c = sym c.if-not-is_ready.ensures
-
 pub returns-then-overfills : goal.returns-then-overfills
 returns-then-overfills c =
     let a = c.args in

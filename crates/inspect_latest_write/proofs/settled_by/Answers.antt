@@ -45,10 +45,6 @@ insts-requires c = law.words_long c.args.node c.args.mem.now c.requires.0
 pub slice_bounds-new-end : goal.slice_bounds-new-end
 slice_bounds-new-end c = omega (arith, law.words_long c.args.node c.args.mem.now c.requires.0)
 
-pub new-requires : goal.new-requires
-unfolding part
-new-requires c = (omega arith, law.written_long c.args.node c.args.mem.now c.requires.0)
-
 pub returns : goal.returns
 unfolding part
 returns c =
