@@ -70,8 +70,7 @@ fn place(slot: Slot) -> usize
     (slot.0 % layout::PLACES) as usize
 }
 
-// Where the batch and the held reads of place c stand. A number with its bound: `place` makes it and these alone take
-// it.
+// Where the batch and the held reads of place c stand. A number with its bound: `place` makes it for one use at once.
 fn batch_at(c: usize) -> usize
     requires { c < slot_places }
     ensures { result ≡ batch_start c }
