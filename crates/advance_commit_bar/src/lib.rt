@@ -1,5 +1,5 @@
 // `advance_commit_bar`: from the commit bar on, slots below a peer's commit bar become Committed. The slots stand in
-// lent words of crate insts.
+// lent words of crate insts. The commit bar is the node's, ballot and bar are the peer's: so they come apart.
 #![tactic(auto)]
 
 ghost use Rattle.std.specs.Prelude.{◌≡◌, ◌+◌, ◌-◌, ◌≤◌, min, length};
@@ -23,7 +23,8 @@ fn stops(insts: Insts<'_>, slot: Slot, ballot: Ballot) -> bool
     cell.bal < ballot || inst_cell::is_below_accepting(cell.status)
 }
 
-// An open slot changed, with its item; another one stays, without it.
+// An open slot changed, with its item; another one stays, without it. A call counts its items first and refuses an area
+// that is too small, so the room is asked for here and in the functions of a slot that call this.
 pub fn change_open<F: Fn(Cell) -> Cell>(
     insts: &mut InstsMut<'_>,
     slot: Slot,

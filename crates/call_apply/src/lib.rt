@@ -59,6 +59,7 @@ pub enum Call {
     Release(Slot),
 }
 
+// By the enum, no closure: a call is a value, since lines are read as one and the definitions have lists of them.
 pub fn apply(
     node: Node,
     mem: &mut [u64],

@@ -34,6 +34,7 @@ fn any_far(to: Moving) -> bool
         .any(|bar| Slot::TOP < *bar)
 }
 
+// The bars as they are come one by one, here and below: the accept bar may fall, so it is not among them.
 fn falls(start: Slot, commit: Slot, exec: Slot, to: Moving) -> bool
     ensures { result ≡ lowered start.0 commit.0 exec.0 to.start.0 to.commit.0 to.exec.0 }
 {

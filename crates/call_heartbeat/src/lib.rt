@@ -1,4 +1,5 @@
-// The call *heartbeat*: a peer's ballot, its roster where one is attached, and its commit, exec and snap bar.
+// The call *heartbeat*: a peer's ballot, its roster where one is attached, and its commit, exec and snap bar. The rows
+// of the roster are lent beside its short part, as a host in C hands them over, with `fitting` where they hold it.
 #![tactic(auto)]
 
 ghost use Rattle.std.specs.Prelude.{◌≡◌, true, ◌&&◌, ◌||◌, List, ℕ, ◌+◌, ◌≤◌, ◌<◌, leb, length};

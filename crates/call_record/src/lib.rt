@@ -199,6 +199,7 @@ pub fn record(
         return Err(Refusal::NotReady);
     }
     batch_refusal(rows, text, slot)?;
+    // A fixed array, since there is no heap.
     let mut words = [0; layout::BATCH_WORDS];
     let mut batch = BatchMut::new(&mut words);
     req_batch::load(rows, text, &mut batch);

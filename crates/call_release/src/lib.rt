@@ -18,7 +18,7 @@ use insts::{InstsMut, Window};
 use items::Items;
 use node::{Node, Taken};
 
-// The number of a release's refusal but 20, 0 where there is none.
+// Refusals 8 and 16.
 fn release_refusal(window: Window, slot: Slot) -> Result<(), Refusal>
     ensures { refused_by result ≡ release_refusal window.start.0 window.held slot.0 }
 {

@@ -1,5 +1,5 @@
 // The call *reply*: a peer's accept reply. Accepts that the peer seems to have missed are sent again, its ack is taken,
-// and a slot whose acks suffice commits.
+// and a slot whose acks suffice commits. Peer, slot and ballot come one by one, as the call has them.
 #![tactic(auto)]
 
 ghost use Rattle.std.specs.Prelude.{◌≡◌, ◌+◌, ◌-◌, ◌*◌, ◌≤◌, length};
@@ -104,7 +104,7 @@ fn put_resends(
 
 // ---- the ack
 
-// What an ack does at its slot, and the acks with it.
+// What an ack does at its slot, and the acks with it. Three ways, so no Option.
 #[derive(Clone, Copy)]
 enum Ack {
     Ignored,
@@ -199,6 +199,7 @@ fn set_acks(insts: &mut InstsMut<'_>, slot: Slot, acks: u64)
     insts.store(slot, cell);
 }
 
+// By the enum, no closure: how many items the ack has is asked of it before it is done.
 fn act(insts: &mut InstsMut<'_>, slot: Slot, ack: Ack)
     ensures same_reference { insts.new.words.ghost_name ≡ insts.old.words.ghost_name }
     ensures acts { Acts ack insts.old.words.now (place_of slot.0) insts.new.words.now }

@@ -1,4 +1,5 @@
-// `commit_condition` of localread.rs: whether a slot's acks let its batch commit.
+// `commit_condition` of localread.rs: whether a slot's acks let its batch commit. The roster's rows are lent beside its
+// short part (roster_conf), so each function asks that they hold it.
 #![tactic(auto)]
 
 ghost use Rattle.std.specs.Prelude.{◌≡◌, ◌<◌, ◌≤◌, length};
@@ -14,7 +15,8 @@ use inst_reqs::{Batch, Command, Request};
 use key_words::Key;
 use roster_conf::RespondersConf;
 
-// The roster of a key in seven words. Words that are no bytes' do not read, and have none.
+// The roster of a key in seven words. Words that are no bytes' do not read, and have none. The bytes go to a fixed
+// array, since there is no heap.
 fn responders_by_key(key: Key, conf: RespondersConf, rows: &[u64]) -> Option<u64>
     requires { (roster_words ≤ length rows.now) × (conf.count ≤ 64) }
     ensures { result ≡ get_responders_by_key (view conf rows.now) (bytes_of key) }

@@ -1,4 +1,5 @@
-// Numbers in decimal, most significant digit first.
+// Numbers in decimal, most significant digit first. Output and place come apart: the writer that has both, in crate
+// text, is made over this.
 #![tactic(auto)]
 
 ghost use Rattle.std.specs.Prelude.{◌≡◌, ◌+◌, ◌<◌, ◌≤◌, length};

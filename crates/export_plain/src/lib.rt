@@ -9,7 +9,7 @@ use node::{Node, Taken};
 use roster_conf::RespondersConf;
 
 // A node; has_leader is 0 where there is no leader. A number stands in place of an `Option`, here, in a roster and in
-// the answer: the C interface has none.
+// the answer: the C interface has none. So are the counts numbers: what they count stands in lent words.
 #[repr(C)]
 #[derive(Clone, Copy, Default)]
 pub struct Plain {

@@ -21,7 +21,7 @@ pub struct Key {
     pub lo: u64,
 }
 
-// number is 0 where the edit is taken, or the refusal.
+// number is 0 where the edit is taken, or the refusal; count is how many rows stand in the lent words then.
 #[repr(C)]
 #[derive(Clone, Copy)]
 pub struct Count {

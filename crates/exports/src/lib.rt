@@ -1,6 +1,7 @@
 // For Rust and C, over plain structs and lent words: the calls, key reading, and the edits and the lookup of a roster.
 // The C interface has a function for each name, and numbers, flags, slices and plain structs: so the calls have like
-// bodies, a flag says whether a roster is attached, and a number beside the rows says how many stand.
+// bodies, arguments come one by one, a flag says whether a roster is attached, and a number beside the rows says how
+// many stand.
 #![tactic(auto)]
 
 ghost use Rattle.std.specs.Prelude.{◌≡◌, ◌&&◌};

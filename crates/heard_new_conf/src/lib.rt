@@ -23,7 +23,8 @@ use node::Node;
 use peer_accept_bar::Pair;
 use roster_conf::RespondersConf;
 
-// The own guard, at the ballot and the accept bar; gives the reading bar worked out anew.
+// The own guard, at the ballot and the accept bar; gives the reading bar worked out anew. Words and population come
+// apart as in peer_accept_bar.
 fn guard_itself(
     pairs: &mut [u64],
     population: u8,

@@ -24,6 +24,7 @@ pub struct Entry {
     pub key: Key,
 }
 
+// The type is `table`'s, so that what is looked up in it is a function which takes it, not a method.
 pub type Written<'a> = Table<'a, Entry, KEYS>;
 
 pub type WrittenMut<'a> = TableMut<'a, Entry, KEYS>;

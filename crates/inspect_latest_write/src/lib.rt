@@ -1,4 +1,5 @@
-// request.rs and localread.rs: which condition settles a read at a replica, and the answer that follows from it.
+// request.rs and localread.rs: which condition settles a read at a replica, and the answer that follows from it. What a
+// read carries comes one by one, as a host in C hands it over; a table goes beside the node, as it is lent.
 #![tactic(auto)]
 
 ghost use Rattle.std.specs.Prelude.{◌≡◌, true, List, [], ◌∷◌, ℕ, ◌≤◌, length};

@@ -31,6 +31,7 @@ pub struct Request {
     pub key: Key,
 }
 
+// The type is `table`'s, so that what is looked up in a batch is a function which takes it, not a method.
 pub type Batch<'a> = Table<'a, Request, BATCH>;
 
 pub type BatchMut<'a> = TableMut<'a, Request, BATCH>;
@@ -45,6 +46,7 @@ fn command_words(c: Command) -> (u64, u64)
     }
 }
 
+// No `From`: a row has kind and value as two words, of which a pair would be made for it alone.
 pub fn command_at(kind: u64, value: u64) -> Command
     ensures { command_of result ≡ command_at kind value }
 {

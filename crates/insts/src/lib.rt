@@ -70,7 +70,7 @@ fn place(slot: Slot) -> usize
     (slot.0 % layout::PLACES) as usize
 }
 
-// Where the batch and the held reads of place c stand.
+// Where the batch and the held reads of place c stand. A number with its bound: `place` makes it for one use at once.
 fn batch_at(c: usize) -> usize
     requires { c < slot_places }
     ensures { result ≡ batch_start c }
@@ -199,8 +199,7 @@ impl<'a> InstsMut<'a> {
         ensures puts { PutsBatch self.old.words.now (place_of slot.0) (requests_of batch.entry.words.now) self.new.words.now }
     {
         let a = batch_at(place(slot));
-        self.words[a..a + layout::BATCH_WORDS]
-            .copy_from_slice(&batch.words[..layout::BATCH_WORDS]);
+        self.words[a..a + layout::BATCH_WORDS].copy_from_slice(&batch.words[..layout::BATCH_WORDS]);
     }
 
     pub fn clear_reads(&mut self, slot: Slot)

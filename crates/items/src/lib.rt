@@ -102,7 +102,8 @@ fn replica_in(word: u64) -> Replica
     Replica((word % 256) as u8)
 }
 
-// The only item that the words can be. The kinds are the numbers that the C side reads in the area.
+// The only item that the words can be. The kinds are the numbers that the C side reads in the area. No `From`: only
+// `decoded` says whether the words are the item's.
 #[tactic(auto, unfolding(crate::specs::Area::named))]
 fn item_named(words: [u64; 6]) -> Item
     ensures { item_of result
@@ -181,7 +182,7 @@ fn load(area: &[u64], place: usize) -> [u64; 6]
     ]
 }
 
-// False, and the area as it was, where it has no such place.
+// False, and the area as it was, where it has no such place. No condition alone: where it is true, the words are put.
 #[tactic(auto, unfolding(crate::specs::Area::put_item))]
 pub fn put_item(area: &mut [u64], place: usize, item: Item) -> bool
     ensures { ◌≡◌ {A = Put} (record { taken = result; area = area.new }) (put_item area.old place (item_of item)) }
@@ -193,11 +194,12 @@ pub fn put_item(area: &mut [u64], place: usize, item: Item) -> bool
     true
 }
 
-// Items put into a lent area one after the other, from its first place on or after those that stand there.
+// Items put into a lent area one after the other, from its first place on or after those that stand there. They go
+// beside a function's other arguments, which are not lent.
 #[derive(Drop)]
 pub struct Items<'a> {
     pub area: &'a mut [u64],
-    // Places that are taken.
+    // Places that are taken: a number, since the area is lent (no heap).
     pub count: usize,
 }
 

@@ -1,5 +1,6 @@
 // Keys that come in lines, one to a line, and an answer line to each: the key's number in decimal, or `-` where the key
-// does not read. A line of more than 1,024 bytes is not kept, and is answered `-`.
+// does not read. A line of more than 1,024 bytes is not kept, and is answered `-`. A line is a part of a piece, and
+// whether bytes of it were dropped goes from piece to piece, so the two come apart.
 #![tactic(auto)]
 
 ghost use Rattle.std.specs.Prelude.{◌≡◌, [], ◌+◌, ◌*◌, ◌≤◌, length, drop, option_map};
@@ -12,7 +13,7 @@ use inty::Inty;
 
 // The place in a piece where the line that has begun starts, how much of the output is used, and whether bytes of that
 // line were dropped.
-// A flag, since the place and the used length are there in both cases.
+// A flag, since the place and the used length are there in both cases; a length, since the output is lent.
 #[derive(Clone, Copy)]
 pub struct Fed {
     pub at: usize,
@@ -20,6 +21,7 @@ pub struct Fed {
     pub long: bool,
 }
 
+// A place beside the output, here and below: each writes one text, so a writer would be made for it alone.
 #[tactic(auto, unfolding(crate::specs::Lines::text_of))]
 fn put_text(out: &mut [u8], at: usize, r: Option<Inty>) -> usize
     requires { at + length (text_of (option_map value_of r)) ≤ length out.old }

@@ -90,7 +90,7 @@ fn put_six(text: &mut TextMut, words: &[u64; 6])
     }
 }
 
-// The items of the first places.
+// The items of the first places. The area is lent whole, and a call says how many places it filled.
 fn put_items(text: &mut TextMut, area: &[u64], count: usize)
     requires { (text.old.at + count * 106 ≤ length text.old.out.now) × (count * 6 ≤ length area.now) }
     ensures { Listed text.old area.now count text.new }

@@ -1,5 +1,6 @@
 // The lines of the node and of the draft. Where no node is made, a draft's line is refused 2 like one for a population
-// that is none.
+// that is none. The draft's short part goes by value (document 01), its rows are lent, the population is the node's: so
+// they come apart, beside the reader.
 #![tactic(auto)]
 
 ghost use Rattle.std.specs.Prelude.{◌≤◌, length};

@@ -1,4 +1,5 @@
-// An event line: what it does to the host, and the text that answers it.
+// An event line: what it does to the host, and the text that answers it. The host is short and copied, the buffers are
+// lent, so the two come apart.
 #![tactic(auto)]
 
 ghost use Rattle.std.specs.Prelude.{◌≡◌, true, ◌≤◌, length, if◌then◌else◌};
@@ -19,7 +20,7 @@ use line_reader::LineReader;
 use node::{Node, Taken};
 use roster_conf::RespondersConf;
 
-// What a line did: how many items answer it; and where its text ends.
+// What a line did: how many items answer it; and where its text ends, a length, since the output is lent.
 #[derive(Clone, Copy)]
 pub struct LineAnswer {
     pub acted: Result<usize, Refusal>,

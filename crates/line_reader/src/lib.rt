@@ -72,7 +72,7 @@ impl<'a> LineReader<'a> {
         }
     }
 
-    // The fields that are left, if they are N numbers.
+    // The fields that are left, if they are N numbers: an array, since there is no heap.
     pub fn numbers<const N: usize>(mut self) -> Option<[u64; N]>
         ensures { ReadsNumbers self.entry.line.now self.entry.at N result }
     {

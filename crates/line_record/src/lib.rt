@@ -58,7 +58,7 @@ fn put_group(groups: &mut [u64], i: usize, g: Group)
 }
 
 // The groups that are left, if the fields are whole groups: puts their rows, and says how many. A line of at most 1,024
-// bytes has at most 257.
+// bytes has at most 257. The bound is in the clauses, since a reader may hold a longer line elsewhere.
 fn groups_at(groups: &mut [u64], mut reader: LineReader<'_>) -> Option<usize>
     requires { (length reader.line.now ≤ 1024) × (1542 ≤ length groups.old) }
     ensures { ReadsGroups reader.entry.line.now reader.entry.at result groups.new }

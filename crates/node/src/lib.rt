@@ -15,6 +15,7 @@ use ids::{Ballot, Refusal, Replica, Slot};
 use insts::{Insts, Window};
 use roster_conf::RespondersConf;
 
+// The slots stand in the lent buffer, so `slots` says how many are held.
 #[derive(Clone, Copy)]
 pub struct Node {
     pub id: Replica,
@@ -34,13 +35,14 @@ pub struct Node {
 }
 
 // What a call gives that is taken: the node after it, and how many items it sends. A call that is refused leaves the node
-// as it was.
+// as it was. The items stand in a lent area (no heap), so their number goes beside it.
 #[derive(Clone, Copy)]
 pub struct Taken {
     pub node: Node,
     pub count: usize,
 }
 
+// Own number, population and quorum come one by one, as a host in C gives them to `fresh`.
 fn in_range(id: Replica, population: u8, quorum: u8) -> bool
     ensures { result ≡ in_range id.0 population quorum }
 {

@@ -1,4 +1,5 @@
-// The peers' exec bars in lent words, one for each replica; the own place is not read.
+// The peers' exec bars in lent words, one for each replica; the own place is not read. The words are a part of a node's
+// buffer, its numbers go by value (document 01), the peer is the call's: so they come apart, and bounds are in clauses.
 #![tactic(auto)]
 
 ghost use Rattle.std.specs.Prelude.{◌≡◌, ◌||◌, ◌≤◌, ◌<◌, max, leb, eqb, length, get_or};

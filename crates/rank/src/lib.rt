@@ -56,6 +56,7 @@ fn search(b: &[u64], k: usize, from: u64, to: u64) -> u64
     lo
 }
 
+// k is a rank, no length of the list.
 pub fn kth(b: &[u64], k: usize) -> u64
     requires { (0 < k) × (k ≤ length b.now) }
     ensures { result ≡ get_or (sort b.now) (k - 1) 0 }

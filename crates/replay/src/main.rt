@@ -72,7 +72,8 @@ fn outcome(
     }
 }
 
-// Reads a piece behind the bytes that were kept, and says where the bytes end then; None where the input has ended.
+// Reads a piece behind the bytes that were kept, and says where the bytes end then; None where the input has ended. The
+// buffer comes whole, with the kept length, since the end counts from its start.
 fn fill(mut input: Stdin, buf: &mut [u8], have: usize) -> Result<Option<usize>, Failure>
     requires { have < length buf.old }
     ensures { Filling buf.old have result buf.new }

@@ -14,6 +14,8 @@ use ids::{Refusal, Replica};
 use inty::Inty;
 use roster_map::{RangeMap, RangeMapMut, Row};
 
+// `count` of the lent rows are its ranges. A host in C may hand over any count, so that it is at most 64 is no ghost
+// field: the functions that need it ask for it, and for whole rows.
 #[derive(Clone, Copy)]
 pub struct RespondersConf {
     pub leader: Option<Replica>,

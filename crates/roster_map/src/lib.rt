@@ -105,7 +105,7 @@ impl Row {
     }
 }
 
-// The first `count` rows of lent words.
+// The first `count` rows of lent words: a number, since rows are put and dropped in the same words (no heap).
 #[derive(Clone, Copy)]
 pub struct RangeMap<'a> {
     pub rows: &'a [u64],

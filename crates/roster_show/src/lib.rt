@@ -1,4 +1,4 @@
-// `show`: a roster's ranges ascending, then its default, as items.
+// `show`: a roster's ranges ascending, then its default, as items. Rows and area are lent, each by itself.
 #![tactic(auto)]
 
 ghost use Rattle.std.specs.Prelude.{◌≡◌, ◌≤◌};

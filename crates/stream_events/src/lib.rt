@@ -1,4 +1,6 @@
-// The event lines of a stream that comes in pieces, and the answers to them.
+// The event lines of a stream that comes in pieces, and the answers to them. A line is a part of a piece, and whether
+// bytes of it were dropped goes from piece to piece, so the two come apart. The output is a slice with room for any
+// answer, another part of it for each line: a struct of it would be made for each line only to be taken apart.
 #![tactic(auto)]
 
 ghost use Rattle.std.specs.Prelude.{◌≡◌, ◌||◌, List, ℕ, ◌≤◌, ltb, length};
@@ -10,14 +12,14 @@ use ids::Refusal;
 use line_buffers::{Buffers, TEXT_BYTES};
 use line_host::Host;
 
-// What goes from line to line: the host, and the number of the next line.
+// What goes from line to line: the host, and the number of the next line, which counts lines and stands for no kind.
 #[derive(Clone, Copy)]
 pub struct LineState {
     pub host: Host,
     pub number: u64,
 }
 
-// What a line leaves, and where its text ends.
+// What a line leaves, and where its text ends: a length, since the output is lent.
 #[derive(Clone, Copy)]
 pub struct LineWritten {
     pub state: LineState,
@@ -34,7 +36,7 @@ pub struct Place {
 }
 
 // The next place, how much of the output is used, and whether the output was too full to go on.
-// A flag, since the place and the used length are there in both cases.
+// A flag, since the place and the used length are there in both cases; a length, since the output is lent.
 #[derive(Clone, Copy)]
 pub struct Fed {
     pub place: Place,

@@ -8,7 +8,7 @@ use line_buffers::LINE_BYTES;
 use memchr::memchr;
 
 // The line that has begun: how many of its bytes are at the start of the buffer, and whether bytes of it were dropped.
-// A flag, since a line of which bytes were dropped may have others at the start.
+// A flag, since a line of which bytes were dropped may have others at the start; a length, since the buffer is lent.
 #[derive(Clone, Copy)]
 pub struct Carry {
     pub have: usize,

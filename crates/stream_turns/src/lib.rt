@@ -1,5 +1,6 @@
 // The turns of a program that answers a stream of event lines. A turn reads and writes nothing: it is handed the bytes
-// that were read, and leaves the text that is to be written.
+// that were read, and leaves the text that is to be written. Buffers and output are lent one by one, as stream_events
+// has them.
 #![tactic(auto)]
 
 ghost use Rattle.std.specs.Prelude.{◌≤◌, length};
@@ -12,7 +13,7 @@ use stream_events::{LineState, Place};
 
 // Where a stream stands: the bytes of the buffer from `place.at` up to `end` were read and are not answered. If `more`,
 // lines may end in them; if not, they are the line that has begun, at the buffer's start.
-// A flag, since both kinds have a place and an end.
+// A flag, since both kinds have a place and an end; numbers, since the buffer is lent.
 #[derive(Clone, Copy)]
 pub struct Stream {
     pub place: Place,
@@ -20,7 +21,7 @@ pub struct Stream {
     pub more: bool,
 }
 
-// Where the stream stands after a turn, and how much of the output is its text.
+// Where the stream stands after a turn, and how much of the output is its text: a length, since the output is lent.
 #[derive(Clone, Copy)]
 pub struct TurnResult {
     pub stream: Stream,

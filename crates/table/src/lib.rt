@@ -9,7 +9,8 @@ ghost use Rattle.table.specs.Table.{Pushes};
 use std::alloc::AllocError;
 use std::marker::PhantomData;
 
-// A row: its width, what it stands for, its words, and that a row which is stored is read back.
+// A row: its width, what it stands for, its words, and that a row which is stored is read back. `get` and `put` take
+// words and a place in them: to cut the row out is no plainer, since the laws speak of places.
 pub trait Row: Copy {
     const WORDS: usize;
 
@@ -72,7 +73,7 @@ impl<'a, R: Row, const PLACES: usize> Table<'a, R, PLACES> {
         self.words[0].min(PLACES as u64) as usize
     }
 
-    // The i-th row.
+    // The i-th row. Its bound is asked for, as a slice asks for an index's; callers with an index ask for it again.
     pub fn get(self, i: usize) -> R
         requires { i < PLACES }
         ensures { R.view result ≡ R.at self.entry.words.now (1 + i * R.WORDS) }
@@ -107,7 +108,8 @@ impl<'a, R: Row, const PLACES: usize> TableMut<'a, R, PLACES> {
         Table::new(self.words)
     }
 
-    // A row after the others; false, and nothing changed, where there is no place left.
+    // A row after the others; false, and nothing changed, where there is no place left. No condition alone: where it is
+    // true, the row is put.
     pub fn push(&mut self, row: R) -> bool
         ensures same_reference { self.new.words.ghost_name ≡ self.old.words.ghost_name }
         ensures pushes { Pushes R.at R.WORDS PLACES self.old.words.now (R.view row) result self.new.words.now }

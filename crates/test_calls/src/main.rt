@@ -34,7 +34,8 @@ struct State {
     lines: u64,
 }
 
-// What a line leaves that is taken: how many items it answers, and what the next line finds.
+// What a line leaves that is taken: how many items it answers, which stand in the lent area, and what the next line
+// finds.
 #[derive(Clone, Copy)]
 struct Done {
     count: usize,

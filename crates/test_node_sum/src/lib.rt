@@ -103,7 +103,7 @@ impl<'a> Sum<'a> {
         self.plus_words(at, 1 + w * n)
     }
 
-    // ---- a slot
+    // ---- a slot, by its place c, which the loop over the slots gives as an index
 
     #[tactic(auto, unfolding(crate::specs::Numbers::cell_of))]
     fn plus_cell(self, at: usize) -> Sum<'a>

@@ -60,7 +60,8 @@ fn meet(answers: &[u8], met: Option<usize>, text: &[u8]) -> Option<usize>
     (answers.get(at..end)? == text).then_some(end)
 }
 
-// Answers the lines of a piece, and compares the answers.
+// Answers the lines of a piece, and compares the answers. Buffers and output are lent one by one, here and below, as to
+// stream_events.
 fn drain(
     piece: &[u8],
     answers: &[u8],

@@ -12,7 +12,8 @@ pub(crate) struct Script<'a> {
     pub answers: &'a [u8],
 }
 
-// A script's first line: its name, and how many bytes of event lines and of answers follow.
+// A script's first line: its name, and how many bytes of event lines and of answers follow. Lengths, as the line has
+// them: what they count comes after it.
 #[derive(Clone, Copy)]
 struct Header<'a> {
     name: &'a [u8],
