@@ -60,17 +60,3 @@ module _ (area : List ℕ) (place slot : ℕ) where
       let g = rw e at f in rw e (put_one area place (Commit slot) t after (omega (arith, g)) p)
 
 -- ---- the words after it
-
-pub acks_put : {s t : List ℕ} {a : List Request} {l : List ReadReq} (c acks : ℕ) (k : Cell) → cell_of k ≡ short_at s c → Puts s c (with_acks acks (cell_of k)) a l t
-    → Puts s c (with_acks acks (short_at s c)) a l t
-acks_put {s = s} {t = t} {a = a} {l = l} c acks k e p = subst (λ (y : Short). Puts s c (with_acks acks y) a l t) e p
-
-pub acts_none : (s : List ℕ) (c : ℕ) (a : Ack) → a ≡ Ignored → Acts a s c s
-acts_none s c a e = rw e refl
-
-pub acts_marks : (s t : List ℕ) (c : ℕ) (a : Ack) (m : ℕ) → a ≡ Marks m → Puts s c (with_acks m (short_at s c)) (batch_at s c) (reads_at s c) t → Acts a s c t
-acts_marks s t c a m e p = rw e p
-
-pub acts_commits : (s t u : List ℕ) (c : ℕ) (a : Ack) (m : ℕ) → a ≡ Commits m → Puts s c (with_acks m (short_at s c)) (batch_at s c) (reads_at s c) t
-    → Puts t c (with_status Committed (short_at t c)) (batch_at t c) (reads_at t c) u → Acts a s c u
-acts_commits s t u c a m e p q = rw e (subst (λ (y : Short). Puts s c (with_status Committed y) (batch_at s c) (reads_at s c) u) p.short (short_after p q))

@@ -74,9 +74,6 @@ module _ (s area : List ℕ) (id prepared commit peer slot : ℕ) (a : Ack) (n b
   length_items : length (items_of s id peer commit prepared slot a) ≡ b + k
   length_items = ap length items_are ∙ length-append resends (commit_items a slot) ∙ omega (arith, length_commits a slot)
 
-  pub too_full : (c : ℕ) → length area / 6 < b + k → Replies (items_of s id peer commit prepared slot a) a c s area None s area
-  too_full c h = (rw length_items h, refl, refl)
-
   module _ (h : b + k ≤ length area / 6) where
     pub room : length resends ≤ places area
     room = omega arith

@@ -175,10 +175,6 @@ module _ (s : List ℕ) (c a : ℕ) (e : a ≡ reads_start c) where
   unfolding part
   lent_reads = rw e (ap (λ (j : ℕ). take j (drop (reads_start c) s)) (width (reads_start c) held_words))
 
-  pub reads_counted : (r : ℕ) → (r ≡ length (reads_of (take (a + held_words - a) (drop a s)))) × (r ≤ held_places) → (r ≡ length (reads_at s c)) × (r ≤ held_places)
-  unfolding reads_at
-  reads_counted r g = (g.0 ∙ ap (λ (l : List ℕ). length (reads_of l)) lent_reads, g.1)
-
   pub read_pushed : slot_words ≤ length s → c < slot_places → (w : List ℕ) (x : machine.ReadReq) (r : Bool) → length w ≡ length (take (a + held_words - a) (drop a s)) → length (reads_at s c) < held_places
       → Pushes (take (a + held_words - a) (drop a s)) x r w → Puts s c (short_at s c) (batch_at s c) (reads_at s c ++ (x ∷ [])) (put_mid a (a + held_words - a) s w)
   unfolding reads_at
@@ -190,11 +186,6 @@ module _ (s : List ℕ) (c a : ℕ) (e : a ≡ reads_start c) where
       let k : length w ≡ held_words = l ∙ lent s c h b a (a + held_words - a) (omega arith) ∙ width a held_words in
       rw e (puts_reads s c h b (reads_start c + held_words - reads_start c) w (width (reads_start c) held_words) k (reads_at s c ++ (x ∷ []))
       (kept_all r (reads_of w) (reads_of (part s (reads_start c) held_words) ++ (x ∷ [])) q))
-
-pub last_put_at : (s : List ℕ) (c a : ℕ) (key : List ℕ) (o : Option ℕ) → a ≡ batch_start c → o ≡ last_put key (requests_of (take (a + batch_words - a) (drop a s))) → o ≡ last_put key (batch_at s c)
-unfolding batch_at part
-last_put_at s c a key o e g =
-    g ∙ rw e (ap (λ (j : ℕ). last_put key (requests_of (take j (drop (batch_start c) s)))) (width (batch_start c) batch_words))
 
 -- ---- one change after another
 
@@ -218,9 +209,6 @@ module _ {s t u : List ℕ} {c : ℕ} {x : Short} {a : List machine.Request} {l 
 
   pub batch_after : {b : List machine.Request} → Puts t c (short_at t c) b (reads_at t c) u → Puts s c x b l u
   batch_after q = record { short = q.short ∙ p.short; batch = q.batch; held = q.held ∙ p.held; others = (puts_then p q).others; size = q.size ∙ p.size }
-
-  pub reads_after : {m : List machine.ReadReq} → Puts t c (short_at t c) (batch_at t c) m u → Puts s c x a m u
-  reads_after q = record { short = q.short ∙ p.short; batch = q.batch ∙ p.batch; held = q.held; others = (puts_then p q).others; size = q.size ∙ p.size }
 
 -- ---- the slots
 
@@ -315,9 +303,6 @@ first_of start n k s = elim (dec_lt n k) [
   | no h ↦ (let e : min k n ≡ k = omega arith in rw e (sym (first start n k s (omega arith))))
 ]
 
-abbrev pub is_open_at : machine.Instance → Bool
-is_open_at i = machine.is_open i.status
-
 -- ---- the code's tests
 
 book_holds : (o : Option Notices) (l : List machine.ReadReq)
@@ -366,27 +351,3 @@ module _ (s : List ℕ) (c : ℕ) (t : Bool) (e : t ≡ has_book (short_at s c))
         others = p.others;
         size = p.size;
       }
-
--- ---- one slot after another: whether one of those from the i-th on is such
-
-module _ (f : machine.Instance → Bool) (start n : ℕ) (s : List ℕ) where
-  abbrev pub any_from : ℕ → Bool
-  any_from i = any f (tab (λ j. inst_in s ((start + j) % slot_places)) i (n - i))
-
-  pub any_start : any_from 0 ≡ any f (insts_of start n s)
-  unfolding insts_of
-  any_start = let e : n - 0 ≡ n = omega arith in ap (λ (k : ℕ). any f (tab (λ j. inst_in s ((start + j) % slot_places)) 0 k)) e
-
-  pub any_end : (i : ℕ) → n ≤ i → any_from i ≡ false
-  any_end i h = let e : n - i ≡ 0 = omega arith in rw e
-
-  module _ (i : ℕ) (h : i < n) where
-    more : n - i ≡ suc (n - (i + 1))
-    more = omega arith
-
-    module _ (t : Bool) (e : t ≡ f (inst_in s ((start + i) % slot_places))) where
-      pub any_here : t ≡ true → any_from i ≡ true
-      any_here g = rw (more, sym e ∙ g)
-
-      pub any_next : t ≡ false → any_from i ≡ any_from (i + 1)
-      any_next g = rw (more, sym e ∙ g)

@@ -78,10 +78,6 @@ module _ (n : Node) (m : List ℕ) (h : node_words ≤ length m) (s : List ℕ) 
     pub rows_beyond : Untouched node_words m (splice m rows_at roster_words s)
     rows_beyond = splice_untouched m rows_at roster_words s (omega arith) l node_words (omega arith)
 
-    pub rows_ready : ready n (splice m rows_at roster_words s) ≡ ready n m
-    unfolding ready
-    rows_ready = rw rows_size_lem
-
   module _ (l : length s ≡ slot_words) where
     pub slots_back : view n (splice m slots_at slot_words s) ≡ machine.with_insts (insts_of n.start_slot.0 n.slots s) (view n m)
     unfolding view
@@ -121,7 +117,3 @@ module _ (n : Node) (m : List ℕ) (h : node_words ≤ length m) (s : List ℕ) 
 
     pub written_beyond : Untouched node_words m (splice m written_at written_words s)
     written_beyond = splice_untouched m written_at written_words s (omega arith) l node_words (omega arith)
-
-    pub written_ready : ready n (splice m written_at written_words s) ≡ ready n m
-    unfolding ready
-    written_ready = rw written_size
