@@ -1,8 +1,8 @@
 -- Trusted: a run of stores into a list, and what stays as it was; the laws below it are proved.
-use Rattle.std.specs.Prelude.{◌≡◌, refl, ◌⊎◌, List, [], ◌∷◌, ◌++◌, ℕ, zero, suc, ◌+◌, ◌≤◌, ◌<◌, length, get_or, set}
-use Rattle.std.proofs.Common.{◌∙◌, inl, inr, ⊎_elim, add-zero, not-suc-le-zero, arith, length-set, get_or-set_same, get_or-set_other, ext_get_or}
+use Rattle.std.specs.Prelude.{◌≡◌, refl, ◌⊎◌, ◌≢◌, List, [], ◌∷◌, ◌++◌, ℕ, zero, suc, ◌+◌, ◌≤◌, ◌<◌, length, get_or, set, take}
+use Rattle.std.proofs.Common.{sym, ap, ◌∙◌, inl, inr, ⊎_elim, add_assoc, add-zero, not-suc-le-zero, add-one, arith, length-set, get_or-set_same, get_or-set_other, take-suc, length-take-le, ext_get_or}
 use Rattle.words.specs.Part.{part, part_set_below}
-use Rattle.words.specs.Tab.{words_from, tab_ext, length_tab, get_or_tab}
+use Rattle.words.specs.Tab.{tab, words_from, tab_ext, length_tab, get_or_tab}
 
 -- vs stored element by element from index at
 abbrev pub writes : List ℕ → ℕ → List ℕ → List ℕ
@@ -41,6 +41,12 @@ writes_snoc s at (x ∷ vs) v =
     let e : at + suc (length vs) ≡ at + 1 + length vs = omega arith in
     rw e (writes_snoc (set s at x) (at + 1) vs v)
 
+-- a turn of a loop that copies key to b
+pub writes_take : (s : List ℕ) (b : ℕ) (key : List ℕ) (i : ℕ) → i < length key → set (writes s b (take i key)) (b + i) (get_or key i 0) ≡ writes s b (take (i + 1) key)
+writes_take s b key i h =
+    let e : length (take i key) ≡ i = length-take-le i key (omega arith) in
+    rw (add-one i, take-suc key i 0, writes_snoc, e)
+
 -- what was stored is read back
 pub run_writes : (s : List ℕ) (at : ℕ) (vs : List ℕ) → at + length vs ≤ length s → words_from (length vs) (writes s at vs) at ≡ vs
 run_writes s at vs h =
@@ -63,3 +69,9 @@ writes_append s at (x ∷ xs) ys =
 pub part_writes : (s : List ℕ) (at : ℕ) (vs : List ℕ) (a n : ℕ) → at + length vs ≤ a → part (writes s at vs) a n ≡ part s a n
 part_writes s at [] a n h = refl
 part_writes s at (v ∷ vs) a n h = part_writes (set s at v) (at + 1) vs a n (omega arith) ∙ part_set_below s a n v at (omega arith)
+
+-- as many as there are
+pub writes_all : (s vs : List ℕ) → length s ≡ length vs → writes s 0 vs ≡ vs
+writes_all s vs h =
+    ext_get_or 0 (writes s 0 vs) vs (length_writes s 0 vs ∙ h)
+    (λ k b. let l : k < length vs = omega (arith, length_writes s 0 vs) in let z : k ≡ 0 + k = omega arith in ap (λ (j : ℕ). get_or (writes s 0 vs) j 0) z ∙ writes_same s 0 vs k (omega arith) l)
