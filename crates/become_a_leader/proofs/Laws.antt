@@ -8,14 +8,15 @@ use Prim.Native.Nat.{ℕ, ◌+◌, ◌-◌, ◌*◌, ◌%◌, ◌≤◌, ◌<◌
 use native.Mathlib.Omega.{arith}
 use lib.ListN.{length, drop, replicate, take-append-drop}
 use Rattle.words.specs.Writes.{writes}
-use Rattle.layout.specs.Layout.{slot_places, held_places, held_words}
+use Rattle.layout.specs.Layout.{slot_places, held_row, held_places, held_words}
 use Rattle.items.specs.Item.{Item, Prelog, encode, places}
 use Rattle.bodega.specs.Replica.{Instance, Preparing, is_open, null_instance}
 use Rattle.bodega.specs.Conflease.{first_open, last_open, any_open, prelogs, reprepared}
 use Rattle.bodega.specs.Grounds.{any}
 use Rattle.bodega.specs.Heartbeat.{Walk}
 use Rattle.inst_cell.specs.Cell.{Notices}
-use Rattle.inst_holding.proofs.Laws.{how_many}
+use Rattle.words.specs.Counted.{length_counted}
+use Rattle.inst_holding.specs.Held.{read_from}
 use Rattle.words.specs.Part.{part}
 use Rattle.words.specs.Choice.{if_none◌then◌else◌}
 use Rattle.insts.specs.Slots.{short_at, batch_at, reads_at, reads_start, book_of, inst_of, inst_in, insts_of}
@@ -121,7 +122,7 @@ unfolding inst_in reads_at
 few_held s c = go (short_at s c).replica_bk
   where
     few : length (reads_at s c) ≤ held_places
-    few = omega (arith, how_many (part s (reads_start c) held_words))
+    few = omega (arith, length_counted read_from held_row held_places (part s (reads_start c) held_words))
 
     go : (o : Option Notices) → length (if_none (book_of o (reads_at s c)) then [] else λ b. b.holding) ≤ held_places
     go None = omega arith
