@@ -1,8 +1,7 @@
 -- `refresh_highest_slot` request by request: which keys are written after it, how many, and the written keys in lent
 -- words.
-use Rattle.std.specs.Prelude.{if◌then◌else◌, cond, is_none}
-use Rattle.std.specs.List.{count_by, range_with_len}
-use Rattle.std.proofs.lemmas.List.Sums.{sum_by-append}
+use Rattle.std.specs.Prelude.{if◌then◌else◌, is_none}
+use Rattle.std.specs.Int.{from_bool}
 use mathlib.Core.Path.{◌≡◌, refl, sym, ap, ◌∙◌}
 use mathlib.Core.Bool.{Bool, true, false, ◌||◌, ◌&&◌, or-false}
 use mathlib.Core.List.{List, [], ◌∷◌, ◌++◌}
@@ -10,11 +9,11 @@ use Rattle.std.specs.Prelude.{Option, None, Some}
 use Prim.Native.Nat.{ℕ, zero, suc, ◌+◌, ◌-◌, ◌≤◌, ◌<◌}
 use native.Mathlib.Nat.{add-zero, zero-add, sub-zero}
 use native.Mathlib.Omega.{arith}
-use borrow.Author.Tests.{le-ltb}
+use borrow.Author.Tests.{le-ltb, lt-ltb}
 use lib.Dec.{ltb}
-use lib.ListN.{length, get_or}
+use lib.ListN.{length, get_or, drop, take-append-drop}
 use Rattle.words.specs.Choice.{if_none◌then◌else◌}
-use Rattle.words.specs.Tab.{tab, tab_snoc}
+use Rattle.words.specs.Tab.{tab, tab_snoc, take_tab, drop_tab}
 use Rattle.keys.specs.Same.{same_bytes}
 use Rattle.keys.proofs.Same.{same_true}
 use Rattle.bodega.specs.Replica as machine
@@ -169,38 +168,66 @@ module _ (q : machine.Request) (r : Request) (is : request_of r ≡ q) where
       let f : noted slot q (written_of s) ≡ raise slot (bytes_of r.key) (written_of s) = rw (← is, e) in
       record { written = noted_on s t (bytes_of r.key) slot ok n (rw f at h) ∙ sym f; beyond = n.beyond }
 
--- ---- how many of the requests add a key
+refresh_append : (slot : ℕ) (qs ps : List machine.Request) (hs : List machine.Highest) → refresh_highest_slot slot (qs ++ ps) hs ≡ refresh_highest_slot slot ps (refresh_highest_slot slot qs hs)
+unfolding refresh_highest_slot
+refresh_append slot [] ps hs = refl
+refresh_append slot (q ∷ qs) ps hs = refresh_append slot qs ps (noted slot q hs)
 
-range_snoc : (a n : ℕ) → range_with_len a (suc n) ≡ range_with_len a n ++ ((a + n) ∷ [])
-range_snoc a zero = simp add-zero
-range_snoc a (suc n) = let e : a + suc n ≡ a + 1 + n = omega arith in rw e (ap (λ (l : List ℕ). a ∷ l) (range_snoc (a + 1) n))
+-- ---- how many keys there are after the first i requests
 
-one : (t : Bool) → ◌≡◌ {A = ℕ} (cond t 1 0) (if t then 1 else 0)
-one true = refl
-one false = refl
+module _ (b : List ℕ) (hs : List machine.Highest) where
+  abbrev pub After : ℕ → ℕ → ℕ
+  After slot i = length (refresh_highest_slot slot (tab (request_at b) 0 i) hs)
 
-module _ (b : List ℕ) (slot : ℕ) (hs : List machine.Highest) where
   -- whether the i-th adds one
   abbrev pub AddsAt : ℕ → Bool
   AddsAt i = adds (request_at b i) (tab (request_at b) 0 i) hs
 
-  added : (n : ℕ) → length hs + count_by AddsAt (range_with_len 0 n) ≡ length (refresh_highest_slot slot (tab (request_at b) 0 n) hs)
+  pub after_start : (n : ℕ) → n ≡ length hs → (slot : ℕ) → n ≡ After slot 0
   unfolding refresh_highest_slot
-  added zero = add-zero (length hs)
-  added (suc n) =
-      let m : suc n ≡ n + 1 = omega arith in
-      let r : count_by AddsAt (range_with_len 0 (suc n)) ≡ count_by AddsAt (range_with_len 0 n) + (0 + cond (AddsAt n) 1 0) =
-      rw (range_snoc 0 n, zero-add n) (sum_by-append (λ i. cond (AddsAt i) 1 0) (range_with_len 0 n) (n ∷ [])) in
-      let l : length (refresh_highest_slot slot (tab (request_at b) 0 (suc n)) hs) ≡ length (refresh_highest_slot slot (tab (request_at b) 0 n) hs) + (if AddsAt n then 1 else 0) =
-      ap (λ (k : ℕ). length (refresh_highest_slot slot (tab (request_at b) 0 k) hs)) m ∙ rw (tab_snoc (request_at b) 0 n, zero-add n) (long_snoc slot (tab (request_at b) 0 n) (request_at b n) hs) in
-      omega (arith, r, l, added n, one (AddsAt n))
+  after_start n e slot = e
 
-  -- in the words of the code: n is how many there are, r how many of them add one
-  pub all_added : (n r : ℕ) → n ≡ length (requests_of b) → r ≡ count_by AddsAt (range_with_len 0 n) → length hs + r ≡ length (refresh_highest_slot slot (requests_of b) hs)
-  all_added n r h e = rw (requests_are b n h, e) (added n)
+  pub after_next : (n i r : ℕ) (t : Bool) → ((slot : ℕ) → n ≡ After slot i) → t ≡ AddsAt i → r ≡ from_bool t → (slot : ℕ) → n + r ≡ After slot (i + 1)
+  after_next n i r t e h x slot =
+      let f = e slot in
+      let g : After slot (i + 1) ≡ After slot i + (if t then 1 else 0) =
+      rw (tab_snoc (request_at b) 0 i, zero-add i, h) (long_snoc slot (tab (request_at b) 0 i) (request_at b i) hs) in
+      omega (arith, one t)
+    where
+      one : (t : Bool) → ◌≡◌ {A = ℕ} (from_bool t) (if t then 1 else 0)
+      one true = refl
+      one false = refl
 
-  pub fits : (m n : ℕ) → m ≡ length (requests_of b) → n ≡ length hs → n + m ≤ keys → ltb keys (n + m) ≡ ltb keys (length (refresh_highest_slot slot (requests_of b) hs))
-  fits m n x y h =
+  whole : (m slot : ℕ) → m ≡ length (requests_of b) → After slot m ≡ length (refresh_highest_slot slot (requests_of b) hs)
+  whole m slot h = rw (requests_are b m h)
+
+  pub after_end : (n m i : ℕ) → ((slot : ℕ) → n ≡ After slot i) → m ≡ length (requests_of b) → i ≤ m → m ≤ i → n ≤ keys
+      → (slot : ℕ) → false ≡ ltb keys (length (refresh_highest_slot slot (requests_of b) hs))
+  after_end n m i e h x y k slot =
+      let q : i ≡ m = omega arith in
+      let f = rw (q, whole m slot h) at (e slot) in
+      sym (le-ltb keys (length (refresh_highest_slot slot (requests_of b) hs)) (omega arith))
+
+  drops : (m i : ℕ) → i ≤ m → drop i (tab (request_at b) 0 m) ≡ tab (request_at b) i (m - i)
+  drops m i h = drop_tab (request_at b) 0 m i h ∙ ap (λ (j : ℕ). tab (request_at b) j (m - i)) (zero-add i)
+
+  -- no key is lost by the requests after the i-th
+  after_grows : (m i slot : ℕ) → i ≤ m → After slot i ≤ After slot m
+  after_grows m i slot h =
+      let l = long_after slot (tab (request_at b) i (m - i)) (refresh_highest_slot slot (tab (request_at b) 0 i) hs) in
+      let s : tab (request_at b) 0 m ≡ tab (request_at b) 0 i ++ tab (request_at b) i (m - i) =
+      sym (rw (← (take_tab (request_at b) 0 m i h), ← (drops m i h)) (take-append-drop i (tab (request_at b) 0 m))) in
+      rw (s, refresh_append) l.0
+
+  pub after_past : (n m i r : ℕ) (t : Bool) → ((slot : ℕ) → n ≡ After slot i) → t ≡ AddsAt i → r ≡ from_bool t → m ≡ length (requests_of b) → i < m → keys < n + r
+      → (slot : ℕ) → true ≡ ltb keys (length (refresh_highest_slot slot (requests_of b) hs))
+  after_past n m i r t e h z k x y slot =
+      let f = after_next n i r t e h z slot in
+      let g = rw (whole m slot k) at (after_grows m (i + 1) slot (omega arith)) in
+      sym (lt-ltb keys (length (refresh_highest_slot slot (requests_of b) hs)) (omega arith))
+
+  pub fits : (m n : ℕ) → m ≡ length (requests_of b) → n ≡ length hs → n + m ≤ keys → (slot : ℕ) → ltb keys (n + m) ≡ ltb keys (length (refresh_highest_slot slot (requests_of b) hs))
+  fits m n x y h slot =
       let l = long_after slot (requests_of b) hs in
       le-ltb keys (n + m) h ∙ sym (le-ltb keys (length (refresh_highest_slot slot (requests_of b) hs)) (omega arith))
 

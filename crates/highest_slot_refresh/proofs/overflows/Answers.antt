@@ -1,5 +1,5 @@
 use Rattle.highest_slot_refresh.proofs.Laws as law
 use Rattle.highest_slot_refresh.proofs.overflows.Goals as goal
 
-pub returns-else-n-count-gt-KEYS : goal.returns-else-n-count-gt-KEYS
-returns-else-n-count-gt-KEYS c slot = law.fits _ slot _ _ _ c.count.ensures.0 c.count-n.ensures.0 c.if-n-count-gt-KEYS.false
+pub returns-else-count-gt-KEYS : goal.returns-else-count-gt-KEYS
+returns-else-count-gt-KEYS c = law.fits _ _ _ _ c.count-2.ensures.0 c.count.ensures.0 c.if-count-gt-KEYS.false
