@@ -42,14 +42,9 @@ unfolding decode
 decoded_is w s i false r n k q z = rw (z, ← n, ← k, ← pointwise_same s w, ← q)
 decoded_is w s i true r n k q z = rw (z, ← n, ← k, ← pointwise_same s w, ← q)
 
-pub put_none : (area : List ℕ) (place : ℕ) (x : Item) → length area / 6 ≤ place → ◌≡◌ {A = Put} (record { taken = false; area = area }) (put_item area place x)
+pub put_none : (area : List ℕ) (place : ℕ) (x : Item) → length area / 6 ≤ place → ◌≡◌ {A = Put} (put_item area place x) (record { taken = false; area = area })
 unfolding put_item
-put_none area place x h = sym (rw (le-ltb place (length area / 6) h))
-
-pub put_some : (area area' : List ℕ) (place : ℕ) (x : Item) → place < length area / 6 → area' ≡ writes area (place * 6) (item_words x)
-    → ◌≡◌ {A = Put} (record { taken = true; area = area' }) (put_item area place x)
-unfolding put_item
-put_some area area' place x h e = rw (lt-ltb place (length area / 6) h, e)
+put_none area place x h = rw (le-ltb place (length area / 6) h)
 
 -- ---- the words of an item, and the item of the words
 
@@ -163,13 +158,13 @@ pub put_true : (area : List ℕ) (place : ℕ) (x : Item) → place < places are
 put_true area place x h = rw (put_yes area place x h)
 
 pub put_false : (area : List ℕ) (place : ℕ) (x : Item) → places area ≤ place → (put_item area place x).taken ≡ false
-put_false area place x h = rw (← (put_none area place x h))
+put_false area place x h = rw (put_none area place x h)
 
 pub put_area : (area : List ℕ) (place : ℕ) (x : Item) → place < places area → (put_item area place x).area ≡ writes area (place * 6) (item_words x)
 put_area area place x h = rw (put_yes area place x h)
 
 pub put_same : (area : List ℕ) (place : ℕ) (x : Item) → places area ≤ place → (put_item area place x).area ≡ area
-put_same area place x h = rw (← (put_none area place x h))
+put_same area place x h = rw (put_none area place x h)
 
 pub put_length : (area : List ℕ) (place : ℕ) (x : Item) → length (put_item area place x).area ≡ length area
 put_length area place x = elim (dec_lt place (places area)) [

@@ -1,6 +1,8 @@
 -- Trusted: a lent answer area, and what putting an item at a place of it and reading it there leave.
 use Rattle.std.specs.Prelude.{Bool, true, false, ◌&&◌, List, [], ◌∷◌, ℕ, ◌+◌, ◌*◌, ◌%◌, ◌^◌, eqb, ltb, get_or, if◌then◌else◌}
-use Rattle.std.specs.Prelude.{Option, None, Some}
+use Rattle.std.specs.Prelude.{Option, None, Some, Result, Ok, Err, ◌≡◌, ◌≤◌, ◌<◌}
+use Rattle.ids.specs.declared.Refusal.{Refusal}
+use Rattle.ids.specs.declared.Refusal.TheVariants.{AreaTooSmall}
 use Rattle.words.specs.Tab.{words_from}
 use Rattle.words.specs.Writes.{writes}
 use Rattle.items.specs.Item.{Item, Value, Absent, Store, Pass, Hold, Retry, Resend, Commit, Lead, Prelog, Prepare, Span, Rest, item_words, places}
@@ -14,6 +16,15 @@ pub record Put : Type 0 where
 unfoldable pub put_item : List ℕ → ℕ → Item → Put
 put_item area place x =
     if ltb place (places area) then record { taken = true; area = writes area (place * 6) (item_words x) } else record { taken = false; area = area }
+
+-- 20 where nothing is written
+abbrev pub put_answer : Put → Result (Unit {0}) Refusal
+put_answer p = if p.taken then Ok tt else Err AreaTooSmall
+
+-- 20, "the answer area is too small", exactly where there are fewer places
+abbrev pub HasRoom : List ℕ → ℕ → Result (Unit {0}) Refusal → Type 0
+HasRoom area n (Ok u) = n ≤ places area
+HasRoom area n (Err x) = (x ≡ AreaTooSmall) × (places area < n)
 
 -- the only item that the words can be: its kind says which fields they are
 unfoldable pub named : ℕ → ℕ → ℕ → ℕ → ℕ → ℕ → Item

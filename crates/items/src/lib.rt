@@ -2,13 +2,15 @@
 #![tactic(auto)]
 
 ghost use Rattle.std.specs.Prelude.{◌≡◌, ◌*◌, ◌+◌, ◌%◌, ◌≤◌, length, option_map, slice_index, if◌then◌else◌};
-ghost use Rattle.items.specs.Item.{item_of, item_words};
-ghost use Rattle.items.specs.Area.{Put, put_item, item_at, named, decode};
+ghost use Rattle.items.specs.Item.{item_of, item_words, places};
+ghost use Rattle.items.specs.Area.{Put, put_item, put_answer, HasRoom, item_at, named, decode};
 ghost use Rattle.words.specs.Tab.{words_from};
 ghost use Rattle.words.specs.Writes.{writes};
 
-use ids::{Ballot, Replica, Slot};
+use ids::{Ballot, Refusal, Replica, Slot};
 use inty::Inty;
+
+pub const ITEM_WORDS: usize = 6;
 
 #[derive(Clone, Copy)]
 pub enum Item {
@@ -58,7 +60,7 @@ pub enum Item {
     Rest(u64),
 }
 
-fn words_of(item: Item) -> [u64; 6]
+fn words_of(item: Item) -> [u64; ITEM_WORDS]
     ensures { result ≡ item_words (item_of item) }
 {
     match item {
@@ -105,7 +107,7 @@ fn replica_in(word: u64) -> Replica
 // The only item that the words can be. The kinds are the numbers that the C side reads in the area. No `From`: only
 // `decoded` says whether the words are the item's.
 #[tactic(auto, unfolding(crate::specs::Area::named))]
-fn item_named(words: [u64; 6]) -> Item
+fn item_named(words: [u64; ITEM_WORDS]) -> Item
     ensures { item_of result
         ≡ named (slice_index words 0) (slice_index words 1) (slice_index words 2) (slice_index words 3) (slice_index words 4) (slice_index words 5) }
 {
@@ -160,18 +162,18 @@ fn item_named(words: [u64; 6]) -> Item
 }
 
 #[tactic(auto, unfolding(crate::specs::Area::decode))]
-fn decoded(words: [u64; 6]) -> Option<Item>
+fn decoded(words: [u64; ITEM_WORDS]) -> Option<Item>
     ensures { option_map item_of result ≡ decode words }
 {
     let item = item_named(words);
     (words_of(item) == words).then_some(item)
 }
 
-fn load(area: &[u64], place: usize) -> [u64; 6]
+fn load(area: &[u64], place: usize) -> [u64; ITEM_WORDS]
     requires { place * 6 + 6 ≤ length area.now }
     ensures { result ≡ words_from 6 area.now (place * 6) }
 {
-    let p = place * 6;
+    let p = place * ITEM_WORDS;
     [
         area[p],
         area[p + 1],
@@ -182,16 +184,35 @@ fn load(area: &[u64], place: usize) -> [u64; 6]
     ]
 }
 
-// False, and the area as it was, where it has no such place. No condition alone: where it is true, the words are put.
-#[tactic(auto, unfolding(crate::specs::Area::put_item))]
-pub fn put_item(area: &mut [u64], place: usize, item: Item) -> bool
-    ensures { ◌≡◌ {A = Put} (record { taken = result; area = area.new }) (put_item area.old place (item_of item)) }
+// How many places an area has.
+pub fn places(area: &[u64]) -> usize
+    ensures { result ≡ places area.now }
 {
-    if area.len() / 6 <= place {
-        return false;
+    area.len() / ITEM_WORDS
+}
+
+// 20 where an area has fewer places than items are to be sent.
+pub fn has_room(area: &[u64], count: usize) -> Result<(), Refusal>
+    ensures { HasRoom area.now count result }
+{
+    if places(area) < count {
+        return Err(Refusal::AreaTooSmall);
     }
-    area[place * 6..place * 6 + 6].copy_from_slice(&words_of(item));
-    true
+    Ok(())
+}
+
+// 20, and the area as it was, where it has no such place.
+#[tactic(auto, unfolding(crate::specs::Area::put_item))]
+pub fn put_item(area: &mut [u64], place: usize, item: Item) -> Result<(), Refusal>
+    ensures answers { result ≡ put_answer (put_item area.old place (item_of item)) }
+    ensures put { area.new ≡ (put_item area.old place (item_of item)).area }
+{
+    if places(area) <= place {
+        return Err(Refusal::AreaTooSmall);
+    }
+    let p = place * ITEM_WORDS;
+    area[p..p + ITEM_WORDS].copy_from_slice(&words_of(item));
+    Ok(())
 }
 
 // Items put into a lent area one after the other, from its first place on or after those that stand there. They go
@@ -204,14 +225,14 @@ pub struct Items<'a> {
 }
 
 impl<'a> Items<'a> {
-    // False, and nothing changed, where no place is left.
+    // False, and nothing changed, where no place is left. No `Result`: a call counts its items first.
     #[tactic(auto, unfolding(crate::specs::Area::put_item))]
     pub fn push(&mut self, item: Item) -> bool
         ensures same_reference { self.new.area.ghost_name ≡ self.old.area.ghost_name }
         ensures put { ◌≡◌ {A = Put} (record { taken = result; area = self.new.area.now }) (put_item self.old.area.now self.old.count (item_of item)) }
         ensures counted { self.new.count ≡ self.old.count + (if result then 1 else 0) }
     {
-        let taken = put_item(self.area, self.count, item);
+        let taken = put_item(self.area, self.count, item).is_ok();
         if taken {
             self.count += 1;
         }
@@ -224,7 +245,7 @@ impl<'a> Items<'a> {
 pub fn get_item(area: &[u64], place: usize) -> Option<Item>
     ensures { option_map item_of result ≡ item_at area.now place }
 {
-    if place >= area.len() / 6 {
+    if place >= places(area) {
         return None;
     }
     decoded(load(area, place))
