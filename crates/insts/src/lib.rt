@@ -1,7 +1,7 @@
 // The slots that a replica holds, in lent words: cells, batches and held reads. Slot s has place s % PLACES.
 #![tactic(auto)]
 
-ghost use Rattle.std.specs.Prelude.{◌≡◌, Bool, [], ◌∷◌, ◌++◌, ◌+◌, ◌-◌, ◌%◌, ◌≤◌, ◌<◌, min, length, replicate};
+ghost use Rattle.std.specs.Prelude.{◌≡◌, Bool, ◌&&◌, [], ◌∷◌, ◌++◌, ◌+◌, ◌-◌, ◌%◌, ◌≤◌, ◌<◌, leb, ltb, min, length, replicate};
 ghost use Rattle.std.specs.List.{position_from};
 ghost use Rattle.bodega.specs.Replica.{null_instance, Instance, is_open};
 ghost use Rattle.bodega.specs.Localread.{last_put};
@@ -37,6 +37,26 @@ impl Window {
         ensures { result.0 ≡ self.start.0 + k }
     {
         Slot(self.start.0 + k as u64)
+    }
+
+    // The slot after the last.
+    pub fn end(self) -> Slot
+        ensures { result.0 ≡ self.start.0 + self.held }
+    {
+        self.slot(self.held)
+    }
+
+    // The number of a slot from start on, whether it is held or not; 0 for one below start.
+    pub fn number(self, slot: Slot) -> usize
+        ensures { result ≡ slot.0 - self.start.0 }
+    {
+        slot.0.saturating_sub(self.start.0) as usize
+    }
+
+    pub fn holds(self, slot: Slot) -> bool
+        ensures { result ≡ leb self.start.0 slot.0 && ltb slot.0 (self.start.0 + self.held) }
+    {
+        self.start <= slot && slot < self.end()
     }
 
     // Its first n slots; all of them, where there are no more.
