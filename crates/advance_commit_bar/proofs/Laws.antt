@@ -129,7 +129,7 @@ take_min n l = elim (dec_lt n (length l)) [
   | no h ↦ (let e : min n (length l) ≡ length l = omega arith in rw e (take-length l ∙ sym (take_all n l (omega arith))))
 ]
 
-pub counts : (start n commit ballot bar : ℕ) (s : List ℕ) → start ≤ commit → commit ≤ start + n → (r c : ℕ) → r ≡ min n (bar - start)
+counts : (start n commit ballot bar : ℕ) (s : List ℕ) → start ≤ commit → commit ≤ start + n → (r c : ℕ) → r ≡ min n (bar - start)
     → c ≡ length (filter is_open_at (take_while (goes_on_at ballot) (map (λ k. inst_in s ((start + k) % slot_places)) (range_with_len (commit - start) (r - (commit - start))))))
     → c ≡ length (walked start n commit ballot bar s).items
 counts start n commit ballot bar s h g r c e f =
@@ -144,6 +144,11 @@ counts start n commit ballot bar s h g r c e f =
       | yes y ↦ (let z : r - (commit - start) ≡ 0 = omega arith in rw z)
       | no y ↦ slots_from start n (commit - start) (r - (commit - start)) s (omega arith)
     ]
+
+pub counts_from : (start n commit ballot bar from : ℕ) (s : List ℕ) → from ≡ commit - start → start ≤ commit → commit ≤ start + n → (r c : ℕ) → r ≡ min n (bar - start)
+    → c ≡ length (filter is_open_at (take_while (goes_on_at ballot) (map (λ k. inst_in s ((start + k) % slot_places)) (range_with_len from (r - from)))))
+    → c ≡ length (walked start n commit ballot bar s).items
+counts_from start n commit ballot bar from s z h g r c e f = counts start n commit ballot bar s h g r c e (rw z at f)
 
 module _ (start n ballot bar : ℕ) where
   abbrev pub left_at : ℕ → List ℕ → Walk

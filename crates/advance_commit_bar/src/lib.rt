@@ -69,9 +69,7 @@ fn mark(insts: &mut InstsMut<'_>, slot: Slot, items: &mut Items<'_>)
 fn reach(window: Window, bar: Slot) -> usize
     ensures { result ≡ min window.held (bar.0 - window.start.0) }
 {
-    window
-        .held
-        .min(bar.0.saturating_sub(window.start.0) as usize)
+    window.held.min(window.number(bar))
 }
 
 // How many items the walk has.
@@ -85,7 +83,7 @@ pub fn count_commits(
     requires { (window.start.0 ≤ commit.0) × (commit.0 ≤ window.start.0 + window.held) }
     ensures { result ≡ length (walked window.start.0 window.held commit.0 ballot.0 bar.0 insts.entry.words.now).items }
 {
-    let from = (commit.0 - window.start.0) as usize;
+    let from = window.number(commit);
     (from..reach(window, bar))
         .map(|k| window.slot(k))
         .take_while(|slot| !stops(insts, *slot, ballot))
@@ -107,7 +105,7 @@ pub fn advance(
     ensures same_area { items.new.area.ghost_name ≡ items.old.area.ghost_name }
     ensures advances { Advances items.old.count window.start.0 window.held commit.0 ballot.0 bar.0 words.old items.old.area.now items.new.count words.new items.new.area.now }
 {
-    let from = (commit.0 - window.start.0) as usize;
+    let from = window.number(commit);
     let mut insts = InstsMut { words };
     for k in from..reach(window, bar) {
         let slot = window.slot(k);

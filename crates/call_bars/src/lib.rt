@@ -53,9 +53,9 @@ fn breaks(insts: Insts<'_>, window: Window, commit: Slot, exec: Slot, to: Moving
     ensures { result ≡ broken window.start.0 commit.0 exec.0 (insts_of window.start.0 window.held insts.entry.words.now) to.start.0 to.commit.0 to.exec.0 }
 {
     falls(window.start, commit, exec, to)
-        || !ordered(to, window.slot(window.held))
-        || insts.any_open(window.first((to.commit.0 - window.start.0) as usize))
-        || insts.any_holds(window.first((to.start.0 - window.start.0) as usize))
+        || !ordered(to, window.end())
+        || insts.any_open(window.first(window.number(to.commit)))
+        || insts.any_holds(window.first(window.number(to.start)))
 }
 
 // Refusals 8 and 11.
@@ -113,7 +113,7 @@ pub fn bars(
     bars_refusal(node::insts(mem), window, node.commit_bar, node.exec_bar, to)?;
     execute(
         &mut mem[layout::SLOTS_AT..layout::WRITTEN_AT],
-        window.first((exec.0 - window.start.0) as usize),
+        window.first(window.number(exec)),
     );
     Ok(Taken {
         node: Node {
@@ -121,7 +121,7 @@ pub fn bars(
             accept_bar: accept,
             commit_bar: commit,
             exec_bar: exec,
-            slots: node.slots - (start.0 - node.start_slot.0) as usize,
+            slots: node.slots - window.number(start),
             ..node
         },
         count: 0,

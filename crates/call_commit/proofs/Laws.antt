@@ -15,6 +15,7 @@ use Rattle.ids.specs.declared.Refusal.{Refusal}
 use Rattle.ids.specs.declared.Refusal.TheVariants.{AreaTooSmall}
 use Rattle.layout.specs.Layout.{slot_words, slots_at, node_words}
 use Rattle.items.specs.Item.{Item, places}
+use Rattle.items.specs.Area.{HasRoom}
 use Rattle.bodega.specs.Replica as machine
 use Rattle.bodega.specs.Heartbeat.{heard_commit_notice, advance_commit_bar}
 use Rattle.bodega.specs.Grounds.{grounds}
@@ -70,9 +71,9 @@ module _ (n : Node) (m area : List ℕ) (peer ballot bar : ℕ) (y : ready n m �
       unfolding effect heard_commit_notice view
       walks = rw (not-false (eqb ballot n.bal_max_seen.0) (sym b))
 
-      pub commit_20 : places area < c → Answers ready view call n m area (given_of n (Err AreaTooSmall)) m area
+      pub commit_20 : (x : Refusal) (r : Result Taken Refusal) → HasRoom area c (Err x) → IsErrAnd r (λ v. v ≡ x) → Answers ready view call n m area (given_of n r) m area
       unfolding grounds view part advance_commit_bar
-      commit_20 h = few_places call n m g area true (sym y) refl (rw walks (rw q at h))
+      commit_20 x r h = few_places call n m g area true (sym y) refl x r (h.0, rw walks (rw q at h.1))
 
       pub room : c ≤ places area
           → (slot_words ≤ length words) × (n.start_slot.0 ≤ n.commit_bar.0) × (n.commit_bar.0 ≤ n.start_slot.0 + n.slots) × (0 + length items ≤ places area)

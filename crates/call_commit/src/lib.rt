@@ -50,9 +50,7 @@ pub fn commit(
         ballot,
         bar,
     );
-    if area.len() / 6 < count {
-        return Err(Refusal::AreaTooSmall);
-    }
+    items::has_room(area, count)?;
     advance_commit_bar::advance(
         &mut mem[layout::SLOTS_AT..layout::WRITTEN_AT],
         window,

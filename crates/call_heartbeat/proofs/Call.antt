@@ -17,6 +17,7 @@ use Rattle.ids.specs.Refusal.{number_of}
 use Rattle.ids.specs.declared.Refusal.{Refusal}
 use Rattle.ids.specs.declared.Refusal.TheVariants.{NotReady, WindowFull, AreaTooSmall}
 use Rattle.items.specs.Item.{encode, places}
+use Rattle.items.specs.Area.{HasRoom}
 use Rattle.roster_conf.specs.Conf.{Conf, leads}
 use Rattle.roster_conf.specs.Edits.{view as roster_of}
 use Rattle.roster_conf.specs.declared.RespondersConf.{RespondersConf}
@@ -249,8 +250,8 @@ module _ (n : Node) (m area : List ℕ) (peer ballot : ℕ) (o : Option Responde
               }
 
           module _ (q : ℕ) (p : q ≡ length heard.items) where
-            pub beat_20 : places area < q → Gives (given_of n (Err AreaTooSmall)) m area
-            beat_20 l = answers_both beat n m area fits fine (given_of n (Err AreaTooSmall)) m area (few_places beat n m allowed area true (sym y) refl (rw (heard_is, ← p) l))
+            pub beat_20 : (x : Refusal) (r : Result node.Taken Refusal) → HasRoom area q (Err x) → IsErrAnd r (λ v. v ≡ x) → Gives (given_of n r) m area
+            beat_20 x r l e = answers_both beat n m area fits fine (given_of n r) m area (few_places beat n m allowed area true (sym y) refl x r (l.0, rw (heard_is, ← p) l.1) e)
 
             module _ (l : q ≤ places area) where
               pub beat_taken : (g : Node) (k : ℕ) (m' area' : List ℕ) → Does heard 0 m area g k m' area' → Gives (given_of n (Ok (record { node = g; count = k }))) m' area'

@@ -297,9 +297,7 @@ pub fn heartbeat(
     if ballot < node.bal_max_seen {
         return Ok(Taken { node, count: 0 });
     }
-    if area.len() / 6 < count_items(node, mem, beat, conf) {
-        return Err(Refusal::AreaTooSmall);
-    }
+    items::has_room(area, count_items(node, mem, beat, conf))?;
     let mut items = Items { area, count: 0 };
     let node = heard(node, mem, beat, conf, rows, &mut items);
     Ok(Taken {

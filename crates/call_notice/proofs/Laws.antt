@@ -1,5 +1,5 @@
 -- *notice*: its grounds; below start; of a higher ballot; of the replica's own.
-use Rattle.std.specs.Prelude.{if◌then◌else◌, IsErrAnd}
+use Rattle.std.specs.Prelude.{if◌then◌else◌, Result, Ok, Err, IsErrAnd}
 use borrow.Author.Rules.{rules}
 use Rattle.std.specs.Ordering.{is_lt, nat_cmp}
 use Rattle.std.specs.Result.{result_unwrap_or}
@@ -21,8 +21,8 @@ use Rattle.ids.specs.declared.Ballot.{Ballot}
 use Rattle.ids.specs.Limits.{window}
 use Rattle.layout.specs.Layout.{slot_places, slot_words, roster_words, rows_at, slots_at, node_words}
 use Rattle.items.specs.Item.{Lead, encode, places}
-use Rattle.items.specs.Area.{Put, put_item}
-use Rattle.items.proofs.Laws.{put_true, put_false, put_area, put_same}
+use Rattle.items.specs.Area.{HasRoom, put_item, put_answer}
+use Rattle.items.proofs.Laws.{answer_err, answer_ok, put_area}
 use Rattle.roster_conf.specs.Conf.{Conf, into_filtered}
 use Rattle.roster_conf.specs.Edit.{IntoFiltered, edit, edit_result, taken, grounds as edit-grounds}
 use Rattle.roster_conf.specs.Edits.{view as roster_of, due as edit-due, Leaves, Edits}
@@ -81,18 +81,17 @@ lead_items : (area : List ℕ) → writes area 0 (encode (Lead false ∷ [])) �
 unfolding encode
 lead_items area = refl
 
-module _ (led : Bool) (area after : List ℕ) (r : Bool) (h : led ≡ true) (p : ◌≡◌ {A = Put} (record { taken = r; area = after }) (put_item area 0 (Lead false))) where
-  pub lead_put : r ≡ true → StepsDown led area (Ok 1) after
-  lead_put e = rw h (elim (dec_lt 0 (places area)) [
-    | yes k ↦ (refl, omega arith, ap (λ (q : Put). q.area) p ∙ put_area area 0 (Lead false) k ∙ sym (lead_items area))
-    | no k ↦ absurd (true≢false (sym e ∙ ap (λ (q : Put). q.taken) p ∙ put_false area 0 (Lead false) (omega arith)))
-  ])
+module _ (led : Bool) (area after : List ℕ) (h : led ≡ true) (p : after ≡ (put_item area 0 (Lead false)).area) where
+  pub lead_put : (u : Unit {0}) → Ok u ≡ put_answer (put_item area 0 (Lead false)) → StepsDown led area (Ok 1) after
+  lead_put u e =
+      let k = answer_ok area 0 (Lead false) u e in
+      rw h (refl, omega arith, p ∙ put_area area 0 (Lead false) k ∙ sym (lead_items area))
 
-  pub no_place : r ≡ false → StepsDown led area (Err AreaTooSmall) after
-  no_place e = rw h (elim (dec_lt 0 (places area)) [
-    | yes k ↦ absurd (true≢false (sym (ap (λ (q : Put). q.taken) p ∙ put_true area 0 (Lead false) k) ∙ e))
-    | no k ↦ (refl, omega arith, ap (λ (q : Put). q.area) p ∙ put_same area 0 (Lead false) (omega arith))
-  ])
+  pub no_place : (x : Refusal) (r : Result ℕ Refusal) → Err x ≡ put_answer (put_item area 0 (Lead false)) → IsErrAnd r (λ v. v ≡ x) → StepsDown led area r after
+  no_place x (Ok k) e i = absurd i
+  no_place x (Err v) e i =
+      let k = answer_err area 0 (Lead false) x e in
+      rw h (i ∙ k.0, omega (arith, k.1), p ∙ k.2)
 
 -- ---- the node after
 
@@ -163,8 +162,7 @@ module _ (n : Node) (m area : List ℕ) (peer slot : ℕ) (b : Ballot) (z : read
         higher_is = rw (le-ltb slot start h, lt-ltb seen b.0 a) (ap (λ (l : Bool). machine.done demoted (step_down l)) (sym x))
 
         pub higher_20 : (q : Refusal) (w : Result Taken Refusal) (area' : List ℕ) → StepsDown led area (Err q) area' → IsErrAnd w (λ u. u ≡ q) → Answers ready view call n m area (given_of n w) m area'
-        higher_20 q (Ok w) area' s e = absurd e
-        higher_20 q (Err w) area' s e = rw (e, s.0, s.2) (few_places call n m number_is area true (sym z) refl (rw higher_is s.1))
+        higher_20 q w area' s e = rw (s.2) (few_places call n m number_is area true (sym z) refl q w (s.0, rw higher_is s.1) e)
 
         module _ (c : RespondersConf) (rows : List ℕ)
             (v : (roster_of c rows ≡ into_filtered n.id.0 (roster_of n.bodega_conf (take roster_words (drop rows_at m)))) × (c.count ≤ 64) × (length rows ≡ length (take roster_words (drop rows_at m)))) where
@@ -237,10 +235,10 @@ module _ (n : Node) (m area : List ℕ) (peer slot : ℕ) (b : Ballot) (z : read
           below = (omega (arith, in_window), omega (arith, length_part m slots_at slot_words (omega (arith, r.long))))
 
           module _ (many : ℕ) (l : (o : Option ℕ) → many ≡ length (noticed_at n.quorum o peer b.0 i (insts_of start n.slots (part m slots_at slot_words))).items) where
-            pub notice_20 : length area / 6 < many → Answers ready view call n m area (given_of n (Err AreaTooSmall)) m area
-            notice_20 o = few_places call n m number_is area true (sym z) refl (rw (noticed_here, ← l leader) o)
+            pub notice_20 : (x : Refusal) (w : Result Taken Refusal) → HasRoom area many (Err x) → IsErrAnd w (λ u. u ≡ x) → Answers ready view call n m area (given_of n w) m area
+            notice_20 x w o = few_places call n m number_is area true (sym z) refl x w (o.0, rw (noticed_here, ← l leader) o.1)
 
-            module _ (o : many ≤ length area / 6) where
+            module _ (o : many ≤ places area) where
               pub room : length due.items ≤ places area
               room = rw (← l leader) o
 

@@ -66,9 +66,7 @@ fn put_lead(area: &mut [u64], led: bool) -> Result<usize, Refusal>
     if !led {
         return Ok(0);
     }
-    if !items::put_item(area, 0, Item::Lead(false)) {
-        return Err(Refusal::AreaTooSmall);
-    }
+    items::put_item(area, 0, Item::Lead(false))?;
     Ok(1)
 }
 
@@ -130,12 +128,10 @@ pub fn notice(
     if !current {
         return Ok(Taken { node, count: 0 });
     }
-    let k = (slot.0 - node.start_slot.0) as usize;
+    let k = window.number(slot);
     let notice = Notice { peer, ballot };
     let due = accept_notice_at::due(node::insts(mem), window, k, node.quorum, notice);
-    if area.len() / 6 < due {
-        return Err(Refusal::AreaTooSmall);
-    }
+    items::has_room(area, due)?;
     let count = notice_in(
         &mut mem[layout::SLOTS_AT..layout::WRITTEN_AT],
         window,

@@ -19,7 +19,8 @@ use Rattle.ids.specs.declared.Slot.{Slot}
 use Rattle.key_words.specs.Key.{bytes_of, at_most_48}
 use Rattle.key_words.specs.declared.Key.{Key}
 use Rattle.items.specs.Item.{Item, item_of, encode, encode_snoc, places}
-use Rattle.items.specs.Area.{Put, put_item}
+use Rattle.items.specs.Area.{HasRoom, put_item, put_answer}
+use Rattle.items.proofs.Laws.{answer_err, answer_ok, put_area}
 use Rattle.items.specs.declared.Item as code
 use Rattle.inst_cell.specs.Cell.{Notices, Short}
 use Rattle.insts.specs.Slots.{short_at, batch_at, reads_at, inst_of, inst_in, book_of, place_of, Puts, PutsReads}
@@ -81,19 +82,9 @@ err_is (Some k) x e = let z : ◌≡◌ {A = ℕ} 0 1 = cc in absurd (omega arit
 
 -- ---- an item put at the first place
 
-module _ (area : List ℕ) (x : Item) where
-  put_taken : (b : Bool) → ltb 0 (places area) ≡ b → (put_item area 0 x).taken ≡ b
-  unfolding put_item
-  put_taken true e = rw e
-  put_taken false e = rw e
-
-  put_area : ltb 0 (places area) ≡ true → (put_item area 0 x).area ≡ writes area 0 (encode (x ∷ []))
-  unfolding put_item encode
-  put_area e = rw e (ap (writes area 0) (sym (encode_snoc [] x)))
-
-  put_none : ltb 0 (places area) ≡ false → (put_item area 0 x).area ≡ area
-  unfolding put_item
-  put_none e = rw e
+item_put : (area : List ℕ) (x : Item) → 0 < places area → (put_item area 0 x).area ≡ writes area 0 (encode (x ∷ []))
+unfolding encode
+item_put area x h = put_area area 0 x h ∙ ap (writes area 0) (sym (encode_snoc [] x))
 
 -- ---- a read at the end of a slot's queue
 
@@ -215,27 +206,20 @@ module _ (n : Node) (m area : List ℕ) (client request leases : ℕ) (key : Lis
                 ap (answered (view n m) q) (sym answer_is)
                 ∙ ap (machine.done (answered (view n m) q (answer_in a)).replica) w
 
-            module _ (area' : List ℕ) (r : Bool) (z : ◌≡◌ {A = Put} (record { taken = r; area = area' }) (put_item area 0 (item_of x))) where
-              placed : r ≡ ltb 0 (places area)
-              placed = ap (λ (v : Put). v.taken) z ∙ put_taken area (item_of x) (ltb 0 (places area)) refl
+            module _ (area' : List ℕ) (z : area' ≡ (put_item area 0 (item_of x)).area) where
+              pub few_20 : (v : Refusal) (r : Result Taken Refusal) → Err v ≡ put_answer (put_item area 0 (item_of x)) → IsErrAnd r (λ o. o ≡ v) → Answers ready view call n m area (given_of n r) m area'
+              few_20 v r d i =
+                  let e = answer_err area 0 (item_of x) v d in
+                  let few : places area < 1 = omega (arith, e.1) in
+                  rw (z ∙ e.2) (few_places call n m number_0 area true (sym y) refl v r (e.0, rw effect_is few) i)
 
-              pub few_20 : r ≡ false → Answers ready view call n m area (given_of n (Err AreaTooSmall)) m area'
-              few_20 v =
-                  let d : ltb 0 (places area) ≡ false = sym placed ∙ v in
-                  let s : area' ≡ area = ap (λ (o : Put). o.area) z ∙ put_none area (item_of x) d in
-                  rw s (few_places call n m number_0 area true (sym y) refl (rw effect_is (none_left d)))
-                where
-                  none_left : ltb 0 (places area) ≡ false → places area < 1
-                  none_left d = let h = ltb-false 0 (places area) d in omega arith
-
-              module _ (v : r ≡ true) where
+              module _ (v : Unit {0}) (d : Ok v ≡ put_answer (put_item area 0 (item_of x))) where
                 taken : (m' : List ℕ) → view n m' ≡ (answered (view n m) q (answer_in a)).replica → length m' ≡ length m → Untouched node_words m m' → ready n m' ≡ ready n m
                     → Answers ready view call n m area (given_of n (Ok (record { node = n; count = 1 }))) m' area'
                 taken m' x₁ x₂ x₃ x₄ =
-                    let d : ltb 0 (places area) ≡ true = sym placed ∙ v in
-                    let h : 0 < places area = ltb-true 0 (places area) d in
+                    let h = answer_ok area 0 (item_of x) v d in
                     taken_with call n m number_0 area true (sym y) refl (answered (view n m) q (answer_in a)).replica (item_of x ∷ []) n m' area' effect_is (omega arith) x₁
-                    (ap (λ (o : Put). o.area) z ∙ put_area area (item_of x) d) x₂ x₃ (x₄ ∙ y)
+                    (z ∙ item_put area (item_of x) h) x₂ x₃ (x₄ ∙ y)
 
                 pub served : ((x : Slot) → a ≡ HeldBy x → ⊥) → Answers ready view call n m area (given_of n (Ok (record { node = n; count = 1 }))) m area'
                 served o = taken m (sym (holds_none (view n m) q a o)) refl (λ j l. refl) refl

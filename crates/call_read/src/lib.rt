@@ -45,9 +45,7 @@ pub fn read(
         return Err(Refusal::TooManyReads);
     }
     let item = inspect_latest_write::item_of(node, client, request, answer);
-    if !items::put_item(area, 0, item) {
-        return Err(Refusal::AreaTooSmall);
-    }
+    items::put_item(area, 0, item)?;
     if let ReadAnswer::HeldBy(slot) = answer {
         let read = ReadReq {
             client,

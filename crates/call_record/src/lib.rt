@@ -53,7 +53,7 @@ fn current(node: Node) -> Ballot
 fn is_ended(insts: Insts<'_>, window: Window, slot: Slot) -> bool
     ensures { result ≡ ended window.start.0 (insts_of window.start.0 window.held insts.entry.words.now) slot.0 }
 {
-    slot < window.start || (slot < window.slot(window.held) && !insts.is_open(slot))
+    slot < window.start || (slot < window.end() && !insts.is_open(slot))
 }
 
 // Refusals 13, 14, 15 and 18.
@@ -73,7 +73,7 @@ fn slot_refusal(
     if is_ended(insts, window, slot) {
         return Err(Refusal::SlotEnded);
     }
-    if window.start.0 + Node::WINDOW as u64 <= slot.0 {
+    if window.slot(Node::WINDOW) <= slot {
         return Err(Refusal::WindowFull);
     }
     if full {
@@ -134,7 +134,7 @@ fn accept(
     ensures { Records window.start.0 window.held slot.0 ballot.0 leader (requests_of batch.entry.words.now) words.old words.new result }
 {
     let mut insts = InstsMut { words };
-    let held = padded(&mut insts, window, (slot.0 - window.start.0) as usize);
+    let held = padded(&mut insts, window, window.number(slot));
     accept_at(&mut insts, slot, ballot, leader, batch);
     held
 }

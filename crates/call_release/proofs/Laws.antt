@@ -14,6 +14,7 @@ use Rattle.words.proofs.Tests.{or_both}
 use Rattle.ids.specs.Leader.{leader_of}
 use Rattle.layout.specs.Layout.{held_places, slot_words, slots_at}
 use Rattle.items.specs.Item.{Item, places}
+use Rattle.items.specs.Area.{HasRoom}
 use Rattle.roster_conf.specs.Edits.{view as roster_of}
 use Rattle.roster_conf.specs.Ground.{◌when◌or◌}
 use Rattle.bodega.specs.Replica as machine
@@ -87,10 +88,10 @@ module _ (n : Node) (m area : List ℕ) (slot : ℕ) (y : ready n m ≡ true) wh
       many : length items ≡ h
       many = length_answers n.quorum (leader_of n.bodega_conf.leader) inst ∙ sym p.0
 
-      pub release_20 : length area / 6 < h → Answers ready view (machine.Release slot) n m area (given_of n (Err AreaTooSmall)) m area
-      release_20 q = few_places (machine.Release slot) n m (z ∙ number_is) area true (sym y) refl (rw (effect_is, many) q)
+      pub release_20 : (x : Refusal) (r : Result Taken Refusal) → HasRoom area h (Err x) → IsErrAnd r (λ v. v ≡ x) → Answers ready view (machine.Release slot) n m area (given_of n r) m area
+      release_20 x r q = few_places (machine.Release slot) n m (z ∙ number_is) area true (sym y) refl x r (q.0, rw (effect_is, many) q.1)
 
-      module _ (q : h ≤ length area / 6) where
+      module _ (q : h ≤ places area) where
         pub room : (slot_words ≤ length s) × (length (holding_of inst) ≤ places area)
         room = (omega (arith, length_part m slots_at slot_words (omega (arith, r.long))), omega (arith, p.0))
 

@@ -24,7 +24,7 @@ fn release_refusal(window: Window, slot: Slot) -> Result<(), Refusal>
 {
     if Slot::TOP < slot {
         Err(Refusal::SlotTooLarge)
-    } else if slot < window.start || window.held as u64 <= slot.0 - window.start.0 {
+    } else if !window.holds(slot) {
         Err(Refusal::SlotNotHeld)
     } else {
         Ok(())
@@ -57,9 +57,7 @@ pub fn release(node: Node, mem: &mut [u64], area: &mut [u64], slot: Slot) -> Res
     }
     release_refusal(node::window(node, mem), slot)?;
     let held = release_held_reads::holding(node::insts(mem), slot);
-    if area.len() / 6 < held {
-        return Err(Refusal::AreaTooSmall);
-    }
+    items::has_room(area, held)?;
     let count = release_in(
         &mut mem[layout::SLOTS_AT..layout::WRITTEN_AT],
         slot,

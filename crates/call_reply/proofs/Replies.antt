@@ -20,6 +20,7 @@ use Rattle.words.specs.Writes.{writes, writes_append, length_writes}
 use Rattle.bitmap.specs.Bitmap.{get, mark}
 use Rattle.ids.specs.Leader.{leader_of}
 use Rattle.items.specs.Item.{Item, Resend, Commit, encode, places, length_encode, encode_append}
+use Rattle.items.specs.Area.{HasRoom}
 use Rattle.roster_conf.specs.Edits.{view as roster_of}
 use Rattle.bodega.specs.Replica as machine
 use Rattle.bodega.specs.Localread.{commit_condition}
@@ -74,7 +75,7 @@ module _ (s area : List ℕ) (id prepared commit peer slot : ℕ) (a : Ack) (n b
   length_items : length (items_of s id peer commit prepared slot a) ≡ b + k
   length_items = ap length items_are ∙ length-append resends (commit_items a slot) ∙ omega (arith, length_commits a slot)
 
-  module _ (h : b + k ≤ length area / 6) where
+  module _ (h : b + k ≤ places area) where
     pub room : length resends ≤ places area
     room = omega arith
 
@@ -83,7 +84,7 @@ module _ (s area : List ℕ) (id prepared commit peer slot : ℕ) (a : Ack) (n b
       commit_room = let z : length area₁ ≡ length area = ap length w ∙ length_writes area 0 (encode resends) in rw z (omega arith)
 
       pub all_put : (c : ℕ) (area₂ s' : List ℕ) → area₂ ≡ writes area₁ (place * 6) (encode (commit_items a slot)) → Acts a s c s'
-          → Replies (items_of s id peer commit prepared slot a) a c s area (Some (b + k)) s' area₂
+          → Replies (items_of s id peer commit prepared slot a) a c s area (Ok (b + k)) s' area₂
       all_put c area₂ s' q x =
           let z : place * 6 ≡ 0 + length (encode resends) = omega (arith, length_encode resends) in (
             sym length_items,
@@ -297,34 +298,21 @@ module _ (n : Node) (m area : List ℕ) (peer slot ballot : ℕ) (y : ready n m 
               ∙ ap (result slot (resent n m peer slot ballot) here (view n m)) (sym d)
               ∙ ap (λ (l : List Item). result slot l here (view n m) a) (resent_by (eqb peer n.id.0))
 
-          module _ (q : Option ℕ) (s' area' : List ℕ)
-              (p : Replies (items_of words n.id.0 peer n.commit_bar.0 n.bal_prepared.0 slot a) a (slot % slot_places) words area q s' area') where
-            pub reply_full : (x : Refusal) (z : Result Taken Refusal) → Err x ≡ ok_or q AreaTooSmall → IsErrAnd z (λ o. o ≡ x) → Answers ready view call n m area (given_of n z) (splice m slots_at slot_words s') area'
+          module _ (s' area' : List ℕ) where
+            pub reply_full : (x : Refusal) (z : Result Taken Refusal) → Replies (items_of words n.id.0 peer n.commit_bar.0 n.bal_prepared.0 slot a) a (slot % slot_places) words area (Err x) s' area' → IsErrAnd z (λ o. o ≡ x)
+                → Answers ready view call n m area (given_of n z) (splice m slots_at slot_words s') area'
             unfolding part
-            reply_full x (Ok z) h i = absurd i
-            reply_full x (Err z) h i = rw i (go q p h)
-              where
-                go : (o : Option ℕ) → Replies (items_of words n.id.0 peer n.commit_bar.0 n.bal_prepared.0 slot a) a (slot % slot_places) words area o s' area' → Err x ≡ ok_or o AreaTooSmall
-                    → Answers ready view call n m area (given_of n (Err x)) (splice m slots_at slot_words s') area'
-                go None k h =
-                    let few : places area < length (effect (view n m) call).items = rw effect_is k.0 in
-                    let same : m ≡ splice m slots_at slot_words s' = sym (splice_same m slots_at slot_words) ∙ ap (splice m slots_at slot_words) (sym k.1) in
-                    let x_is : x ≡ AreaTooSmall = cc in
-                    rw x_is
-                    (subst (λ (y : List ℕ). Answers ready view call n m area (given_of n (Err AreaTooSmall)) y area') same
-                    (subst (λ (y : List ℕ). Answers ready view call n m area (given_of n (Err AreaTooSmall)) m y) (sym k.2) (few_places call n m g' area true (sym y) refl few)))
-                go (Some j) k h = cc
+            reply_full x z k i =
+                let few : HasRoom area (length (effect (view n m) call).items) (Err x) = (k.0, rw effect_is k.1) in
+                let same : m ≡ splice m slots_at slot_words s' = sym (splice_same m slots_at slot_words) ∙ ap (splice m slots_at slot_words) (sym k.2) in
+                subst (λ (y : List ℕ). Answers ready view call n m area (given_of n z) y area') same
+                (subst (λ (y : List ℕ). Answers ready view call n m area (given_of n z) m y) (sym k.3) (few_places call n m g' area true (sym y) refl x z few i))
 
-            pub reply_taken : (j : ℕ) → Ok j ≡ ok_or q AreaTooSmall → Answers ready view call n m area (given_of n (Ok (record { node = n; count = j }))) (splice m slots_at slot_words s') area'
+            pub reply_taken : (j : ℕ) → Replies (items_of words n.id.0 peer n.commit_bar.0 n.bal_prepared.0 slot a) a (slot % slot_places) words area (Ok j) s' area'
+                → Answers ready view call n m area (given_of n (Ok (record { node = n; count = j }))) (splice m slots_at slot_words s') area'
             unfolding part
-            reply_taken j h = go q p h
-              where
-                go : (o : Option ℕ) → Replies (items_of words n.id.0 peer n.commit_bar.0 n.bal_prepared.0 slot a) a (slot % slot_places) words area o s' area' → Ok j ≡ ok_or o AreaTooSmall
-                    → Answers ready view call n m area (given_of n (Ok (record { node = n; count = j }))) (splice m slots_at slot_words s') area'
-                go None k h = cc
-                go (Some i) k h =
-                    let size : length s' ≡ slot_words = acts_size a words s' (slot % slot_places) k.3 ∙ words_long in
-                    let same : j ≡ length items = (let z : j ≡ i = cc in z) ∙ k.0 in
-                    subst (λ (c : ℕ). Answers ready view call n m area (given_of n (Ok (record { node = n; count = c }))) (splice m slots_at slot_words s') area') (sym same)
-                    (taken_with call n m g' area true (sym y) refl (after a slot here (view n m)) items n (splice m slots_at slot_words s') area' effect_is k.1
-                    (slots_back n m r.long s' size ∙ after_is a s' k.3) k.2 (slots_size n m r.long s' size) (slots_beyond n m r.long s' size) (slots_ready n m r.long s' size ∙ y))
+            reply_taken j k =
+                let size : length s' ≡ slot_words = acts_size a words s' (slot % slot_places) k.3 ∙ words_long in
+                subst (λ (c : ℕ). Answers ready view call n m area (given_of n (Ok (record { node = n; count = c }))) (splice m slots_at slot_words s') area') (sym k.0)
+                (taken_with call n m g' area true (sym y) refl (after a slot here (view n m)) items n (splice m slots_at slot_words s') area' effect_is k.1
+                (slots_back n m r.long s' size ∙ after_is a s' k.3) k.2 (slots_size n m r.long s' size) (slots_beyond n m r.long s' size) (slots_ready n m r.long s' size ∙ y))

@@ -10,7 +10,9 @@ use Rattle.node.specs.View.{lowest, leads_it}
 use Rattle.call_reply.specs.declared.Ack.{Ack}
 use Rattle.call_reply.specs.Resends.{resends_of}
 use Rattle.call_reply.specs.Acks.{commit_items, Acts}
-use Rattle.std.specs.Prelude.{Some, None}
+use Rattle.std.specs.Prelude.{Result, Ok, Err}
+use Rattle.ids.specs.declared.Refusal.{Refusal}
+use Rattle.ids.specs.declared.Refusal.TheVariants.{AreaTooSmall}
 
 -- 16: a slot from start on that is not held, under the ballot that is waited on
 abbrev pub unheld : ℕ → ℕ → ℕ → ℕ → ℕ → Bool
@@ -31,7 +33,7 @@ span id peer commit slot = if eqb peer id then 0 else slot - commit
 abbrev pub items_of : List ℕ → ℕ → ℕ → ℕ → ℕ → ℕ → Ack → List Item
 items_of s id peer commit prepared slot a = resends_of s commit peer prepared (span id peer commit slot) ++ commit_items a slot
 
--- the items l and the ack a at place c, or all as it was where the area has too few places
-abbrev pub Replies : List Item → Ack → ℕ → List ℕ → List ℕ → Option ℕ → List ℕ → List ℕ → Type 0
-Replies l a c s area (Some n) s' area' = (n ≡ length l) × (length l ≤ places area) × (area' ≡ writes area 0 (encode l)) × Acts a s c s'
-Replies l a c s area None s' area' = (places area < length l) × (s' ≡ s) × (area' ≡ area)
+-- the items l and the ack a at place c, or 20 and all as it was where the area has too few places
+abbrev pub Replies : List Item → Ack → ℕ → List ℕ → List ℕ → Result ℕ Refusal → List ℕ → List ℕ → Type 0
+Replies l a c s area (Ok n) s' area' = (n ≡ length l) × (length l ≤ places area) × (area' ≡ writes area 0 (encode l)) × Acts a s c s'
+Replies l a c s area (Err x) s' area' = (x ≡ AreaTooSmall) × (places area < length l) × (s' ≡ s) × (area' ≡ area)

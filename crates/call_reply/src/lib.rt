@@ -220,7 +220,7 @@ fn act(insts: &mut InstsMut<'_>, slot: Slot, ack: Ack)
 fn unheld(window: Window, prepared: Ballot, slot: Slot, ballot: Ballot) -> bool
     ensures { result ≡ unheld window.start.0 window.held prepared.0 slot.0 ballot.0 }
 {
-    window.start <= slot && ballot == prepared && window.slot(window.held) <= slot
+    window.start <= slot && ballot == prepared && window.end() <= slot
 }
 
 // Refusals 3, 8 and 16.
@@ -260,7 +260,7 @@ fn resends_to(id: Replica, peer: Replica, commit: Slot, slot: Slot) -> Slot
     if peer == id { commit } else { slot }
 }
 
-// A reply that is waited on: its items and its ack, or nothing where the area has too few places. The words come whole:
+// A reply that is waited on: its items and its ack, or 20 and nothing where the area has too few places. The words come whole:
 // a struct made of a part of the buffer would lose what became of the part.
 fn take_reply(
     node: Node,
@@ -269,7 +269,7 @@ fn take_reply(
     peer: Replica,
     slot: Slot,
     ack: Ack,
-) -> Option<usize>
+) -> Result<usize, Refusal>
     requires { (slot_words ≤ length words.old) × (slot.0 ≤ node.commit_bar.0 + slot_places) }
     ensures { Replies (items_of words.old node.id.0 peer.0 node.commit_bar.0 node.bal_prepared.0 slot.0 ack) ack (place_of slot.0) words.old area.old result words.new area.new }
 {
@@ -278,14 +278,12 @@ fn take_reply(
     let to = resends_to(node.id, peer, commit, slot);
     let mut insts = InstsMut { words };
     let count = count_resends(insts.as_ref(), commit, to, peer, prepared) + commits(ack);
-    if area.len() / 6 < count {
-        return None;
-    }
+    items::has_room(area, count)?;
     let mut items = Items { area, count: 0 };
     put_resends(insts.as_ref(), commit, to, peer, prepared, &mut items);
     put_commit(&mut items, ack, slot);
     act(&mut insts, slot, ack);
-    Some(count)
+    Ok(count)
 }
 
 pub fn reply(
@@ -321,7 +319,6 @@ pub fn reply(
         peer,
         slot,
         ack,
-    )
-    .ok_or(Refusal::AreaTooSmall)?;
+    )?;
     Ok(Taken { node, count })
 }

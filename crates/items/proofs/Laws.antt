@@ -4,7 +4,9 @@ use mathlib.Core.Path.{◌≡◌, refl, sym, ap, ◌∙◌}
 use mathlib.Core.Bool.{Bool, true, false, ◌&&◌, true≢false}
 use mathlib.Core.Logic.{◌⊎◌, inl, inr, ◌≢◌}
 use mathlib.Core.List.{List, [], ◌∷◌, ◌++◌}
-use Rattle.std.specs.Prelude.{Option, None, Some}
+use Rattle.std.specs.Prelude.{Option, None, Some, Result, Ok, Err}
+use Rattle.ids.specs.declared.Refusal.{Refusal}
+use Rattle.ids.specs.declared.Refusal.TheVariants.{AreaTooSmall}
 use Prim.Native.Nat.{ℕ, zero, suc, ◌+◌, ◌*◌, ◌/◌, ◌≤◌, ◌<◌}
 use native.Mathlib.Nat.{mod-eq_of_lt, mod-lt, zero-lt-suc, zero-add, not-suc-le-zero}
 use native.Mathlib.Decide.{dec_lt}
@@ -21,7 +23,7 @@ use Rattle.words.specs.Writes.{writes, length_writes, writes_other, writes_same,
 use Rattle.words.proofs.Tests.{and_both}
 use Rattle.items.specs.declared.Item as declared
 use Rattle.items.specs.Item.{Item, Value, Absent, Store, Pass, Hold, Retry, Resend, Commit, Lead, Prelog, Prepare, Span, Rest, Fits, item_of, item_words, encode, places, length_item, length_encode, encode_snoc}
-use Rattle.items.specs.Area.{Put, put_item, item_at, same_words, named, decode}
+use Rattle.items.specs.Area.{Put, put_item, put_answer, item_at, same_words, named, decode}
 
 -- ---- what the code returns
 
@@ -165,6 +167,23 @@ put_area area place x h = rw (put_yes area place x h)
 
 pub put_same : (area : List ℕ) (place : ℕ) (x : Item) → places area ≤ place → (put_item area place x).area ≡ area
 put_same area place x h = rw (put_none area place x h)
+
+-- what put_item answers
+pub answer_err : (area : List ℕ) (place : ℕ) (x : Item) (e : Refusal) → Err e ≡ put_answer (put_item area place x)
+    → (e ≡ AreaTooSmall) × (places area ≤ place) × ((put_item area place x).area ≡ area)
+answer_err area place x e h = elim (dec_lt place (places area)) [
+  | yes k ↦ let z : ◌≡◌ {A = Result (Unit {0}) Refusal} (Err e) (Ok tt) = rw (put_true area place x k) at h in cc
+  | no k ↦
+      let l : places area ≤ place = omega arith in
+      let z : ◌≡◌ {A = Result (Unit {0}) Refusal} (Err e) (Err AreaTooSmall) = rw (put_false area place x l) at h in
+      (cc, l, put_same area place x l)
+]
+
+pub answer_ok : (area : List ℕ) (place : ℕ) (x : Item) (u : Unit {0}) → Ok u ≡ put_answer (put_item area place x) → place < places area
+answer_ok area place x u h = elim (dec_lt place (places area)) [
+  | yes k ↦ k
+  | no k ↦ let z : ◌≡◌ {A = Result (Unit {0}) Refusal} (Ok u) (Err AreaTooSmall) = rw (put_false area place x (omega arith)) at h in cc
+]
 
 pub put_length : (area : List ℕ) (place : ℕ) (x : Item) → length (put_item area place x).area ≡ length area
 put_length area place x = elim (dec_lt place (places area)) [

@@ -10,6 +10,7 @@ use lib.Dec.{ltb, leb}
 use lib.ListN.{length}
 use borrow.Author.Tests.{lt-ltb, le-ltb, le-leb, ltb-true, leb-true}
 use Rattle.items.specs.Item.{Item, places, encode}
+use Rattle.items.specs.Area.{HasRoom}
 use Rattle.words.specs.Writes.{writes}
 use Rattle.words.specs.Part.{Untouched}
 use Rattle.roster_conf.specs.Ground.{Ground, ◌when◌or◌, refusal}
@@ -166,8 +167,12 @@ module _ (c : machine.Call) (n : Node) (m : List ℕ) (g : 0 ≡ lowest (grounds
     unfolding refusal_of
     last_ground = none_refuse (grounds (view n m) c) (20 when ltb (places area) (length (effect (view n m) c).items) or []) none_applies
 
-    pub few_places : places area < length (effect (view n m) c).items → Answers ready view c n m area (given_of n (Err AreaTooSmall)) m area
-    few_places h = refused c n m area t e f AreaTooSmall (last_ground ∙ ap (λ (x : Bool). if x then Some 20 else None) (lt-ltb (places area) (length (effect (view n m) c).items) h))
+    pub few_places : (x : Refusal) (r : Result Taken Refusal) → HasRoom area (length (effect (view n m) c).items) (Err x) → IsErrAnd r (λ y. y ≡ x)
+        → Answers ready view c n m area (given_of n r) m area
+    few_places x (Ok y) h w = absurd w
+    few_places x (Err y) h w =
+        rw (w, h.0)
+        (refused c n m area t e f AreaTooSmall (last_ground ∙ ap (λ (b : Bool). if b then Some 20 else None) (lt-ltb (places area) (length (effect (view n m) c).items) h.1)))
 
     pub taken_with : (r : machine.Replica) (l : List Item) (d : Node) (m' area' : List ℕ) → effect (view n m) c ≡ machine.done r l → length l ≤ places area → view d m' ≡ r
         → area' ≡ writes area 0 (encode l) → length m' ≡ length m → Untouched node_words m m' → ready d m' ≡ true

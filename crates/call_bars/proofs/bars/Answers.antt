@@ -20,12 +20,13 @@ returns-in_err-bars_refusal c =
     law.bars_refused a.node a.mem.now a.area.now a.start a.accept a.commit a.exec (sym c.if-not-is_ready.ensures) _ _
     (rw (c.window-window.ensures.0, c.window-window.ensures.1, c.insts.ensures) at c.in_err-bars_refusal.ensures) c.from_residual.ensures.1
 
-pub overflow_sub-result-2 : goal.overflow_sub-result-2
+pub overflow_sub-result : goal.overflow_sub-result
 unfolding part
-overflow_sub-result-2 c =
+overflow_sub-result c =
     let a = c.args in
-    law.slots_left a.node a.mem.now a.area.now a.start a.accept a.commit a.exec (sym c.if-not-is_ready.ensures)
-    (rw (c.window-window.ensures.0, c.window-window.ensures.1, c.insts.ensures) at c.in_ok-bars_refusal.ensures)
+    rw (c.number-2.ensures, c.window-window.ensures.0)
+    (law.slots_left a.node a.mem.now a.area.now a.start a.accept a.commit a.exec (sym c.if-not-is_ready.ensures)
+    (rw (c.window-window.ensures.0, c.window-window.ensures.1, c.insts.ensures) at c.in_ok-bars_refusal.ensures))
 
 pub slice_bounds-execute-end : goal.slice_bounds-execute-end
 slice_bounds-execute-end c =
@@ -35,6 +36,7 @@ pub returns : goal.returns
 unfolding part
 returns c =
     let a = c.args in
-    law.bars_moved a.node a.mem.now a.area.now a.start a.accept a.commit a.exec (sym c.if-not-is_ready.ensures)
+    rw (c.number-2.ensures, c.window-window.ensures.0)
+    (law.bars_moved a.node a.mem.now a.area.now a.start a.accept a.commit a.exec (sym c.if-not-is_ready.ensures)
     (rw (c.window-window.ensures.0, c.window-window.ensures.1, c.insts.ensures) at c.in_ok-bars_refusal.ensures) _
-    (rw (c.first.ensures.0, c.first.ensures.1, c.window-window.ensures.0, c.window-window.ensures.1) at c.execute.ensures)
+    (rw (c.first.ensures.0, c.first.ensures.1, c.number.ensures, c.window-window.ensures.0, c.window-window.ensures.1) at c.execute.ensures))

@@ -30,11 +30,11 @@ count_commits-count-requires c =
     let a = c.args in
     rw (ap (λ (x : Slot). x.0) c.window-window.ensures.0, c.window-window.ensures.1) (law.asked a.node a.mem.now a.area.now a.peer.0 a.ballot.0 a.bar.0 (sym c.if-not-is_ready.ensures))
 
-pub returns-then-area-count : goal.returns-then-area-count
-returns-then-area-count c =
+pub returns-in_err-has_room : goal.returns-in_err-has_room
+returns-in_err-has_room c =
     let a = c.args in
     let e = rw (ap (λ (x : Slot). x.0) c.window-window.ensures.0, c.window-window.ensures.1, c.insts.ensures) at c.count_commits-count.ensures in
-    law.commit_20 a.node a.mem.now a.area.now a.peer.0 a.ballot.0 a.bar.0 (sym c.if-not-is_ready.ensures) c.in_ok-commit_refusal.ensures c.if-ne.ensures _ e c.if-area-count.true
+    law.commit_20 a.node a.mem.now a.area.now a.peer.0 a.ballot.0 a.bar.0 (sym c.if-not-is_ready.ensures) c.in_ok-commit_refusal.ensures c.if-ne.ensures _ e _ _ c.in_err-has_room.ensures c.from_residual-in_err-has_room.ensures.1
 
 pub slice_bounds-advance-end : goal.slice_bounds-advance-end
 slice_bounds-advance-end c =
@@ -46,7 +46,7 @@ advance-requires c =
     let a = c.args in
     let e = rw (ap (λ (x : Slot). x.0) c.window-window.ensures.0, c.window-window.ensures.1, c.insts.ensures) at c.count_commits-count.ensures in
     rw (ap (λ (x : Slot). x.0) c.window-window.ensures.0, c.window-window.ensures.1)
-    (law.room a.node a.mem.now a.area.now a.peer.0 a.ballot.0 a.bar.0 (sym c.if-not-is_ready.ensures) c.in_ok-commit_refusal.ensures c.if-ne.ensures _ e c.if-area-count.false)
+    (law.room a.node a.mem.now a.area.now a.peer.0 a.ballot.0 a.bar.0 (sym c.if-not-is_ready.ensures) c.in_ok-commit_refusal.ensures c.if-ne.ensures _ e c.in_ok-has_room.ensures)
 
 pub returns : goal.returns
 unfolding part
@@ -54,5 +54,5 @@ returns c =
     let a = c.args in
     let e = rw (ap (λ (x : Slot). x.0) c.window-window.ensures.0, c.window-window.ensures.1, c.insts.ensures) at c.count_commits-count.ensures in
     let f = rw (ap (λ (x : Slot). x.0) c.window-window.ensures.0, c.window-window.ensures.1) at c.advance.ensures.advances in
-    let p = law.commit_taken a.node a.mem.now a.area.now a.peer.0 a.ballot.0 a.bar.0 (sym c.if-not-is_ready.ensures) c.in_ok-commit_refusal.ensures c.if-ne.ensures _ e c.if-area-count.false _ _ _ f in
+    let p = law.commit_taken a.node a.mem.now a.area.now a.peer.0 a.ballot.0 a.bar.0 (sym c.if-not-is_ready.ensures) c.in_ok-commit_refusal.ensures c.if-ne.ensures _ e c.in_ok-has_room.ensures _ _ _ f in
     search rules

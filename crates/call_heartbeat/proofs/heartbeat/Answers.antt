@@ -28,18 +28,18 @@ returns-then-lt c =
     let a = c.args in
     law.lower_taken a.node a.mem.now a.area.now a.peer.0 a.ballot.0 a.conf a.rows.now a.commit.0 a.exec.0 a.snap.0 (sym c.if-not-is_ready.ensures) (sym c.if-not-is_fitting.ensures) c.in_ok-early_refusal.ensures _ c.installed-conf.ensures.0 _ (c.lacks_slot.ensures a.rows.now) c.if-lacks_slot.false (search rules)
 
-pub returns-then-area-count_items : goal.returns-then-area-count_items
-returns-then-area-count_items c =
+pub returns-in_err-has_room : goal.returns-in_err-has_room
+returns-in_err-has_room c =
     let a = c.args in
-    law.beat_20 a.node a.mem.now a.area.now a.peer.0 a.ballot.0 a.conf a.rows.now a.commit.0 a.exec.0 a.snap.0 (sym c.if-not-is_ready.ensures) (sym c.if-not-is_fitting.ensures) c.in_ok-early_refusal.ensures _ c.installed-conf.ensures.0 _ (c.lacks_slot.ensures a.rows.now) c.if-lacks_slot.false (ge_from_not_lt _ _ (sym c.if-lt.ensures)) _ (c.count_items.ensures a.rows.now) c.if-area-count_items.true
+    law.beat_20 a.node a.mem.now a.area.now a.peer.0 a.ballot.0 a.conf a.rows.now a.commit.0 a.exec.0 a.snap.0 (sym c.if-not-is_ready.ensures) (sym c.if-not-is_fitting.ensures) c.in_ok-early_refusal.ensures _ c.installed-conf.ensures.0 _ (c.lacks_slot.ensures a.rows.now) c.if-lacks_slot.false (ge_from_not_lt _ _ (sym c.if-lt.ensures)) _ (c.count_items.ensures a.rows.now) _ _ c.in_err-has_room.ensures c.from_residual-in_err-has_room.ensures.1
 
 pub heard-node-requires : goal.heard-node-requires
 heard-node-requires c =
     let a = c.args in
-    law.heard_room a.node a.mem.now a.area.now a.peer.0 a.ballot.0 a.conf a.rows.now a.commit.0 a.exec.0 a.snap.0 (sym c.if-not-is_ready.ensures) (sym c.if-not-is_fitting.ensures) _ c.installed-conf.ensures.1 c.in_ok-early_refusal.ensures c.installed-conf.ensures.0 _ (c.lacks_slot.ensures a.rows.now) c.if-lacks_slot.false (ge_from_not_lt _ _ (sym c.if-lt.ensures)) _ (c.count_items.ensures a.rows.now) c.if-area-count_items.false
+    law.heard_room a.node a.mem.now a.area.now a.peer.0 a.ballot.0 a.conf a.rows.now a.commit.0 a.exec.0 a.snap.0 (sym c.if-not-is_ready.ensures) (sym c.if-not-is_fitting.ensures) _ c.installed-conf.ensures.1 c.in_ok-early_refusal.ensures c.installed-conf.ensures.0 _ (c.lacks_slot.ensures a.rows.now) c.if-lacks_slot.false (ge_from_not_lt _ _ (sym c.if-lt.ensures)) _ (c.count_items.ensures a.rows.now) c.in_ok-has_room.ensures
 
 pub returns : goal.returns
 returns c =
     let a = c.args in
-    let p = law.beat_taken a.node a.mem.now a.area.now a.peer.0 a.ballot.0 a.conf a.rows.now a.commit.0 a.exec.0 a.snap.0 (sym c.if-not-is_ready.ensures) (sym c.if-not-is_fitting.ensures) c.in_ok-early_refusal.ensures _ c.installed-conf.ensures.0 _ (c.lacks_slot.ensures a.rows.now) c.if-lacks_slot.false (ge_from_not_lt _ _ (sym c.if-lt.ensures)) _ (c.count_items.ensures a.rows.now) c.if-area-count_items.false _ _ _ _ c.heard-node.ensures.does in
+    let p = law.beat_taken a.node a.mem.now a.area.now a.peer.0 a.ballot.0 a.conf a.rows.now a.commit.0 a.exec.0 a.snap.0 (sym c.if-not-is_ready.ensures) (sym c.if-not-is_fitting.ensures) c.in_ok-early_refusal.ensures _ c.installed-conf.ensures.0 _ (c.lacks_slot.ensures a.rows.now) c.if-lacks_slot.false (ge_from_not_lt _ _ (sym c.if-lt.ensures)) _ (c.count_items.ensures a.rows.now) c.in_ok-has_room.ensures _ _ _ _ c.heard-node.ensures.does in
     search rules

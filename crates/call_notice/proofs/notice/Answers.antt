@@ -50,10 +50,10 @@ pub insts-requires : goal.insts-requires
 insts-requires c =
     let a = c.args in law.long a.node a.mem.now a.area.now a.peer.0 a.slot.0 a.ballot (sym c.if-not-is_ready.ensures) _ c.is_current-current.ensures
 
-pub returns-then-area-due : goal.returns-then-area-due
-returns-then-area-due c =
+pub returns-in_err-has_room : goal.returns-in_err-has_room
+returns-in_err-has_room c =
     let a = c.args in
-    law.notice_20 a.node a.mem.now a.area.now a.peer.0 a.slot.0 a.ballot (sym c.if-not-is_ready.ensures) _ c.is_current-current.ensures (rw c.window-window.ensures.0 at c.in_ok-notice_refusal.ensures) (ge_from_not_lt _ _ (sym c.if-lt.ensures)) (ge_from_not_lt _ _ (sym c.if-lt-2.ensures)) c.if-not-current.false _ (λ o. rw (c.window-window.ensures.0, c.window-window.ensures.1, c.insts.ensures) at (c.due-due.ensures o)) c.if-area-due.true
+    law.notice_20 a.node a.mem.now a.area.now a.peer.0 a.slot.0 a.ballot (sym c.if-not-is_ready.ensures) _ c.is_current-current.ensures (rw c.window-window.ensures.0 at c.in_ok-notice_refusal.ensures) (ge_from_not_lt _ _ (sym c.if-lt.ensures)) (ge_from_not_lt _ _ (sym c.if-lt-2.ensures)) c.if-not-current.false _ (λ o. rw (c.number-k.ensures, c.window-window.ensures.0, c.window-window.ensures.1, c.insts.ensures) at (c.due-due.ensures o)) _ _ c.in_err-has_room.ensures c.from_residual-in_err-has_room.ensures.1
 
 pub slice_bounds-notice_in-end : goal.slice_bounds-notice_in-end
 slice_bounds-notice_in-end c =
@@ -64,12 +64,12 @@ unfolding part
 notice_in-count-requires c =
     let a = c.args in
     record {
-      below = law.below a.node a.mem.now a.area.now a.peer.0 a.slot.0 a.ballot (sym c.if-not-is_ready.ensures) _ c.is_current-current.ensures (rw c.window-window.ensures.0 at c.in_ok-notice_refusal.ensures) (ge_from_not_lt _ _ (sym c.if-lt.ensures)) (ge_from_not_lt _ _ (sym c.if-lt-2.ensures)) c.if-not-current.false;
-      room = rw (c.window-window.ensures.0, c.window-window.ensures.1) (law.room a.node a.mem.now a.area.now a.peer.0 a.slot.0 a.ballot (sym c.if-not-is_ready.ensures) _ c.is_current-current.ensures (rw c.window-window.ensures.0 at c.in_ok-notice_refusal.ensures) (ge_from_not_lt _ _ (sym c.if-lt.ensures)) (ge_from_not_lt _ _ (sym c.if-lt-2.ensures)) c.if-not-current.false _ (λ o. rw (c.window-window.ensures.0, c.window-window.ensures.1, c.insts.ensures) at (c.due-due.ensures o)) c.if-area-due.false);
+      below = rw (c.number-k.ensures, c.window-window.ensures.0) (law.below a.node a.mem.now a.area.now a.peer.0 a.slot.0 a.ballot (sym c.if-not-is_ready.ensures) _ c.is_current-current.ensures (rw c.window-window.ensures.0 at c.in_ok-notice_refusal.ensures) (ge_from_not_lt _ _ (sym c.if-lt.ensures)) (ge_from_not_lt _ _ (sym c.if-lt-2.ensures)) c.if-not-current.false);
+      room = rw (c.number-k.ensures, c.window-window.ensures.0, c.window-window.ensures.1) (law.room a.node a.mem.now a.area.now a.peer.0 a.slot.0 a.ballot (sym c.if-not-is_ready.ensures) _ c.is_current-current.ensures (rw c.window-window.ensures.0 at c.in_ok-notice_refusal.ensures) (ge_from_not_lt _ _ (sym c.if-lt.ensures)) (ge_from_not_lt _ _ (sym c.if-lt-2.ensures)) c.if-not-current.false _ (λ o. rw (c.number-k.ensures, c.window-window.ensures.0, c.window-window.ensures.1, c.insts.ensures) at (c.due-due.ensures o)) c.in_ok-has_room.ensures);
     }
 
 pub returns : goal.returns
 unfolding part
 returns c =
     let a = c.args in
-    law.notice_taken a.node a.mem.now a.area.now a.peer.0 a.slot.0 a.ballot (sym c.if-not-is_ready.ensures) _ c.is_current-current.ensures (rw c.window-window.ensures.0 at c.in_ok-notice_refusal.ensures) (ge_from_not_lt _ _ (sym c.if-lt.ensures)) (ge_from_not_lt _ _ (sym c.if-lt-2.ensures)) c.if-not-current.false _ (λ o. rw (c.window-window.ensures.0, c.window-window.ensures.1, c.insts.ensures) at (c.due-due.ensures o)) c.if-area-due.false _ _ _ (rw (c.window-window.ensures.0, c.window-window.ensures.1) at c.notice_in-count.ensures) _ c.held_after-slots.ensures
+    law.notice_taken a.node a.mem.now a.area.now a.peer.0 a.slot.0 a.ballot (sym c.if-not-is_ready.ensures) _ c.is_current-current.ensures (rw c.window-window.ensures.0 at c.in_ok-notice_refusal.ensures) (ge_from_not_lt _ _ (sym c.if-lt.ensures)) (ge_from_not_lt _ _ (sym c.if-lt-2.ensures)) c.if-not-current.false _ (λ o. rw (c.number-k.ensures, c.window-window.ensures.0, c.window-window.ensures.1, c.insts.ensures) at (c.due-due.ensures o)) c.in_ok-has_room.ensures _ _ _ (rw (c.number-k.ensures, c.window-window.ensures.0, c.window-window.ensures.1) at c.notice_in-count.ensures) _ (rw (c.number-k.ensures, c.window-window.ensures.0) at c.held_after-slots.ensures)

@@ -20,11 +20,11 @@ returns-then-overfills c =
     let a = c.args in
     law.full_19 a.node a.mem.now a.area.now a.client a.request a.leases a.key.now (sym c.if-not-is_ready.ensures) c.pack.result c.pack.ensures c.in_ok-packed.packed (law.ok_is _ _ c.in_ok-packed.ensures.value) c.read_answer-answer.result c.read_answer-answer.ensures _ c.overfills.ensures c.if-overfills.true
 
-pub returns-then-not-put_item : goal.returns-then-not-put_item
-returns-then-not-put_item c =
+pub returns-in_err-put_item : goal.returns-in_err-put_item
+returns-in_err-put_item c =
     let a = c.args in
     law.few_20 a.node a.mem.now a.area.now a.client a.request a.leases a.key.now (sym c.if-not-is_ready.ensures) c.pack.result c.pack.ensures c.in_ok-packed.packed (law.ok_is _ _ c.in_ok-packed.ensures.value) c.read_answer-answer.result c.read_answer-answer.ensures
-    _ c.overfills.ensures c.if-overfills.false c.item_of-item.result (c.item_of-item.ensures a.mem.now a.key.now) _ _ c.put_item.ensures c.if-not-put_item.true
+    _ c.overfills.ensures c.if-overfills.false c.item_of-item.result (c.item_of-item.ensures a.mem.now a.key.now) _ c.in_err-put_item.ensures.put _ _ c.in_err-put_item.ensures.answers c.from_residual-in_err-put_item.ensures.1
 
 pub slice_bounds-hold-end : goal.slice_bounds-hold-end
 slice_bounds-hold-end c = omega (arith, is_ready c.args.node c.args.mem.now _ c.if-not-is_ready.ensures refl)
@@ -34,17 +34,17 @@ unfolding part
 hold-requires c =
     let a = c.args in
     law.has_room a.node a.mem.now a.area.now a.client a.request a.leases a.key.now (sym c.if-not-is_ready.ensures) c.pack.result c.pack.ensures c.in_ok-packed.packed (law.ok_is _ _ c.in_ok-packed.ensures.value) c.read_answer-answer.result c.read_answer-answer.ensures
-    _ c.overfills.ensures c.if-overfills.false c.item_of-item.result (c.item_of-item.ensures a.mem.now a.key.now) _ _ c.put_item.ensures c.if-not-put_item.false _ c.in-HeldBy.is
+    _ c.overfills.ensures c.if-overfills.false c.item_of-item.result (c.item_of-item.ensures a.mem.now a.key.now) _ c.in_ok-put_item.ensures.put _ c.in_ok-put_item.ensures.answers _ c.in-HeldBy.is
 
 pub returns-in-HeldBy : goal.returns-in-HeldBy
 unfolding part
 returns-in-HeldBy c =
     let a = c.args in
     law.held a.node a.mem.now a.area.now a.client a.request a.leases a.key.now (sym c.if-not-is_ready.ensures) c.pack.result c.pack.ensures c.in_ok-packed.packed (law.ok_is _ _ c.in_ok-packed.ensures.value) c.read_answer-answer.result c.read_answer-answer.ensures
-    _ c.overfills.ensures c.if-overfills.false c.item_of-item.result (c.item_of-item.ensures a.mem.now a.key.now) _ _ c.put_item.ensures c.if-not-put_item.false _ c.in-HeldBy.is _ c.hold.ensures
+    _ c.overfills.ensures c.if-overfills.false c.item_of-item.result (c.item_of-item.ensures a.mem.now a.key.now) _ c.in_ok-put_item.ensures.put _ c.in_ok-put_item.ensures.answers _ c.in-HeldBy.is _ c.hold.ensures
 
 pub returns-in_default : goal.returns-in_default
 returns-in_default c =
     let a = c.args in
     law.served a.node a.mem.now a.area.now a.client a.request a.leases a.key.now (sym c.if-not-is_ready.ensures) c.pack.result c.pack.ensures c.in_ok-packed.packed (law.ok_is _ _ c.in_ok-packed.ensures.value) c.read_answer-answer.result c.read_answer-answer.ensures
-    _ c.overfills.ensures c.if-overfills.false c.item_of-item.result (c.item_of-item.ensures a.mem.now a.key.now) _ _ c.put_item.ensures c.if-not-put_item.false c.in_default.not-HeldBy
+    _ c.overfills.ensures c.if-overfills.false c.item_of-item.result (c.item_of-item.ensures a.mem.now a.key.now) _ c.in_ok-put_item.ensures.put _ c.in_ok-put_item.ensures.answers c.in_default.not-HeldBy

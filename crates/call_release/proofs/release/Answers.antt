@@ -19,11 +19,11 @@ returns-in_err-release_refusal c =
 pub insts-requires : goal.insts-requires
 insts-requires c = (is_ready c.args.node c.args.mem.now _ c.if-not-is_ready.ensures refl).long
 
-pub returns-then-area-held : goal.returns-then-area-held
-returns-then-area-held c =
+pub returns-in_err-has_room : goal.returns-in_err-has_room
+returns-in_err-has_room c =
     let a = c.args in
     law.release_20 a.node a.mem.now a.area.now a.slot.0 (sym c.if-not-is_ready.ensures) (rw (c.window.ensures.0, c.window.ensures.1) at c.in_ok-release_refusal.ensures) _
-    (rw c.insts.ensures at c.holding-held.ensures) c.if-area-held.true
+    (rw c.insts.ensures at c.holding-held.ensures) _ _ c.in_err-has_room.ensures c.from_residual-in_err-has_room.ensures.1
 
 pub slice_bounds-release_in-end : goal.slice_bounds-release_in-end
 slice_bounds-release_in-end c = omega (arith, is_ready c.args.node c.args.mem.now _ c.if-not-is_ready.ensures refl)
@@ -33,11 +33,11 @@ unfolding part
 release_in-count-requires c =
     let a = c.args in
     law.room a.node a.mem.now a.area.now a.slot.0 (sym c.if-not-is_ready.ensures) (rw (c.window.ensures.0, c.window.ensures.1) at c.in_ok-release_refusal.ensures) _
-    (rw c.insts.ensures at c.holding-held.ensures) c.if-area-held.false
+    (rw c.insts.ensures at c.holding-held.ensures) c.in_ok-has_room.ensures
 
 pub returns : goal.returns
 unfolding part
 returns c =
     let a = c.args in
     law.release_taken a.node a.mem.now a.area.now a.slot.0 (sym c.if-not-is_ready.ensures) (rw (c.window.ensures.0, c.window.ensures.1) at c.in_ok-release_refusal.ensures) _
-    (rw c.insts.ensures at c.holding-held.ensures) c.if-area-held.false _ _ _ c.release_in-count.ensures
+    (rw c.insts.ensures at c.holding-held.ensures) c.in_ok-has_room.ensures _ _ _ c.release_in-count.ensures

@@ -37,9 +37,9 @@ take_reply-requires c =
 pub returns-in_err-count : goal.returns-in_err-count
 returns-in_err-count c =
     let a = c.args in
-    law.reply_full a.node a.mem.now a.area.now a.peer.0 a.slot.0 a.ballot.0 (sym c.if-not-is_ready.ensures) (rw (c.window-window.ensures.0, c.window-window.ensures.1) at c.in_ok-reply_refusal.ensures) _ c.awaits.ensures c.if-not-awaits.false _ c.ack_in-ack.ensures _ _ _ c.take_reply.ensures _ _ c.in_err-count.ensures.value c.from_residual-in_err-count.ensures.1
+    law.reply_full a.node a.mem.now a.area.now a.peer.0 a.slot.0 a.ballot.0 (sym c.if-not-is_ready.ensures) (rw (c.window-window.ensures.0, c.window-window.ensures.1) at c.in_ok-reply_refusal.ensures) _ c.awaits.ensures c.if-not-awaits.false _ c.ack_in-ack.ensures _ _ _ _ c.in_err-count.ensures c.from_residual-in_err-count.ensures.1
 
 pub returns : goal.returns
 returns c =
     let a = c.args in
-    law.reply_taken a.node a.mem.now a.area.now a.peer.0 a.slot.0 a.ballot.0 (sym c.if-not-is_ready.ensures) (rw (c.window-window.ensures.0, c.window-window.ensures.1) at c.in_ok-reply_refusal.ensures) _ c.awaits.ensures c.if-not-awaits.false _ c.ack_in-ack.ensures _ _ _ c.take_reply.ensures _ c.in_ok-count.ensures.value
+    law.reply_taken a.node a.mem.now a.area.now a.peer.0 a.slot.0 a.ballot.0 (sym c.if-not-is_ready.ensures) (rw (c.window-window.ensures.0, c.window-window.ensures.1) at c.in_ok-reply_refusal.ensures) _ c.awaits.ensures c.if-not-awaits.false _ c.ack_in-ack.ensures _ _ _ c.in_ok-count.ensures
