@@ -30,11 +30,9 @@ pub struct Notice {
 fn noticed_book(book: Option<NoticeBook>, notice: Notice) -> NoticeBook
     ensures { (held : List ReadReq) → book_with result (seen_reads (book_of book) held) ≡ noticed_book notice.peer.0 notice.ballot.0 (slot_book (book_of book) held) }
 {
-    accept_notices::noticed(
-        book.unwrap_or(accept_notices::fresh()),
-        notice.peer,
-        notice.ballot,
-    )
+    let mut book = book.unwrap_or(accept_notices::fresh());
+    accept_notices::take_notice(&mut book, notice.peer, notice.ballot);
+    book
 }
 
 // Whether a notice is one for a slot: of its ballot, or the slot has none yet and is the last.
