@@ -1,5 +1,5 @@
 // `handle_msg_accept_notice` at the slot of a notice. The k-th slot may be past those that the window holds, so the
-// bound of k is in the clauses. Quorum and leader are the node's, the notice is the call's, so they come apart.
+// bound of k is in the clauses.
 #![tactic(auto)]
 
 ghost use Rattle.std.specs.Prelude.{◌≡◌, ◌&&◌, ◌||◌, List, ℕ, ◌+◌, ◌≤◌, ◌<◌, eqb, length};
@@ -17,6 +17,7 @@ use ids::{Ballot, Replica, Slot};
 use inst_cell::{Cell, NoticeBook};
 use insts::{Insts, InstsMut, Window};
 use items::Items;
+use release_held_reads::ReplicaGroup;
 
 // A peer has accepted a slot at a ballot.
 #[derive(Clone, Copy)]
@@ -29,11 +30,9 @@ pub struct Notice {
 fn noticed_book(book: Option<NoticeBook>, notice: Notice) -> NoticeBook
     ensures { (held : List ReadReq) → book_with result (seen_reads (book_of book) held) ≡ noticed_book notice.peer.0 notice.ballot.0 (slot_book (book_of book) held) }
 {
-    accept_notices::noticed(
-        book.unwrap_or(accept_notices::fresh()),
-        notice.peer,
-        notice.ballot,
-    )
+    let mut book = book.unwrap_or(accept_notices::fresh());
+    accept_notices::take_notice(&mut book, notice.peer, notice.ballot);
+    book
 }
 
 // Whether a notice is one for a slot: of its ballot, or the slot has none yet and is the last.
@@ -76,22 +75,21 @@ fn notice_in(
     insts: &mut InstsMut<'_>,
     slot: Slot,
     last: bool,
-    quorum: u8,
-    leader: Option<Replica>,
+    group: ReplicaGroup,
     notice: Notice,
     items: &mut Items<'_>,
 )
-    requires { items.old.count + length (noticed_items quorum (leader_of leader) notice.peer.0 notice.ballot.0 last (inst_in insts.old.words.now (place_of slot.0))) ≤ places items.old.area.now }
+    requires { items.old.count + length (noticed_items group.quorum (leader_of group.leader) notice.peer.0 notice.ballot.0 last (inst_in insts.old.words.now (place_of slot.0))) ≤ places items.old.area.now }
     ensures same_words { insts.new.words.ghost_name ≡ insts.old.words.ghost_name }
     ensures same_area { items.new.area.ghost_name ≡ items.old.area.ghost_name }
-    ensures notes { Notes quorum (leader_of leader) notice.peer.0 notice.ballot.0 last (place_of slot.0) items.old.count insts.old.words.now items.old.area.now items.new.count insts.new.words.now items.new.area.now }
+    ensures notes { Notes group.quorum (leader_of group.leader) notice.peer.0 notice.ballot.0 last (place_of slot.0) items.old.count insts.old.words.now items.old.area.now items.new.count insts.new.words.now items.new.area.now }
 {
     if !is_for(insts.as_ref().load(slot).bal, notice.ballot, last) {
         return;
     }
     put_notice(insts, slot, notice);
-    if release_held_reads::has_quorum(insts.as_ref().load(slot).replica_bk, quorum) {
-        release_held_reads::release(insts, slot, quorum, leader, items);
+    if release_held_reads::has_quorum(insts.as_ref().load(slot).replica_bk, group.quorum) {
+        release_held_reads::release(insts, slot, group, items);
     }
 }
 
@@ -104,7 +102,7 @@ pub fn held_after(held: usize, k: usize) -> usize
 }
 
 // How many items a notice has at the k-th slot of the window. The window and k are two arguments, since k may lie past
-// the slots that are held; quorum and leader are two, as in release_held_reads.
+// the slots that are held.
 #[tactic(auto, using(crate::proofs::Laws::due_null))]
 pub fn due(insts: Insts<'_>, window: Window, k: usize, quorum: u8, notice: Notice) -> usize
     requires { k < slot_places }
@@ -121,19 +119,18 @@ pub fn notice_at(
     insts: &mut InstsMut<'_>,
     window: Window,
     k: usize,
-    quorum: u8,
-    leader: Option<Replica>,
+    group: ReplicaGroup,
     notice: Notice,
     items: &mut Items<'_>,
 )
     requires below { k < slot_places }
-    requires room { items.old.count + length (noticed_at quorum (leader_of leader) notice.peer.0 notice.ballot.0 k (insts_of window.start.0 window.held insts.old.words.now)).items ≤ places items.old.area.now }
+    requires room { items.old.count + length (noticed_at group.quorum (leader_of group.leader) notice.peer.0 notice.ballot.0 k (insts_of window.start.0 window.held insts.old.words.now)).items ≤ places items.old.area.now }
     ensures same_words { insts.new.words.ghost_name ≡ insts.old.words.ghost_name }
     ensures same_area { items.new.area.ghost_name ≡ items.old.area.ghost_name }
-    ensures notes { NotesAt quorum (leader_of leader) notice.peer.0 notice.ballot.0 window.start.0 window.held k items.old.count insts.old.words.now items.old.area.now items.new.count insts.new.words.now items.new.area.now }
+    ensures notes { NotesAt group.quorum (leader_of group.leader) notice.peer.0 notice.ballot.0 window.start.0 window.held k items.old.count insts.old.words.now items.old.area.now items.new.count insts.new.words.now items.new.area.now }
 {
     let held = held_after(window.held, k);
     insts.pad(window, held);
     let last = k + 1 == held;
-    notice_in(insts, window.slot(k), last, quorum, leader, notice, items);
+    notice_in(insts, window.slot(k), last, group, notice, items);
 }

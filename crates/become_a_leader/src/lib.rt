@@ -12,10 +12,11 @@ ghost use Rattle.insts.specs.Slots.{inst_in, insts_of, place_of};
 ghost use Rattle.advance_commit_bar.specs.Walk.{one_if_open};
 ghost use Rattle.become_a_leader.specs.StepUp.{slots_after, prepared_anew, released_from, step_up, StepsUp, Opens, Prelogs, Passes};
 
-use ids::{Ballot, Replica, Slot};
+use ids::{Ballot, Slot};
 use inst_cell::{Cell, Status};
 use insts::{Insts, InstsMut, Window};
 use items::{Item, Items};
+use release_held_reads::ReplicaGroup;
 use std::ops::Range;
 
 // The number of the first open slot, that of all where none is.
@@ -135,17 +136,16 @@ fn release_all(
     insts: &mut InstsMut<'_>,
     window: Window,
     numbers: Range<usize>,
-    quorum: u8,
-    leader: Option<Replica>,
+    group: ReplicaGroup,
     items: &mut Items<'_>,
 )
-    requires { (numbers.start ≤ numbers.end) × (numbers.end ≤ window.held) × (items.old.count + length (released_from quorum (leader_of leader) (numbers.end - numbers.start) (drop numbers.start (insts_of window.start.0 window.held insts.old.words.now))).items ≤ places items.old.area.now) }
+    requires { (numbers.start ≤ numbers.end) × (numbers.end ≤ window.held) × (items.old.count + length (released_from group.quorum (leader_of group.leader) (numbers.end - numbers.start) (drop numbers.start (insts_of window.start.0 window.held insts.old.words.now))).items ≤ places items.old.area.now) }
     ensures same_words { insts.new.words.ghost_name ≡ insts.old.words.ghost_name }
     ensures same_area { items.new.area.ghost_name ≡ items.old.area.ghost_name }
-    ensures passes { Passes (released_from quorum (leader_of leader) (numbers.end - numbers.start) (drop numbers.start (insts_of window.start.0 window.held insts.old.words.now))) items.old.count window.start.0 window.held numbers.start insts.old.words.now items.old.area.now items.new.count insts.new.words.now items.new.area.now }
+    ensures passes { Passes (released_from group.quorum (leader_of group.leader) (numbers.end - numbers.start) (drop numbers.start (insts_of window.start.0 window.held insts.old.words.now))) items.old.count window.start.0 window.held numbers.start insts.old.words.now items.old.area.now items.new.count insts.new.words.now items.new.area.now }
 {
     for k in numbers.start..numbers.end {
-        release_held_reads::release(insts, window.slot(k), quorum, leader, items);
+        release_held_reads::release(insts, window.slot(k), group, items);
     }
 }
 
@@ -154,15 +154,14 @@ fn release_all(
 pub fn become_a_leader(
     words: &mut [u64],
     window: Window,
-    quorum: u8,
-    leader: Option<Replica>,
+    group: ReplicaGroup,
     ballot: Ballot,
     items: &mut Items<'_>,
 ) -> usize
-    requires { (slot_words ≤ length words.old) × (slots_after window.held (insts_of window.start.0 window.held words.old) ≤ slot_places) × (items.old.count + length (step_up window.start.0 quorum (leader_of leader) ballot.0 (insts_of window.start.0 window.held words.old)).items ≤ places items.old.area.now) }
+    requires { (slot_words ≤ length words.old) × (slots_after window.held (insts_of window.start.0 window.held words.old) ≤ slot_places) × (items.old.count + length (step_up window.start.0 group.quorum (leader_of group.leader) ballot.0 (insts_of window.start.0 window.held words.old)).items ≤ places items.old.area.now) }
     ensures same_area { items.new.area.ghost_name ≡ items.old.area.ghost_name }
     ensures held { result ≡ slots_after window.held (insts_of window.start.0 window.held words.old) }
-    ensures steps { StepsUp items.old.count window.start.0 window.held quorum (leader_of leader) ballot.0 words.old items.old.area.now items.new.count words.new items.new.area.now }
+    ensures steps { StepsUp items.old.count window.start.0 window.held group.quorum (leader_of group.leader) ballot.0 words.old items.old.area.now items.new.count words.new items.new.area.now }
 {
     let mut insts = InstsMut { words };
     let window = open_one(&mut insts, window);
@@ -173,7 +172,7 @@ pub fn become_a_leader(
     };
     items.push(Item::Lead(true));
     prelog_all(&mut insts, window, ballot, items);
-    release_all(&mut insts, window, open, quorum, leader, items);
+    release_all(&mut insts, window, open, group, items);
     items.push(prepare);
     window.held
 }

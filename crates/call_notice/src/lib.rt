@@ -20,6 +20,7 @@ use ids::{Ballot, Refusal, Replica, Slot};
 use insts::{InstsMut, Window};
 use items::{Item, Items};
 use node::{Node, Taken};
+use release_held_reads::ReplicaGroup;
 use roster_conf::RespondersConf;
 
 // Whether a notice is of the ballot of a replica that does not lead.
@@ -76,18 +77,17 @@ fn notice_in(
     words: &mut [u64],
     window: Window,
     k: usize,
-    quorum: u8,
-    leader: Option<Replica>,
+    group: ReplicaGroup,
     notice: Notice,
     area: &mut [u64],
 ) -> usize
     requires below { (k < slot_places) × (slot_words ≤ length words.old) }
-    requires room { length (noticed_at quorum (leader_of leader) notice.peer.0 notice.ballot.0 k (insts_of window.start.0 window.held words.old)).items ≤ places area.old }
-    ensures { NotesAt quorum (leader_of leader) notice.peer.0 notice.ballot.0 window.start.0 window.held k 0 words.old area.old result words.new area.new }
+    requires room { length (noticed_at group.quorum (leader_of group.leader) notice.peer.0 notice.ballot.0 k (insts_of window.start.0 window.held words.old)).items ≤ places area.old }
+    ensures { NotesAt group.quorum (leader_of group.leader) notice.peer.0 notice.ballot.0 window.start.0 window.held k 0 words.old area.old result words.new area.new }
 {
     let mut insts = InstsMut { words };
     let mut items = Items { area, count: 0 };
-    accept_notice_at::notice_at(&mut insts, window, k, quorum, leader, notice, &mut items);
+    accept_notice_at::notice_at(&mut insts, window, k, group, notice, &mut items);
     items.count
 }
 
@@ -132,12 +132,15 @@ pub fn notice(
     let notice = Notice { peer, ballot };
     let due = accept_notice_at::due(node::insts(mem), window, k, node.quorum, notice);
     items::has_room(area, due)?;
+    let group = ReplicaGroup {
+        quorum: node.quorum,
+        leader: node.bodega_conf.leader,
+    };
     let count = notice_in(
         &mut mem[layout::SLOTS_AT..layout::WRITTEN_AT],
         window,
         k,
-        node.quorum,
-        node.bodega_conf.leader,
+        group,
         notice,
         area,
     );

@@ -13,10 +13,11 @@ ghost use Rattle.node.specs.View.{view, ready, given_of};
 ghost use Rattle.call_release.specs.Release.{release_refusal};
 ghost use Rattle.ids.specs.Refusal.{refused_by};
 
-use ids::{Refusal, Replica, Slot};
+use ids::{Refusal, Slot};
 use insts::{InstsMut, Window};
 use items::Items;
 use node::{Node, Taken};
+use release_held_reads::ReplicaGroup;
 
 // Refusals 8 and 16.
 fn release_refusal(window: Window, slot: Slot) -> Result<(), Refusal>
@@ -33,19 +34,13 @@ fn release_refusal(window: Window, slot: Slot) -> Result<(), Refusal>
 
 // A release at a slot, its items from the first place on. The words come whole: a struct made of a part of the buffer
 // would lose what became of the part.
-fn release_in(
-    words: &mut [u64],
-    slot: Slot,
-    quorum: u8,
-    leader: Option<Replica>,
-    area: &mut [u64],
-) -> usize
+fn release_in(words: &mut [u64], slot: Slot, group: ReplicaGroup, area: &mut [u64]) -> usize
     requires { (slot_words ≤ length words.old) × (length (holding_of (inst_in words.old (place_of slot.0))) ≤ places area.old) }
-    ensures { Releases quorum (leader_of leader) (place_of slot.0) 0 words.old area.old result words.new area.new }
+    ensures { Releases group.quorum (leader_of group.leader) (place_of slot.0) 0 words.old area.old result words.new area.new }
 {
     let mut insts = InstsMut { words };
     let mut items = Items { area, count: 0 };
-    release_held_reads::release(&mut insts, slot, quorum, leader, &mut items);
+    release_held_reads::release(&mut insts, slot, group, &mut items);
     items.count
 }
 
@@ -58,11 +53,14 @@ pub fn release(node: Node, mem: &mut [u64], area: &mut [u64], slot: Slot) -> Res
     release_refusal(node::window(node, mem), slot)?;
     let held = release_held_reads::holding(node::insts(mem), slot);
     items::has_room(area, held)?;
+    let group = ReplicaGroup {
+        quorum: node.quorum,
+        leader: node.bodega_conf.leader,
+    };
     let count = release_in(
         &mut mem[layout::SLOTS_AT..layout::WRITTEN_AT],
         slot,
-        node.quorum,
-        node.bodega_conf.leader,
+        group,
         area,
     );
     Ok(Taken { node, count })

@@ -21,6 +21,7 @@ use ids::{Ballot, Replica, Slot};
 use items::Items;
 use node::Node;
 use peer_accept_bar::Pair;
+use release_held_reads::ReplicaGroup;
 use roster_conf::RespondersConf;
 
 // The own guard, at the ballot and the accept bar; gives the reading bar worked out anew. Words and population come
@@ -82,11 +83,14 @@ fn become_a_leader(node: Node, mem: &mut [u64], items: &mut Items<'_>) -> Node
     ensures does { Does (become_a_leader (view node mem.old)) items.old.count mem.old items.old.area.now result items.new.count mem.new items.new.area.now }
 {
     let window = node::window(node, mem);
+    let group = ReplicaGroup {
+        quorum: node.quorum,
+        leader: node.bodega_conf.leader,
+    };
     let slots = become_a_leader::become_a_leader(
         &mut mem[layout::SLOTS_AT..layout::WRITTEN_AT],
         window,
-        node.quorum,
-        node.bodega_conf.leader,
+        group,
         node.bal_max_seen,
         items,
     );

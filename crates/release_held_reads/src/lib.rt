@@ -22,6 +22,13 @@ use inst_reqs::Batch;
 use insts::{Insts, InstsMut};
 use items::{Item, Items};
 
+// How many replicas are a quorum, and which one a client is told to retry at.
+#[derive(Clone, Copy)]
+pub struct ReplicaGroup {
+    pub quorum: u8,
+    pub leader: Option<Replica>,
+}
+
 // Whether a quorum has sent notices.
 pub fn has_quorum(book: Option<NoticeBook>, quorum: u8) -> bool
     ensures { result ≡ (if_none book_of book then false else λ b. leb quorum (count b.notices)) }
@@ -65,22 +72,16 @@ fn answer_to(bound: bool, leader: Option<Replica>, batch: Batch<'_>, read: ReadR
 }
 
 // What the reads get that a slot holds, in order.
-fn put_answers(
-    insts: Insts<'_>,
-    slot: Slot,
-    quorum: u8,
-    leader: Option<Replica>,
-    items: &mut Items<'_>,
-)
+fn put_answers(insts: Insts<'_>, slot: Slot, group: ReplicaGroup, items: &mut Items<'_>)
     requires { items.old.count + length (holding_of (inst_in insts.words.now (place_of slot.0))) ≤ places items.old.area.now }
     ensures same_reference { items.new.area.ghost_name ≡ items.old.area.ghost_name }
-    ensures put { Answered items.old.count items.old.area.now (answers_of quorum (leader_of leader) (inst_in insts.entry.words.now (place_of slot.0))) items.new.count items.new.area.now }
+    ensures put { Answered items.old.count items.old.area.now (answers_of group.quorum (leader_of group.leader) (inst_in insts.entry.words.now (place_of slot.0))) items.new.count items.new.area.now }
 {
-    let bound = is_bound(insts.load(slot), quorum);
+    let bound = is_bound(insts.load(slot), group.quorum);
     let batch = insts.batch(slot);
     let reads = insts.reads(slot);
     for i in 0..holding(insts, slot) {
-        items.push(answer_to(bound, leader, batch, reads.get(i)));
+        items.push(answer_to(bound, group.leader, batch, reads.get(i)));
     }
 }
 
@@ -95,20 +96,13 @@ pub fn holding(insts: Insts<'_>, slot: Slot) -> usize
     }
 }
 
-// `release_held_read_reqs` for a slot: its items after those that are put, and its queue emptied. The quorum and the
-// leader are two arguments: a struct of both would be made at each call only to be taken apart here.
-pub fn release(
-    insts: &mut InstsMut<'_>,
-    slot: Slot,
-    quorum: u8,
-    leader: Option<Replica>,
-    items: &mut Items<'_>,
-)
+// `release_held_read_reqs` for a slot: its items after those that are put, and its queue emptied.
+pub fn release(insts: &mut InstsMut<'_>, slot: Slot, group: ReplicaGroup, items: &mut Items<'_>)
     requires { items.old.count + length (holding_of (inst_in insts.old.words.now (place_of slot.0))) ≤ places items.old.area.now }
     ensures same_words { insts.new.words.ghost_name ≡ insts.old.words.ghost_name }
     ensures same_area { items.new.area.ghost_name ≡ items.old.area.ghost_name }
-    ensures releases { Releases quorum (leader_of leader) (place_of slot.0) items.old.count insts.old.words.now items.old.area.now items.new.count insts.new.words.now items.new.area.now }
+    ensures releases { Releases group.quorum (leader_of group.leader) (place_of slot.0) items.old.count insts.old.words.now items.old.area.now items.new.count insts.new.words.now items.new.area.now }
 {
-    put_answers(insts.as_ref(), slot, quorum, leader, items);
+    put_answers(insts.as_ref(), slot, group, items);
     insts.clear_reads(slot);
 }

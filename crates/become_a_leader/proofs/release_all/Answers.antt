@@ -9,7 +9,7 @@ use Rattle.become_a_leader.proofs.release_all.Goals as goal
 pub loop-k-init : goal.loop-k-init
 loop-k-init c =
     let a = c.args in
-    record { same_words = refl; same_area = refl; going = pass.going_start never emptied (answers_at a.quorum (leader_of a.leader)) _ _ a.numbers.end a.numbers.start a.items.now.count a.insts.now.words.now a.items.now.area.now }
+    record { same_words = refl; same_area = refl; going = pass.going_start never emptied (answers_at a.group.quorum (leader_of a.group.leader)) _ _ a.numbers.end a.numbers.start a.items.now.count a.insts.now.words.now a.items.now.area.now }
 
 pub slot-requires : goal.slot-requires
 slot-requires c = let f = c.args.window.few in omega arith
@@ -32,5 +32,5 @@ pub returns-clause-passes : goal.returns-clause-passes
 returns-clause-passes c =
     let a = c.args in
     let l = c.loop-k in
-    law.passes _ never emptied (answers_at a.quorum (leader_of a.leader)) _ _ a.numbers.end a.numbers.start _ _ _ (omega arith) (law.held_left_lem a.window.start.0 a.window.held a.numbers.end a.quorum (leader_of a.leader) a.numbers.start a.insts.now.words.now (omega arith))
-    (pass.going_end never emptied (answers_at a.quorum (leader_of a.leader)) _ _ a.numbers.end a.numbers.start a.items.now.count a.insts.now.words.now a.items.now.area.now l.k l.items.count l.insts.words.now l.items.area.now l.invariant.going (omega arith) (omega arith))
+    law.passes _ never emptied (answers_at a.group.quorum (leader_of a.group.leader)) _ _ a.numbers.end a.numbers.start _ _ _ (omega arith) (law.held_left_lem a.window.start.0 a.window.held a.numbers.end a.group.quorum (leader_of a.group.leader) a.numbers.start a.insts.now.words.now (omega arith))
+    (pass.going_end never emptied (answers_at a.group.quorum (leader_of a.group.leader)) _ _ a.numbers.end a.numbers.start a.items.now.count a.insts.now.words.now a.items.now.area.now l.k l.items.count l.insts.words.now l.items.area.now l.invariant.going (omega arith) (omega arith))

@@ -7,5 +7,5 @@ abbrev pub invariant-loop-k : goal.invariant-loop-k
 invariant-loop-k l = record {
   same_words : l.insts.words.ghost_name ≡ l.initial.insts.words.ghost_name;
   same_area : l.items.area.ghost_name ≡ l.initial.items.area.ghost_name;
-  going : law.Releasing l.window.start.0 l.window.held l.fn.numbers.end l.quorum (leader_of l.leader) l.fn.numbers.start l.initial.items.count l.initial.insts.words.now l.initial.items.area.now l.k l.items.count l.insts.words.now l.items.area.now;
+  going : law.Releasing l.window.start.0 l.window.held l.fn.numbers.end l.group.quorum (leader_of l.group.leader) l.fn.numbers.start l.initial.items.count l.initial.insts.words.now l.initial.items.area.now l.k l.items.count l.insts.words.now l.items.area.now;
 }
