@@ -10,7 +10,8 @@ ghost use Rattle.words.specs.Writes.{writes};
 use ids::{Ballot, Refusal, Replica, Slot};
 use inty::Inty;
 
-pub const ITEM_WORDS: usize = 6;
+// Words of an item.
+const WORDS: usize = 6;
 
 #[derive(Clone, Copy)]
 pub enum Item {
@@ -60,7 +61,7 @@ pub enum Item {
     Rest(u64),
 }
 
-fn words_of(item: Item) -> [u64; ITEM_WORDS]
+fn words_of(item: Item) -> [u64; WORDS]
     ensures { result ≡ item_words (item_of item) }
 {
     match item {
@@ -107,7 +108,7 @@ fn replica_in(word: u64) -> Replica
 // The only item that the words can be. The kinds are the numbers that the C side reads in the area. No `From`: only
 // `decoded` says whether the words are the item's.
 #[tactic(auto, unfolding(crate::specs::Area::named))]
-fn item_named(words: [u64; ITEM_WORDS]) -> Item
+fn item_named(words: [u64; WORDS]) -> Item
     ensures { item_of result
         ≡ named (slice_index words 0) (slice_index words 1) (slice_index words 2) (slice_index words 3) (slice_index words 4) (slice_index words 5) }
 {
@@ -162,18 +163,18 @@ fn item_named(words: [u64; ITEM_WORDS]) -> Item
 }
 
 #[tactic(auto, unfolding(crate::specs::Area::decode))]
-fn decoded(words: [u64; ITEM_WORDS]) -> Option<Item>
+fn decoded(words: [u64; WORDS]) -> Option<Item>
     ensures { option_map item_of result ≡ decode words }
 {
     let item = item_named(words);
     (words_of(item) == words).then_some(item)
 }
 
-fn load(area: &[u64], place: usize) -> [u64; ITEM_WORDS]
+fn load(area: &[u64], place: usize) -> [u64; WORDS]
     requires { place * 6 + 6 ≤ length area.now }
     ensures { result ≡ words_from 6 area.now (place * 6) }
 {
-    let p = place * ITEM_WORDS;
+    let p = place * WORDS;
     [
         area[p],
         area[p + 1],
@@ -188,7 +189,7 @@ fn load(area: &[u64], place: usize) -> [u64; ITEM_WORDS]
 pub fn places(area: &[u64]) -> usize
     ensures { result ≡ places area.now }
 {
-    area.len() / ITEM_WORDS
+    area.len() / WORDS
 }
 
 // 20 where an area has fewer places than items are to be sent.
@@ -210,8 +211,8 @@ pub fn put_item(area: &mut [u64], place: usize, item: Item) -> Result<(), Refusa
     if places(area) <= place {
         return Err(Refusal::AreaTooSmall);
     }
-    let p = place * ITEM_WORDS;
-    area[p..p + ITEM_WORDS].copy_from_slice(&words_of(item));
+    let p = place * WORDS;
+    area[p..p + WORDS].copy_from_slice(&words_of(item));
     Ok(())
 }
 
