@@ -1,5 +1,5 @@
 // `handle_msg_accept_notice` at the slot of a notice. The k-th slot may be past those that the window holds, so the
-// bound of k is in the clauses.
+// bound of k is in the clauses. The group is the node's, the notice is the call's, so they come apart.
 #![tactic(auto)]
 
 ghost use Rattle.std.specs.Prelude.{◌≡◌, ◌&&◌, ◌||◌, List, ℕ, ◌+◌, ◌≤◌, ◌<◌, eqb, length};

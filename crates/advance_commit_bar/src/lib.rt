@@ -72,7 +72,7 @@ fn reach(window: Window, bar: Slot) -> usize
     window.held.min(window.number(bar))
 }
 
-// How many items the walk has.
+// How many items the walk has, which a call asks before it walks: one that lacks places leaves all as it was.
 pub fn count_commits(
     insts: Insts<'_>,
     window: Window,

@@ -28,7 +28,8 @@ fn first_open(insts: Insts<'_>, window: Window) -> usize
         .unwrap_or(window.held)
 }
 
-// The number of the last open slot, that of all where none is.
+// The number of the last open slot, that of all where none is. A loop, where `first_open` has a search: the library has
+// no law for a range that is gone over from the back by an iterator.
 fn last_open(insts: Insts<'_>, window: Window) -> usize
     ensures { result ≡ last_open (insts_of window.start.0 window.held insts.entry.words.now) }
 {

@@ -61,7 +61,8 @@ fn missed_at(insts: Insts<'_>, slot: Slot, peer: Replica, prepared: Ballot) -> M
     }
 }
 
-// How many Accepts are sent again, of the slots from the commit bar up to one, the last of them first.
+// How many Accepts are sent again, of the slots from the commit bar up to one, the last of them first. They are counted
+// and then put, two walks over the same slots, since a call that lacks places leaves all as it was.
 fn count_resends(insts: Insts<'_>, commit: Slot, to: Slot, peer: Replica, prepared: Ballot) -> usize
     ensures { (result ≡ length (resends_of insts.entry.words.now commit.0 peer.0 prepared.0 (to.0 - commit.0))) × (result ≤ to.0 - commit.0) }
 {

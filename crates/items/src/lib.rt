@@ -192,7 +192,7 @@ pub fn places(area: &[u64]) -> usize
     area.len() / WORDS
 }
 
-// 20 where an area has fewer places than items are to be sent.
+// 20 where an area has fewer places than items are to be sent; their number is no length of the area.
 pub fn has_room(area: &[u64], count: usize) -> Result<(), Refusal>
     ensures { HasRoom area.now count result }
 {

@@ -96,7 +96,8 @@ pub fn holding(insts: Insts<'_>, slot: Slot) -> usize
     }
 }
 
-// `release_held_read_reqs` for a slot: its items after those that are put, and its queue emptied.
+// `release_held_read_reqs` for a slot: its items after those that are put, and its queue emptied. The group is the same
+// for all slots, so the two are no struct.
 pub fn release(insts: &mut InstsMut<'_>, slot: Slot, group: ReplicaGroup, items: &mut Items<'_>)
     requires { items.old.count + length (holding_of (inst_in insts.old.words.now (place_of slot.0))) ≤ places items.old.area.now }
     ensures same_words { insts.new.words.ghost_name ≡ insts.old.words.ghost_name }
