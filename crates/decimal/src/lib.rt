@@ -49,6 +49,8 @@ pub fn write(out: &mut [u8], at: usize, x: Inty) -> Option<usize>
     Some(at + put(&mut out[at..], x))
 }
 
+// `write` for the other width. One generic over `Into<Inty>` would have to say which number the conversion gives, and
+// each caller to work it out. Crate text puts such a number two digits a step, without this.
 pub fn write_u64(out: &mut [u8], at: usize, n: u64) -> Option<usize>
     ensures { record { answer = result; bytes = out.new } ≡ placed out.old at (decimal n) }
 {

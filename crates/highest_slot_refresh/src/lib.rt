@@ -30,8 +30,8 @@ fn adds(written: Written<'_>, batch: Batch<'_>, i: usize) -> bool
     }
 }
 
-// Whether the keys come to be more than 256, request by request: no further than the first that brings them there, as a
-// count of all that add a key is slower by half over a script that writes many.
+// Whether the keys come to be more than 256, request by request: no further than the first that brings them there. To
+// count all that add a key takes 44 % more instructions of all of `replay` over 40,000 lines that write many keys.
 fn exceeds(written: Written<'_>, batch: Batch<'_>) -> bool
     ensures { (slot : ℕ) → result ≡ ltb keys (length (refresh_highest_slot slot (requests_of batch.entry.words.now) (written_of written.entry.words.now))) }
 {

@@ -1,33 +1,18 @@
 -- What the proofs of the lines share, with the premises as the code has them.
 use mathlib.Core.Path.{◌≡◌, sym, ap, ◌∙◌}
 use mathlib.Core.Bool.{Bool}
-use mathlib.Core.List.{List, [], ◌∷◌}
-use Rattle.std.specs.Prelude.{Option}
+use mathlib.Core.List.{List, []}
 use Prim.Native.Nat.{ℕ, suc, ◌+◌, ◌-◌, ◌*◌, ◌≤◌, ◌<◌}
 use native.Mathlib.Nat.{add-zero}
 use native.Mathlib.Omega.{arith}
-use lib.ListN.{length, set, drop, take, length-drop, length-append}
+use lib.ListN.{length, drop, take, length-drop}
 use lib.Seq.{drop-drop, length-take-le}
-use Rattle.words.specs.Writes.{writes, writes_snoc}
+use Rattle.words.specs.Writes.{writes}
 use Rattle.key_lines.proofs.Short.{answer_short}
 use Rattle.stream_pieces.specs.Pieces.{none_begun, before}
 use Rattle.stream_pieces.specs.Streamed.{prepend, streamed, OutputAfter, output_after}
 use Rattle.stream_pieces.proofs.Laws.{line_none, line_below, runs_line, runs_none, done_append}
-use Rattle.key_lines.specs.Lines.{text_of, answer_of, answer, line_output}
-
--- ---- a number or `-`, and the newline
-module _ (s : List ℕ) (at : ℕ) (o : Option ℕ) where
-  length_answer : length (answer_of o) ≡ length (text_of o) + 1
-  unfolding answer_of
-  length_answer = length-append (text_of o) (10 ∷ [])
-
-  module _ (e : ℕ) (f : e ≡ at + length (text_of o)) where
-    pub line_ends : e + 1 ≡ at + length (answer_of o)
-    line_ends = omega (arith, length_answer)
-
-    pub line_put : (l : List ℕ) → l ≡ writes s at (text_of o) → set l e 10 ≡ writes s at (answer_of o)
-    unfolding answer_of
-    line_put l g = rw (g, f, writes_snoc s at (text_of o) 10)
+use Rattle.key_lines.specs.Lines.{answer, line_output}
 
 -- ---- the line at at ends at e
 module _ (piece : List ℕ) (at e : ℕ) (h : at ≤ length piece) (f : e ≡ at + before (drop at piece)) where

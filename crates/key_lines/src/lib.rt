@@ -6,14 +6,16 @@
 ghost use Rattle.std.specs.Prelude.{◌≡◌, [], ◌+◌, ◌*◌, ◌≤◌, length, drop, option_map};
 ghost use Rattle.words.specs.Writes.{writes};
 ghost use Rattle.inty.specs.Value.{value_of};
+ghost use Rattle.text.specs.Puts.{Puts};
 ghost use Rattle.stream_pieces.specs.Streamed.{streamed, last_line, output_after};
 ghost use Rattle.key_lines.specs.Lines.{text_of, answer_of, line_read, answer, line_output};
 
 use inty::Inty;
+use text::TextMut;
 
 // The place in a piece where the line that has begun starts, how much of the output is used, and whether bytes of that
 // line were dropped.
-// A flag, since the place and the used length are there in both cases; a length, since the output is lent.
+// A flag, since a line of which bytes were dropped starts somewhere too; a length, since the output is lent.
 #[derive(Clone, Copy)]
 pub struct Fed {
     pub at: usize,
@@ -21,27 +23,24 @@ pub struct Fed {
     pub long: bool,
 }
 
-// A place beside the output, here and below: each writes one text, so a writer would be made for it alone.
 #[tactic(auto, unfolding(crate::specs::Lines::text_of))]
-fn put_text(out: &mut [u8], at: usize, r: Option<Inty>) -> usize
-    requires { at + length (text_of (option_map value_of r)) ≤ length out.old }
-    ensures { (result ≡ at + length (text_of (option_map value_of r))) × (out.new ≡ writes out.old at (text_of (option_map value_of r))) }
+fn put_text(text: &mut TextMut, r: Option<Inty>)
+    requires { text.old.at + length (text_of (option_map value_of r)) ≤ length text.old.out.now }
+    ensures { Puts text.old (text_of (option_map value_of r)) 39 text.new }
 {
-    let Some(x) = r else {
-        out[at] = b'-';
-        return at + 1;
-    };
-    decimal::write(out, at, x).unwrap()
+    match r {
+        Some(x) => text.put_wide(x),
+        None => text.put_byte(b'-'),
+    }
 }
 
 #[tactic(auto, unfolding(crate::specs::Lines::answer_of))]
-fn put_answer(out: &mut [u8], at: usize, r: Option<Inty>) -> usize
-    requires { at + length (answer_of (option_map value_of r)) ≤ length out.old }
-    ensures { (result ≡ at + length (answer_of (option_map value_of r))) × (out.new ≡ writes out.old at (answer_of (option_map value_of r))) }
+fn put_answer(text: &mut TextMut, r: Option<Inty>)
+    requires { text.old.at + length (answer_of (option_map value_of r)) ≤ length text.old.out.now }
+    ensures { Puts text.old (answer_of (option_map value_of r)) 40 text.new }
 {
-    let end = put_text(out, at, r);
-    out[end] = b'\n';
-    end + 1
+    put_text(text, r);
+    text.put_byte(b'\n');
 }
 
 #[tactic(auto, unfolding(crate::specs::Lines::line_read))]
@@ -54,14 +53,13 @@ fn read_line(line: &[u8], long: bool) -> Option<Inty>
     keys::key_to_inty(line)
 }
 
-// Writes the answer to a line at `at`, and returns where it ends. If `long`, the line had bytes more, which were
-// dropped.
+// Writes the answer to a line. If `long`, the line had bytes more, which were dropped.
 #[tactic(auto, unfolding(crate::specs::Lines::answer))]
-pub fn answer_line(line: &[u8], long: bool, out: &mut [u8], at: usize) -> usize
-    requires { at + length (answer (record { long = long; line = line.now })) ≤ length out.old }
-    ensures { (result ≡ at + length (answer (record { long = long; line = line.now }))) × (out.new ≡ writes out.old at (answer (record { long = long; line = line.now }))) }
+pub fn answer_line(text: &mut TextMut, line: &[u8], long: bool)
+    requires { text.old.at + length (answer (record { long = long; line = line.now })) ≤ length text.old.out.now }
+    ensures { Puts text.old (answer (record { long = long; line = line.now })) 40 text.new }
 {
-    put_answer(out, at, read_line(line, long))
+    put_answer(text, read_line(line, long));
 }
 
 // Writes the answers to the lines that end in a piece to the start of out. No answer has more than twice the bytes of
@@ -71,15 +69,19 @@ pub fn feed(piece: &[u8], mut long: bool, out: &mut [u8]) -> Fed
     ensures within { (result.at ≤ length piece.now) × (result.used ≤ length out.old) }
     ensures answered { record { bytes = out.new; used = result.used; state = tt; begun = record { long = result.long; line = drop result.at piece.now } } ≡ output_after out.old 0 (streamed line_output tt (record { long = long; line = [] }) piece.now) }
 {
+    let mut text = TextMut { out, at: 0 };
     let mut at = 0;
-    let mut used = 0;
     // No `for`: where a line begins is known once the one before it has ended.
     loop {
         let end = stream_pieces::line_end(piece, at);
         if end == piece.len() {
-            return Fed { at, used, long };
+            return Fed {
+                at,
+                used: text.at,
+                long,
+            };
         }
-        used = answer_line(&piece[at..end], long, out, used);
+        answer_line(&mut text, &piece[at..end], long);
         long = false;
         at = end + 1;
     }
@@ -95,5 +97,7 @@ pub fn last_line(line: &[u8], long: bool, out: &mut [u8]) -> usize
     if !long && line.is_empty() {
         return 0;
     }
-    answer_line(line, long, out, 0)
+    let mut text = TextMut { out, at: 0 };
+    answer_line(&mut text, line, long);
+    text.at
 }

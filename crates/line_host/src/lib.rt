@@ -7,7 +7,7 @@ ghost use Rattle.node.specs.View.{ready};
 ghost use Rattle.line_host.specs.Host.{fresh_host};
 ghost use Rattle.line_host.specs.Follows.{host_of, sound, as_byte};
 
-use ids::{Ballot, Replica, Slot};
+use ids::Replica;
 use node::Node;
 use roster_conf::RespondersConf;
 
@@ -29,22 +29,7 @@ pub struct LineTaken {
 fn no_node() -> Node
     ensures { (mem : List ℕ) → ready result mem ≡ false }
 {
-    Node {
-        id: Replica(0),
-        population: 0,
-        quorum: 0,
-        bodega_conf: RespondersConf::empty(),
-        bal_max_seen: Ballot(0),
-        bal_prep_sent: Ballot(0),
-        bal_prepared: Ballot(0),
-        start_slot: Slot(0),
-        accept_bar: Slot(0),
-        commit_bar: Slot(0),
-        exec_bar: Slot(0),
-        snap_bar: Slot(0),
-        peer_accept_max: Slot(0),
-        slots: 0,
-    }
+    Node::default()
 }
 
 impl Host {

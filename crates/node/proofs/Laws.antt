@@ -8,7 +8,7 @@ use native.Mathlib.Nat.{zero-add}
 use lib.Dec.{ltb, leb}
 use lib.ListN.{length, get_or, set, take, drop, replicate, get_or-replicate}
 use lib.Seq.{get_or-set_other, length-take-le}
-use borrow.Author.Tests.{le-leb, leb-true}
+use borrow.Author.Tests.{leb-true}
 use Rattle.words.specs.Part.{part, splice, part_here, part_before, length_splice, length_part, part_set_above, part_set_first, get_or_part, Untouched, splice_untouched}
 use Rattle.words.specs.Counted.{counted, counted_clear}
 use Rattle.ids.specs.Limits.{replicas}
@@ -20,15 +20,13 @@ use Rattle.node.specs.Begins.{Reset, Gives}
 use Rattle.ids.specs.declared.Ballot.{Ballot}
 use Rattle.ids.specs.declared.Slot.{Slot}
 use Rattle.ids.specs.declared.Replica.{Replica}
-use Rattle.roster_conf.specs.declared.RespondersConf.{RespondersConf}
 use Rattle.node.specs.declared.Node.{Node}
 use Rattle.bodega.specs.Replica.{pair, fresh_pair, fresh}
-use Rattle.roster_conf.specs.Conf.{empty}
-use Rattle.roster_conf.specs.Edits.{view as roster_of}
+use Rattle.roster_conf.proofs.Laws.{default_is}
 use Rattle.words.specs.Tab.{tab, words_from, tab_ext}
 use Rattle.words.proofs.Tests.{and_both}
 use Rattle.layout.specs.Layout.{replica_places, written_places, bars_at, written_row, written_words, roster_words, pair_words, execs_at, rows_at, written_at, node_words}
-use Rattle.std.specs.Prelude.{Ok, Err}
+use Rattle.std.specs.Prelude.{Ok, Err, None}
 use Rattle.ids.specs.declared.Refusal.TheVariants.{NotReady}
 
 -- ---- three parts filled, and one word cleared
@@ -145,16 +143,16 @@ module _ (s : List ℕ) (a : part s 0 replica_places ≡ replicate replica_place
 fresh_execs : (n : ℕ) → n ≤ replicas → words_from n (replicate replica_places 0) 0 ≡ replicate n 0
 fresh_execs n h = tab_ext (λ i. get_or (replicate replica_places 0) i 0) (λ i. 0) 0 n (λ j a b. get_or-replicate {A = ℕ} replicas j 0 0 (omega arith)) ∙ tab_const 0 0 n
 
--- no slots, every ballot and bar 0
-abbrev pub fresh_node : Replica → ℕ → ℕ → RespondersConf → Node
-fresh_node id population quorum c =
+-- no leader, no slots, every ballot and bar 0 but the reading bar
+abbrev pub node_with : Replica → ℕ → ℕ → Slot → Node
+node_with id population quorum max =
     let none : Ballot = record { 0 = 0 } in
     let zero : Slot = record { 0 = 0 } in
     record {
       id = id;
       population = population;
       quorum = quorum;
-      bodega_conf = c;
+      bodega_conf = record { leader = None; count = 0; default = 0 };
       bal_max_seen = none;
       bal_prep_sent = none;
       bal_prepared = none;
@@ -163,7 +161,7 @@ fresh_node id population quorum c =
       commit_bar = zero;
       exec_bar = zero;
       snap_bar = zero;
-      peer_accept_max = record { 0 = 18446744073709551615 };
+      peer_accept_max = max;
       slots = 0;
     }
 
@@ -191,13 +189,13 @@ module _ (id population quorum : ℕ) (s : List ℕ) (t : Bool) (e : t ≡ leb s
       execs : words_from population (part s' execs_at replica_places) 0 ≡ replicate population 0
       execs = rw r.execs (fresh_execs population few)
 
-      pub begun : (i : Replica) (c : RespondersConf) → i.0 ≡ id → ((rows : List ℕ) → roster_of c rows ≡ empty) × (c.count ≤ 64)
-          → Gives (leb size (length s) && in_range id population quorum) id population quorum s (Ok (fresh_node i population quorum c)) s'
+      pub begun : (i : Replica) → i.0 ≡ id
+          → Gives (leb size (length s) && in_range id population quorum) id population quorum s (Ok (node_with i population quorum (record { 0 = 18446744073709551615 }))) s'
       unfolding view fresh ready insts_of
-      begun i c own k = rw (sym e ∙ f) (record { replica = replica; readied = readied; beyond = r.rest })
+      begun i own = rw (sym e ∙ f) (record { replica = replica; readied = readied; beyond = r.rest })
         where
-          replica : view (fresh_node i population quorum c) s' ≡ fresh id population quorum
-          replica = rw (own, pairs, execs, k.0 (part s' rows_at roster_words), r.written)
+          replica : view (node_with i population quorum (record { 0 = 18446744073709551615 })) s' ≡ fresh id population quorum
+          replica = rw (own, pairs, execs, default_is (part s' rows_at roster_words), r.written)
 
-          readied : ready (fresh_node i population quorum c) s' ≡ true
-          readied = rw (l, holds.0, own, holds.1, le-leb c.count 64 k.1)
+          readied : ready (node_with i population quorum (record { 0 = 18446744073709551615 })) s' ≡ true
+          readied = rw (l, holds.0, own, holds.1)

@@ -16,7 +16,7 @@ use insts::{Insts, Window};
 use roster_conf::RespondersConf;
 
 // The slots stand in the lent buffer, so `slots` says how many are held.
-#[derive(Clone, Copy)]
+#[derive(Clone, Copy, Default)]
 pub struct Node {
     pub id: Replica,
     pub population: u8,
@@ -146,17 +146,8 @@ impl Node {
             id,
             population,
             quorum,
-            bodega_conf: RespondersConf::empty(),
-            bal_max_seen: Ballot(0),
-            bal_prep_sent: Ballot(0),
-            bal_prepared: Ballot(0),
-            start_slot: Slot(0),
-            accept_bar: Slot(0),
-            commit_bar: Slot(0),
-            exec_bar: Slot(0),
-            snap_bar: Slot(0),
             peer_accept_max: Slot::BEYOND,
-            slots: 0,
+            ..Node::default()
         })
     }
 

@@ -25,7 +25,7 @@ use Rattle.roster_map.specs.declared.Row.{Row}
 use Rattle.roster_map.specs.Rows.{range_of, ranges_of, Stores}
 use Rattle.roster_map.proofs.Laws.{length_ranges}
 use Rattle.roster_conf.specs.declared.RespondersConf.{RespondersConf}
-use Rattle.roster_conf.specs.Conf.{Conf, get_responders_by_key, leader_without, set_responders, into_filtered}
+use Rattle.roster_conf.specs.Conf.{Conf, empty, get_responders_by_key, leader_without, set_responders, into_filtered}
 use Rattle.roster_conf.specs.Ground.{refusal}
 use Rattle.roster_conf.specs.Edit.{Edit, SetLeader, SetResponders, SetFull, IntoFiltered, ResetFull, edit, grounds, too_many, refused, taken, edit_result}
 use Rattle.roster_conf.specs.Edits.{view, holds_rows, in_range, due, Leaves, Gives, lookup}
@@ -34,6 +34,11 @@ use Rattle.std.specs.Prelude.{Result, Ok, Err, ok_or}
 use Rattle.ids.specs.declared.Refusal.{Refusal}
 use Rattle.ids.specs.declared.Refusal.TheVariants.{NotReady, NoSuchReplica, MaskTooWide, KeyTooLong, UnreadBound, RangeReversed}
 use Rattle.ids.specs.Refusal.{number_of}
+
+-- the default roster
+pub default_is : (rows : List ℕ) → view (record { leader = None; count = 0; default = 0 }) rows ≡ empty
+unfolding view ranges_of
+default_is rows = refl
 
 -- ---- whether the edit can begin
 

@@ -16,7 +16,7 @@ use roster_map::{RangeMap, RangeMapMut, Row};
 
 // `count` of the lent rows are its ranges. A host in C may hand over any count, so that it is at most 64 is no ghost
 // field: the functions that need it ask for it, and for whole rows.
-#[derive(Clone, Copy)]
+#[derive(Clone, Copy, Default)]
 pub struct RespondersConf {
     pub leader: Option<Replica>,
     pub count: usize,
@@ -84,11 +84,7 @@ impl RespondersConf {
     pub fn empty() -> RespondersConf
         ensures { ((rows : List ℕ) → view result rows ≡ empty) × (result.count ≤ 64) }
     {
-        RespondersConf {
-            leader: None,
-            count: 0,
-            default: 0,
-        }
+        RespondersConf::default()
     }
 
     // 2: whether an edit finds whole rows, and the population is 1 to 64.

@@ -1,7 +1,7 @@
 -- Text after text: digits, bytes, fields.
 use mathlib.Core.Path.{◌≡◌, refl, sym, ap, ◌∙◌}
 use mathlib.Core.List.{[], ◌∷◌, ◌++◌, append_assoc}
-use Prim.Native.Nat.{ℕ, ◌+◌, ◌/◌, ◌%◌, ◌^◌, ◌≤◌, ◌<◌}
+use Prim.Native.Nat.{ℕ, ◌+◌, ◌*◌, ◌/◌, ◌%◌, ◌^◌, ◌≤◌, ◌<◌}
 use native.Mathlib.Omega.{arith}
 use lib.ListN.{length, length-append}
 use Rattle.words.specs.Text.{Bytes}
@@ -100,19 +100,22 @@ copied s at k src ys h e f = record { end = refl; bytes = mid_writes s at k ys s
 
 -- ---- a number of 128 bits
 
-module _ (s l : Bytes) (at : ℕ) (x : Inty) (w : Option ℕ) (h : x.hi < 2 ^ 64) (k : x.lo < 2 ^ 64) (room : at + 39 ≤ length s)
-    (p : record { answer = w; bytes = l } ≡ placed s at (decimal (value_of x))) where
-  brief : length (decimal (value_of x)) ≤ 39
-  brief = short_128 (value_of x) (below_top x.hi x.lo h k)
+pub brief : (h l : ℕ) → h < 2 ^ 64 → l < 2 ^ 64 → length (decimal (h * 2 ^ 64 + l)) ≤ 39
+brief h l f g = short_128 (h * 2 ^ 64 + l) (below_top h l f g)
 
+pub brief_low : (l : ℕ) → l < 2 ^ 64 → length (decimal l) ≤ 39
+brief_low l g = omega (arith, short_64 l g)
+
+pub field_room : {t t' : TextMut} → Puts t (44 ∷ []) 1 t' → t.at + 40 ≤ length t.out.now → (n : ℕ) → length (decimal n) ≤ 39 → t'.at + length (decimal n) ≤ length t'.out.now
+field_room p r n b = let w = p.wrote in let s = p.size in omega arith
+
+module _ (s l : Bytes) (at : ℕ) (x : Inty) (w : Option ℕ) (h : x.hi < 2 ^ 64) (k : x.lo < 2 ^ 64) (room : at + length (decimal (value_of x)) ≤ length s)
+    (p : record { answer = w; bytes = l } ≡ placed s at (decimal (value_of x))) where
   wide : (w ≡ Some (at + length (decimal (value_of x)))) × (l ≡ writes s at (decimal (value_of x)))
-  wide = has_room s at (decimal (value_of x)) w l (fit (length (decimal (value_of x))) brief) p
-    where
-      fit : (n : ℕ) → n ≤ 39 → at + n ≤ length s
-      fit n b = omega arith
+  wide = has_room s at (decimal (value_of x)) w l room p
 
   pub wide_some : IsSome w
   wide_some = rw wide.0 refl
 
   pub wide_put : (n : ℕ) → w ≡ Some n → Wrote s at (decimal (value_of x)) 39 n l
-  wide_put n e = record { end = let f = wide.0 in cc; bytes = wide.1; short = brief }
+  wide_put n e = record { end = let f = wide.0 in cc; bytes = wide.1; short = brief x.hi x.lo h k }

@@ -42,8 +42,9 @@ impl<'a> TextMut<'a> {
         self.put_pair(n % 100);
     }
 
+    // Room for the digits is enough, as an answer line of crate key_lines may have no more.
     pub fn put_wide(&mut self, x: Inty)
-        requires { self.old.at + 39 ≤ length self.old.out.now }
+        requires { self.old.at + length (decimal (value_of x)) ≤ length self.old.out.now }
         ensures { Puts self.old (decimal (value_of x)) 39 self.new }
     {
         self.at = decimal::write(self.out, self.at, x).unwrap();

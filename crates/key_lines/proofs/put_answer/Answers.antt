@@ -1,6 +1,7 @@
-use Rattle.std.proofs.Common.{rules}
-use Rattle.key_lines.proofs.Laws as law
+use Rattle.key_lines.specs.Lines.{answer_of}
+use Rattle.text.proofs.Laws as text
 use Rattle.key_lines.proofs.put_answer.Goals as goal
 
 pub returns : goal.returns
-returns c = search (rules, law.line_ends, law.line_put)
+unfolding answer_of
+returns c = text.then c.put_text.ensures c.put_byte.ensures
