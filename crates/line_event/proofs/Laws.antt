@@ -4,7 +4,7 @@ use mathlib.Core.Path.{◌≡◌, refl, sym, ap, subst, ◌∙◌}
 use mathlib.Core.Bool.{Bool, true, false, ◌&&◌, and-true, and-false}
 use mathlib.Core.List.{List, [], ◌∷◌, ◌++◌}
 use Rattle.std.specs.Prelude.{Option, None, Some}
-use Prim.Native.Nat.{ℕ, ◌*◌, ◌<◌, ◌≤◌}
+use Prim.Native.Nat.{ℕ, ◌+◌, ◌*◌, ◌<◌, ◌≤◌}
 use native.Mathlib.Omega.{arith}
 use lib.Dec.{leb, ltb, eqb}
 use lib.ListN.{length, length-append, length-map}
@@ -35,10 +35,9 @@ use Rattle.node.specs.View.{size, view, ready, given_of, in_range as inRangeOf}
 use Rattle.node.proofs.Calls.{is_ready}
 use Rattle.line_fields.specs.Split.{fields_from}
 use Rattle.line_kind.specs.Kind.{kind_of}
-use Rattle.line_fields.specs.Reads.{between, ReadsField}
 use Rattle.line_kind.specs.declared.Kind.{Kind}
-use Rattle.line_fields.specs.declared.Field.{Field}
 use Rattle.line_fields.proofs.Laws.{from_start}
+use Rattle.line_reader.specs.Takes.{FirstBytes}
 use Rattle.line_host.specs.declared.Host as code
 use Rattle.line_host.specs.declared.LineTaken.{LineTaken}
 use Rattle.line_host.specs.Line.{Line, NodeLine, EditLine, ShowLine, HeardLine, CallLine, only, line_by, line_of}
@@ -336,13 +335,18 @@ pub long_line : (h : code.Host) (mem rows area : List ℕ) (s : Bytes) → 1024 
 unfolding answer_line line_of
 long_line h mem rows area s l = rw (lt-ltb 1024 (length s) l) (unknown h mem rows area)
 
-pub by_name : (h : code.Host) (mem rows area mem' rows' area' : List ℕ) (s : Bytes) (f : Field) (k : Kind) (r : Result LineTaken Refusal) → length s ≤ 1024 → ReadsField s 0 f
-    → k ≡ kind_of (between s f.start f.end) → LineFollows (result_by (host_of h mem rows) (line_by k (fields_from s f.next))) h mem rows area r mem' rows' area'
+-- a line has a field, so the first of two cases does not come up
+pub no_name : (h : code.Host) (mem rows area : List ℕ) (s : Bytes) → length s ≤ 1024 → fields_from s 0 ≡ [] → LineFollows (answer_line (host_of h mem rows) s) h mem rows area (Err Malformed) mem rows area
+unfolding answer_line line_of
+no_name h mem rows area s l e = rw (le-ltb 1024 (length s) l, sym (from_start s) ∙ e) (unknown h mem rows area)
+
+pub by_name : (h : code.Host) (mem rows area mem' rows' area' : List ℕ) (s f : Bytes) (k : Kind) (r : Result LineTaken Refusal) → length s ≤ 1024 → FirstBytes s 0 f
+    → k ≡ kind_of f → LineFollows (result_by (host_of h mem rows) (line_by k (fields_from s (0 + length f + 1)))) h mem rows area r mem' rows' area'
     → LineFollows (answer_line (host_of h mem rows) s) h mem rows area r mem' rows' area'
 unfolding answer_line line_of
 by_name h mem rows area mem' rows' area' s f k r l g e a =
-    let q = sym (from_start s) ∙ (g.first (omega arith)).here in
-    rw (le-ltb 1024 (length s) l, q) (subst (λ (y : Kind). LineFollows (result_by (host_of h mem rows) (line_by y (fields_from s f.next))) h mem rows area r mem' rows' area') e a)
+    let q = sym (from_start s) ∙ g.here in
+    rw (le-ltb 1024 (length s) l, q) (subst (λ (y : Kind). LineFollows (result_by (host_of h mem rows) (line_by y (fields_from s (0 + length f + 1)))) h mem rows area r mem' rows' area') e a)
 
 -- ---- no line has more than 546 items
 

@@ -124,8 +124,10 @@ fn hear(host: &mut Host, buffers: &mut Buffers<'_>, line: &[u8]) -> Result<usize
         return Err(Refusal::Malformed);
     }
     let mut reader = LineReader::new(line, 0);
-    let name = reader.next_field();
-    let kind = line_kind::kind_of(&line[name.start..name.end]);
+    let Some(name) = reader.next_field() else {
+        return Err(Refusal::Malformed);
+    };
+    let kind = line_kind::kind_of(name);
     act(host, buffers, kind, reader)
 }
 

@@ -216,8 +216,8 @@ impl Program<'_> {
         requires { (places ≤ 546) × (length line.now ≤ 1024) }
     {
         let mut reader = LineReader::new(line, 0);
-        let name = reader.next_field();
-        let kind = line_kind::kind_of(&line[name.start..name.end]);
+        let name = reader.next_field().unwrap_or(&[]);
+        let kind = line_kind::kind_of(name);
         let mut area: [u64; ITEM_WORDS] = blank();
         let mut groups: [u64; GROUP_WORDS] = blank();
         let words = self.state.words.min(self.mem.len());
