@@ -150,9 +150,6 @@ pub fn event(
     }
     let acted = hear(host, buffers, line);
     let area = &mut *buffers.area;
-    let end = match acted {
-        Ok(count) => line_answer::put_answer(out, n, 0, count, area),
-        Err(refusal) => line_answer::put_answer(out, n, refusal.number(), 0, area),
-    };
+    let end = line_answer::put_answer(out, n, acted, area);
     LineAnswer { acted, end }
 }
