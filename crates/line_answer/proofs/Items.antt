@@ -2,7 +2,7 @@
 use mathlib.Core.Path.{◌≡◌, refl, sym, ap, ◌∙◌}
 use mathlib.Core.Bool.{true, false}
 use mathlib.Core.List.{List, [], ◌∷◌, ◌++◌, append_assoc, append-nil}
-use Rattle.std.specs.Prelude.{None, Some}
+use Rattle.std.specs.Prelude.{None, Some, Ok, Err}
 use Prim.Native.Nat.{ℕ, zero, suc, ◌+◌, ◌*◌, ◌/◌, ◌≤◌, ◌<◌}
 use native.Mathlib.Omega.{arith}
 use lib.ListN.{length, get_or, take, drop}
@@ -16,6 +16,8 @@ use Rattle.decimal.specs.Digits.{decimal, decimal_in}
 use Rattle.items.specs.Item.{Item, Value, Absent, Store, Pass, Hold, Retry, Resend, Commit, Lead, Prelog, Prepare, Span, Rest, item_words, encode, length_encode, encode_snoc}
 use Rattle.line_answer.specs.Text.{line, item_text, items_text, refused_text, taken_text}
 use Rattle.line_answer.specs.Six.{six_text}
+use Rattle.ids.specs.declared.Refusal.{Refusal}
+use Rattle.ids.specs.Refusal.{number_of}
 use Rattle.text.specs.Wrote.{Wrote}
 use Rattle.text.specs.Puts.{Puts}
 use Rattle.text.specs.declared.TextMut.{TextMut}
@@ -127,24 +129,20 @@ listed_more {t} {u} {v} {i} area ws room e f p = record { held = p.held ∙ f.he
 -- ---- an answer
 
 -- `out` is what the lent bytes are in the end
-module _ {t u : TextMut} {n number count : ℕ} {out : Bytes} (area : List ℕ) (start : t.at ≡ 0) (room : 65536 ≤ length t.out.now) where
-  pub answer_refused : (number ≡ 0 → ⊥) → Puts t (line (decimal n ∷ bytes "refused" ∷ decimal number ∷ [])) 64 u → out ≡ u.out.now → Answered t.out.now n number count area u.at out
+module _ {t u : TextMut} {n : ℕ} {out : Bytes} (area : List ℕ) (start : t.at ≡ 0) (room : 65536 ≤ length t.out.now) where
+  pub answer_refused : (x : Refusal) {number : ℕ} → number ≡ number_of x → Puts t (line (decimal n ∷ bytes "refused" ∷ decimal number ∷ [])) 64 u → out ≡ u.out.now → Answered t.out.now n (Err x) area u.at out
   unfolding refused_text
-  answer_refused z p e =
-      let w = rw (start, ← e) at p.wrote in
-      record { within = omega arith; refused = λ _. w; taken = λ l f _. absurd (z f) }
+  answer_refused x z p e =
+      let w = rw (start, ← e, z) at p.wrote in
+      record { within = omega arith; text = w }
 
-  pub answer_taken : {v : TextMut} → count ≤ 546 → number ≡ 0 → Puts t (line (decimal n ∷ bytes "taken" ∷ decimal count ∷ [])) 64 u → Listed u area count v → out ≡ v.out.now
-      → Answered t.out.now n number count area v.at out
+  pub answer_taken : {count : ℕ} {v : TextMut} → count ≤ 546 → Puts t (line (decimal n ∷ bytes "taken" ∷ decimal count ∷ [])) 64 u → Listed u area count v → out ≡ v.out.now
+      → Answered t.out.now n (Ok count) area v.at out
   unfolding taken_text
-  answer_taken m z p f e =
+  answer_taken m p f e =
       let w = p.wrote in
       let b = f.within in
-      record {
-        within = omega arith;
-        refused = λ g. absurd (g z);
-        taken = λ l _ k. rw (start, ← e) at ((then (rw k.0 at p) (f.items l k)).wrote);
-      }
+      record { within = omega arith; text = λ l k. rw (start, ← e) at ((then (rw k.0 at p) (f.items l k)).wrote) }
 
 -- ---- for callers
 

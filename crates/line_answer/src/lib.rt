@@ -1,7 +1,7 @@
 // What is written for a line: text in lent bytes.
 #![tactic(auto)]
 
-ghost use Rattle.std.specs.Prelude.{◌≡◌, [], ◌∷◌, ◌+◌, ◌*◌, ◌≤◌, length, map, slice_index};
+ghost use Rattle.std.specs.Prelude.{◌≡◌, [], ◌∷◌, ◌+◌, ◌*◌, ◌≤◌, length, map, slice_index, IfOk};
 ghost use Rattle.words.specs.Text.{bytes};
 ghost use Rattle.decimal.specs.Digits.{decimal};
 ghost use Rattle.inty.specs.Value.{value_of};
@@ -10,6 +10,7 @@ ghost use Rattle.line_answer.specs.Text.{line};
 ghost use Rattle.line_answer.specs.Six.{leader_field, six_text};
 ghost use Rattle.line_answer.specs.Wrote.{Listed, Answered};
 
+use ids::Refusal;
 use inty::Inty;
 use text::TextMut;
 
@@ -115,18 +116,21 @@ fn put_head(text: &mut TextMut, n: u64, word: &[u8], number: u64)
     text.put_byte(b'\n');
 }
 
-// The text for the n-th line, from what a call gives back: the number of its refusal or 0, how many items it sends, and
-// their area.
-pub fn put_answer(out: &mut [u8], n: u64, number: u64, count: usize, area: &[u64]) -> usize
-    requires { (65536 ≤ length out.old) × (count ≤ 546) × (count * 6 ≤ length area.now) }
-    ensures { Answered out.old n number count area.now result out.new }
+// The text for the n-th line, from what it did: its refusal, or how many items answer it, with their area.
+pub fn put_answer(out: &mut [u8], n: u64, acted: Result<usize, Refusal>, area: &[u64]) -> usize
+    requires { (65536 ≤ length out.old) × IfOk acted (λ count. (count ≤ 546) × (count * 6 ≤ length area.now)) }
+    ensures { Answered out.old n acted area.now result out.new }
 {
     let mut text = TextMut { out, at: 0 };
-    if number != 0 {
-        put_head(&mut text, n, b"refused", number);
-        return text.at;
+    match acted {
+        Ok(count) => {
+            put_head(&mut text, n, b"taken", count as u64);
+            put_items(&mut text, area, count);
+            text.at
+        }
+        Err(refusal) => {
+            put_head(&mut text, n, b"refused", refusal.number());
+            text.at
+        }
     }
-    put_head(&mut text, n, b"taken", count as u64);
-    put_items(&mut text, area, count);
-    text.at
 }

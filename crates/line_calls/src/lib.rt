@@ -30,17 +30,14 @@ fn read_call<'a>(mut reader: LineReader<'a>) -> Option<Asked<'a>>
     let client = reader.next_number()?;
     let request = reader.next_number()?;
     let leases = reader.next_number()?;
-    if reader.is_ended() {
-        return None;
-    }
-    let key = reader.next_field();
+    let key = reader.next_field()?;
     reader.is_ended().then_some(Asked {
         call: Call::Read {
             client,
             request,
             leases,
         },
-        key: &reader.line[key.start..key.end],
+        key,
     })
 }
 

@@ -30,14 +30,12 @@ fn range_line(
 ) -> Result<RespondersConf, Refusal>
     ensures { EditsLine (is_edit Range (fields_from reader.entry.line.now reader.entry.at)) (edit_of Range (fields_from reader.entry.line.now reader.entry.at)) population draft rows.old result rows.new }
 {
-    let start = reader.next_field();
-    let end = reader.next_field();
+    let start = reader.next_field().ok_or(Refusal::Malformed)?;
+    let end = reader.next_field().ok_or(Refusal::Malformed)?;
     let mask = reader.next_number().ok_or(Refusal::Malformed)?;
     if !reader.is_ended() {
         return Err(Refusal::Malformed);
     }
-    let start = &reader.line[start.start..start.end];
-    let end = &reader.line[end.start..end.end];
     draft.set_responders(rows, population, start, end, mask)
 }
 

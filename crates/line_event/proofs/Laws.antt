@@ -4,7 +4,7 @@ use mathlib.Core.Path.{◌≡◌, refl, sym, ap, subst, ◌∙◌}
 use mathlib.Core.Bool.{Bool, true, false, ◌&&◌, and-true, and-false}
 use mathlib.Core.List.{List, [], ◌∷◌, ◌++◌}
 use Rattle.std.specs.Prelude.{Option, None, Some}
-use Prim.Native.Nat.{ℕ, ◌*◌, ◌<◌, ◌≤◌}
+use Prim.Native.Nat.{ℕ, ◌+◌, ◌*◌, ◌<◌, ◌≤◌}
 use native.Mathlib.Omega.{arith}
 use lib.Dec.{leb, ltb, eqb}
 use lib.ListN.{length, length-append, length-map}
@@ -32,29 +32,27 @@ use Rattle.bodega.proofs.Taken.{refused_not_0}
 use Rattle.node.specs.declared.Node.{Node}
 use Rattle.node.specs.declared.Taken as code-taken
 use Rattle.node.specs.View.{size, view, ready, given_of, in_range as inRangeOf}
-use Rattle.node.proofs.Calls.{is_ready}
+use Rattle.node.proofs.Calls.{is_ready, number-not-0}
 use Rattle.line_fields.specs.Split.{fields_from}
 use Rattle.line_kind.specs.Kind.{kind_of}
-use Rattle.line_fields.specs.Reads.{between, ReadsField}
 use Rattle.line_kind.specs.declared.Kind.{Kind}
-use Rattle.line_fields.specs.declared.Field.{Field}
 use Rattle.line_fields.proofs.Laws.{from_start}
+use Rattle.line_reader.specs.Takes.{FirstBytes}
 use Rattle.line_host.specs.declared.Host as code
-use Rattle.line_host.specs.declared.LineTaken.{LineTaken}
 use Rattle.line_host.specs.Line.{Line, NodeLine, EditLine, ShowLine, HeardLine, CallLine, only, line_by, line_of}
 use Rattle.line_host.specs.Host.{Host, LineResult, refused_line, first_line, line_at, answer_line, text_of}
 use Rattle.line_host.specs.Host as lines
-use Rattle.line_host.specs.Follows.{host_of, sound, LineGiven, line_given, LineFollowsBy, LineFollows, result_by, AnswersLine, EditsLine}
+use Rattle.line_host.specs.Follows.{host_of, sound, LineTaken, LineGiven, line_given, LineFollowsBy, LineFollows, result_by, AnswersLine, EditsLine}
 use Rattle.line_draft.specs.Drafts.{ShowsLine, Refuses, BeginsLine, BeginsBy}
 use Rattle.line_answer.specs.Text.{refused_text}
 use Rattle.text.specs.Wrote.{Wrote}
-use Rattle.line_answer.specs.Wrote.{Answered}
+use Rattle.line_answer.specs.Wrote.{Says, Answered}
 use Rattle.line_answer.proofs.Items.{holds}
 use Rattle.words.specs.Writes.{length_writes}
 use Rattle.layout.specs.Layout.{roster_words, node_words}
 use Rattle.line_event.specs.Ways as ways
 use Rattle.line_event.specs.Event.{whole, fit, due_in, due as due-line, told, Stays, AnswersEvent}
-use Rattle.std.specs.Prelude.{Result, Ok, Err, option_map}
+use Rattle.std.specs.Prelude.{Result, Ok, Err, IfOk, option_map}
 use Rattle.std.specs.Bool.{then_some}
 use Rattle.ids.specs.declared.Refusal.{Refusal}
 use Rattle.ids.specs.declared.Refusal.TheVariants.{Malformed, NotReady}
@@ -336,13 +334,18 @@ pub long_line : (h : code.Host) (mem rows area : List ℕ) (s : Bytes) → 1024 
 unfolding answer_line line_of
 long_line h mem rows area s l = rw (lt-ltb 1024 (length s) l) (unknown h mem rows area)
 
-pub by_name : (h : code.Host) (mem rows area mem' rows' area' : List ℕ) (s : Bytes) (f : Field) (k : Kind) (r : Result LineTaken Refusal) → length s ≤ 1024 → ReadsField s 0 f
-    → k ≡ kind_of (between s f.start f.end) → LineFollows (result_by (host_of h mem rows) (line_by k (fields_from s f.next))) h mem rows area r mem' rows' area'
+-- a line has a field, so the first of two cases does not come up
+pub no_name : (h : code.Host) (mem rows area : List ℕ) (s : Bytes) → length s ≤ 1024 → fields_from s 0 ≡ [] → LineFollows (answer_line (host_of h mem rows) s) h mem rows area (Err Malformed) mem rows area
+unfolding answer_line line_of
+no_name h mem rows area s l e = rw (le-ltb 1024 (length s) l, sym (from_start s) ∙ e) (unknown h mem rows area)
+
+pub by_name : (h : code.Host) (mem rows area mem' rows' area' : List ℕ) (s f : Bytes) (k : Kind) (r : Result LineTaken Refusal) → length s ≤ 1024 → FirstBytes s 0 f
+    → k ≡ kind_of f → LineFollows (result_by (host_of h mem rows) (line_by k (fields_from s (0 + length f + 1)))) h mem rows area r mem' rows' area'
     → LineFollows (answer_line (host_of h mem rows) s) h mem rows area r mem' rows' area'
 unfolding answer_line line_of
 by_name h mem rows area mem' rows' area' s f k r l g e a =
-    let q = sym (from_start s) ∙ (g.first (omega arith)).here in
-    rw (le-ltb 1024 (length s) l, q) (subst (λ (y : Kind). LineFollows (result_by (host_of h mem rows) (line_by y (fields_from s f.next))) h mem rows area r mem' rows' area') e a)
+    let q = sym (from_start s) ∙ g.here in
+    rw (le-ltb 1024 (length s) l, q) (subst (λ (y : Kind). LineFollows (result_by (host_of h mem rows) (line_by y (fields_from s (0 + length f + 1)))) h mem rows area r mem' rows' area') e a)
 
 -- ---- no line has more than 546 items
 
@@ -481,24 +484,28 @@ module _ (h : code.Host) (mem rows area groups : List ℕ) (out line : Bytes) wh
     few_of next (lines.Refusal k) p g = (omega (arith, g.count), omega (arith, g.count))
     few_of next (lines.Items m) p g = (omega (arith, p.0, g.count), omega (arith, p.0, p.1, g.count, ap length g.items ∙ length_writes area 0 (encode m)))
 
-    pub few_items : (given.count ≤ 546) × (given.count * 6 ≤ length area')
-    few_items = few_of _ (due_in h mem rows area groups line).outcome fits x
+    pub few_items : IfOk a (λ count. (count ≤ 546) × (count * 6 ≤ length area'))
+    few_items = go a (few_of _ (due_in h mem rows area groups line).outcome fits x)
+      where
+        go : (b : Result ℕ Refusal) → ((line_given h (told h' b)).count ≤ 546) × ((line_given h (told h' b)).count * 6 ≤ length area') → IfOk b (λ count. (count ≤ 546) × (count * 6 ≤ length area'))
+        go (Ok count) f = f
+        go (Err refusal) f = tt
 
-    module _ (n end : ℕ) (out' : Bytes) (w : Answered out n given.number given.count area' end out') where
-      wrote : (next : Host) (y : lines.Outcome) → Fits area y → LineFollowsBy next y h mem rows area given mem' rows' area' → Wrote out 0 (text_of n y) 65536 end out'
-      wrote next (lines.Refusal k) p g =
-          let v = w.refused (λ z. omega (arith, z, g.number, g.refused)) in
-          subst (λ (i : ℕ). Wrote out 0 (refused_text n i) 65536 end out') g.number (record { end = v.end; bytes = v.bytes; short = omega (arith, v.short) })
-      wrote next (lines.Items m) p g =
-          let v = w.taken m g.number (holds area area' m given.count g.count (omega (arith, p.0, p.1, g.count, ap length g.items ∙ length_writes area 0 (encode m))) g.items) in
-          record { end = v.end; bytes = v.bytes; short = omega (arith, v.short, p.0, g.count) }
+    module _ (n end : ℕ) (out' : Bytes) (w : Answered out n a area' end out') where
+      wrote : (b : Result ℕ Refusal) (next : Host) (y : lines.Outcome) → Fits area y → LineFollowsBy next y h mem rows area (line_given h (told h' b)) mem' rows' area' → Says out n b area' end out' → Wrote out 0 (text_of n y) 65536 end out'
+      wrote (Err refusal) next (lines.Refusal k) p g v = subst (λ (i : ℕ). Wrote out 0 (refused_text n i) 65536 end out') g.number (record { end = v.end; bytes = v.bytes; short = omega (arith, v.short) })
+      wrote (Err refusal) next (lines.Items m) p g v = absurd (number-not-0 refusal g.number)
+      wrote (Ok count) next (lines.Refusal k) p g v = absurd (omega (arith, g.number, g.refused))
+      wrote (Ok count) next (lines.Items m) p g v =
+          let t = v m (holds area area' m count g.count (omega (arith, p.0, p.1, g.count, ap length g.items ∙ length_writes area 0 (encode m))) g.items) in
+          record { end = t.end; bytes = t.bytes; short = omega (arith, t.short, p.0, g.count) }
 
       pub tells : (groups' : List ℕ) → length groups' ≡ length groups → Stays h a h' → AnswersEvent h mem rows area groups n line out (record { acted = a; end = end }) h' mem' rows' area' groups' out'
       tells groups' q s =
           record {
             acts = subst (λ (y : LineResult). LineFollows y h mem rows area (told h' a) mem' rows' area') same_due x;
             stays = s;
-            text = λ m. subst (λ (y : LineResult). Wrote out 0 (text_of n y.outcome) 65536 end out') same_due (wrote _ (due_in h mem rows area groups line).outcome fits x);
+            text = λ m. subst (λ (y : LineResult). Wrote out 0 (text_of n y.outcome) 65536 end out') same_due (wrote a _ (due_in h mem rows area groups line).outcome fits x w.text);
             silent = λ m. absurd (omega arith);
             groups_size = q;
           }

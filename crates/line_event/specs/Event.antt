@@ -7,9 +7,8 @@ use Rattle.items.specs.Item.{places}
 use Rattle.roster_conf.specs.declared.RespondersConf.{RespondersConf}
 use Rattle.text.specs.Wrote.{Wrote}
 use Rattle.line_host.specs.declared.Host.{Host}
-use Rattle.line_host.specs.declared.LineTaken.{LineTaken}
 use Rattle.line_host.specs.Host.{LineResult, refused_line, answer_line, text_of}
-use Rattle.line_host.specs.Follows.{host_of, sound, LineFollows}
+use Rattle.line_host.specs.Follows.{host_of, sound, LineTaken, LineFollows}
 use Rattle.line_event.specs.declared.LineAnswer.{LineAnswer}
 
 -- buffers that are long enough, and an answer area of 546 places

@@ -4,7 +4,7 @@ use Rattle.ids.specs.declared.Refusal.{Refusal}
 use Rattle.roster_conf.specs.declared.RespondersConf.{RespondersConf}
 use Rattle.node.specs.declared.Taken.{Taken}
 use Rattle.line_host.specs.declared.Host.{Host}
-use Rattle.line_host.specs.declared.LineTaken.{LineTaken}
+use Rattle.line_host.specs.Follows.{LineTaken}
 
 abbrev pub called : Host → Result Taken Refusal → Result LineTaken Refusal
 called h (Ok t) = Ok (record { host = record { node = t.node; draft = h.draft }; count = t.count })

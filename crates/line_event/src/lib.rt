@@ -124,8 +124,10 @@ fn hear(host: &mut Host, buffers: &mut Buffers<'_>, line: &[u8]) -> Result<usize
         return Err(Refusal::Malformed);
     }
     let mut reader = LineReader::new(line, 0);
-    let name = reader.next_field();
-    let kind = line_kind::kind_of(&line[name.start..name.end]);
+    let Some(name) = reader.next_field() else {
+        return Err(Refusal::Malformed);
+    };
+    let kind = line_kind::kind_of(name);
     act(host, buffers, kind, reader)
 }
 
@@ -148,9 +150,6 @@ pub fn event(
     }
     let acted = hear(host, buffers, line);
     let area = &mut *buffers.area;
-    let end = match acted {
-        Ok(count) => line_answer::put_answer(out, n, 0, count, area),
-        Err(refusal) => line_answer::put_answer(out, n, refusal.number(), 0, area),
-    };
+    let end = line_answer::put_answer(out, n, acted, area);
     LineAnswer { acted, end }
 }

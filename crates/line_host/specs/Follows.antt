@@ -17,7 +17,6 @@ use Rattle.node.specs.declared.Node.{Node}
 use Rattle.node.specs.declared.Taken.{Taken}
 use Rattle.node.specs.View.{size, view, ready, given_of}
 use Rattle.line_host.specs.declared.Host as code
-use Rattle.line_host.specs.declared.LineTaken.{LineTaken}
 use Rattle.line_host.specs.Host.{Host, Outcome, LineResult, refused_line, at_host}
 use Rattle.line_host.specs.Host as lines
 use Rattle.line_host.specs.Line.{Line}
@@ -34,7 +33,12 @@ sound draft mem rows = leb size (length mem) && holds_rows (length rows) draft.c
 
 -- ---- what a line comes to
 
--- what a line gives: the number of a refusal or 0, the number of its items, the host
+-- what a line gives that is taken: the host after it, and how many items answer it
+pub record LineTaken : Type 0 where
+  pub host : code.Host
+  pub count : ℕ
+
+-- what any line gives: the number of a refusal or 0, the number of its items, the host
 pub record LineGiven : Type 0 where
   pub number : ℕ
   pub count : ℕ

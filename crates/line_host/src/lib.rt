@@ -17,14 +17,6 @@ pub struct Host {
     pub draft: RespondersConf,
 }
 
-// What a line gives that is taken: the host after it, and how many items it answers. A line that is refused leaves the
-// host as it was. The items stand in a lent area (no heap), so their number goes beside it.
-#[derive(Clone, Copy)]
-pub struct LineTaken {
-    pub host: Host,
-    pub count: usize,
-}
-
 // No node of population 0 is made by a call.
 fn no_node() -> Node
     ensures { (mem : List ℕ) → ready result mem ≡ false }

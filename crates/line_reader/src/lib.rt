@@ -6,8 +6,6 @@ ghost use Rattle.line_fields.specs.Split.{fields_from};
 ghost use Rattle.line_fields.specs.Reads.{none_left, ReadsNumbers};
 ghost use Rattle.line_reader.specs.Takes.{TakesField, TakesNumber, TakesNumbers, TakesOptional};
 
-use line_fields::Field;
-
 #[derive(Clone, Copy)]
 pub struct LineReader<'a> {
     pub line: &'a [u8],
@@ -28,13 +26,16 @@ impl<'a> LineReader<'a> {
         line_fields::ended(self.line, self.at)
     }
 
-    // The first field that is left. The reader moves on to the one after it.
-    pub fn next_field(&mut self) -> Field
+    // The bytes of the first field that is left. The reader moves on to the one after it.
+    pub fn next_field(&mut self) -> Option<&'a [u8]>
         ensures { TakesField self.old result self.new }
     {
+        if self.is_ended() {
+            return None;
+        }
         let field = line_fields::field_at(self.line, self.at);
         self.at = field.next;
-        field
+        Some(&self.line[field.start..field.end])
     }
 
     // The first field that is left, if it is a number. The reader then moves on to the one after it.

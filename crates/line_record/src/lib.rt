@@ -6,14 +6,14 @@ ghost use Rattle.words.specs.Writes.{writes};
 ghost use Rattle.line_fields.specs.Split.{fields_from};
 ghost use Rattle.line_host.specs.Line.{is_record, record_of};
 ghost use Rattle.line_host.specs.Follows.{AnswersLine};
-ghost use Rattle.line_record.specs.Groups.{row_of, ReadsGroup, ReadsGroups};
+ghost use Rattle.line_record.specs.Groups.{row_of, TakesGroup, ReadsGroups};
 
 use call_apply::Call;
 use ids::{Ballot, Refusal, Slot};
 use line_reader::LineReader;
 use node::{Node, Taken};
 
-// CLIENT,REQUEST,KEY,VALUE, the key by its start and length in the line; where the group after it begins.
+// CLIENT,REQUEST,KEY,VALUE, the key by its start and length in the line, as a batch's row has it.
 #[derive(Clone, Copy)]
 struct Group {
     client: u64,
@@ -21,24 +21,23 @@ struct Group {
     value: Option<u64>,
     start: u64,
     length: u64,
-    next: usize,
 }
 
-// The first group that is left.
-fn group_at(mut reader: LineReader<'_>) -> Option<Group>
-    ensures { ReadsGroup reader.entry.line.now reader.entry.at result }
+// The first group that is left. The reader moves on to the one after it.
+fn group_at(reader: &mut LineReader<'_>) -> Option<Group>
+    ensures { TakesGroup reader.old result reader.new }
 {
     let client = reader.next_number()?;
     let request = reader.next_number()?;
-    let key = reader.next_field();
+    let start = reader.at;
+    let key = reader.next_field()?;
     let value = reader.next_optional()?;
     Some(Group {
         client,
         request,
         value,
-        start: key.start as u64,
-        length: (key.end - key.start) as u64,
-        next: reader.at,
+        start: start as u64,
+        length: key.len() as u64,
     })
 }
 
@@ -67,9 +66,8 @@ fn groups_at(groups: &mut [u64], mut reader: LineReader<'_>) -> Option<usize>
         if reader.is_ended() {
             return Some(count);
         }
-        let group = group_at(reader)?;
+        let group = group_at(&mut reader)?;
         put_group(groups, count, group);
-        reader.at = group.next;
     }
     Some(257)
 }

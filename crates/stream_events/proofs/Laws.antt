@@ -19,6 +19,7 @@ use Rattle.words.specs.Part.{splice, splice_same}
 use Rattle.words.specs.Writes.{writes, length_writes}
 use Rattle.std.specs.Prelude.{Result, Ok, Err}
 use Rattle.ids.specs.declared.Refusal as code-refusal
+use Rattle.ids.specs.declared.Refusal.TheVariants.{Malformed}
 use Rattle.ids.specs.Limits.{items}
 use Rattle.items.specs.Item.{Item, places, encode}
 use Rattle.roster_conf.specs.Edit as edits
@@ -156,11 +157,11 @@ module _ (h : code.Host) (mem rows area groups : List ℕ) (n : ℕ) (line out :
 
 module _ (c : LineState) (mem rows area groups : List ℕ) (line out : Bytes) (long : Bool) (m : ℕ) (lent : Lent c.host mem rows area groups) (b : m ≡ bumped c.number) where
   -- bytes of the line were dropped
-  pub says_long : (e : ℕ) (out' : Bytes) → long ≡ true → Answered out c.number 1 0 area e out'
+  pub says_long : (e : ℕ) (out' : Bytes) → long ≡ true → Answered out c.number (Err Malformed) area e out'
       → WritesLine c mem rows (record { long = long; line = line }) out (record { state = record { host = c.host; number = m }; end = e }) mem rows area groups out'
   unfolding line_output result_of state_of
   says_long e out' l a =
-      let w : Wrote out 0 (refused_text c.number 1) 64 e out' = a.refused (λ z. omega arith) in
+      let w : Wrote out 0 (refused_text c.number 1) 64 e out' = a.text in
       record { next = rw (l, b); text = rw l (record { end = w.end; bytes = w.bytes; short = omega (arith, w.short) }); lent = lent }
 
   -- none were

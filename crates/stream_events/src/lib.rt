@@ -72,7 +72,7 @@ pub fn one(
     let number = from.number.saturating_add(1);
     if long {
         let area = &mut *buffers.area;
-        let end = line_answer::put_answer(out, from.number, Refusal::Malformed.number(), 0, area);
+        let end = line_answer::put_answer(out, from.number, Err(Refusal::Malformed), area);
         return LineWritten {
             state: LineState { number, ..from },
             end,

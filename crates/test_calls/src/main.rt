@@ -132,15 +132,13 @@ fn say_answer(
     done: Result<Done, Refusal>,
     area: &[u64],
 ) -> io::Result<()> {
-    let (number, count) = match done {
-        Ok(done) => (0, done.count),
-        Err(refusal) => (refusal.number(), 0),
-    };
+    let acted = done.map(|done| done.count);
+    let count = acted.unwrap_or(0);
     if ITEM_PLACES < count || area.len() < count * 6 {
         return Ok(());
     }
     let mut out: [u8; TEXT_BYTES] = blank();
-    let end = line_answer::put_answer(&mut out, line, number, count, area);
+    let end = line_answer::put_answer(&mut out, line, acted, area);
     output.write_all(&out[..end])
 }
 
@@ -216,8 +214,8 @@ impl Program<'_> {
         requires { (places ≤ 546) × (length line.now ≤ 1024) }
     {
         let mut reader = LineReader::new(line, 0);
-        let name = reader.next_field();
-        let kind = line_kind::kind_of(&line[name.start..name.end]);
+        let name = reader.next_field().unwrap_or(&[]);
+        let kind = line_kind::kind_of(name);
         let mut area: [u64; ITEM_WORDS] = blank();
         let mut groups: [u64; GROUP_WORDS] = blank();
         let words = self.state.words.min(self.mem.len());

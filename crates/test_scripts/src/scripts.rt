@@ -23,15 +23,14 @@ struct Header<'a> {
 
 fn read_header(line: &[u8]) -> Option<Header<'_>> {
     let mut reader = LineReader::new(line, 0);
-    let word = reader.next_field();
-    if &line[word.start..word.end] != b"script".as_slice() {
+    if reader.next_field()? != b"script".as_slice() {
         return None;
     }
-    let name = reader.next_field();
+    let name = reader.next_field()?;
     let input = reader.next_number()?;
     let answers = reader.next_number()?;
     reader.is_ended().then_some(Header {
-        name: &line[name.start..name.end],
+        name,
         input: input as usize,
         answers: answers as usize,
     })

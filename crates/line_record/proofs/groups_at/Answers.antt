@@ -1,5 +1,6 @@
-use mathlib.Core.Path.{refl}
+use mathlib.Core.Path.{refl, ap, ◌∙◌}
 use native.Mathlib.Omega.{arith}
+use Rattle.line_reader.specs.declared.LineReader.{LineReader}
 use Rattle.line_record.proofs.Laws as law
 use Rattle.line_record.proofs.groups_at.Goals as goal
 
@@ -14,7 +15,7 @@ returns-in_err-group c = rw c.from_residual.ensures (law.grouped_bad _ _ _ _ c.l
 
 pub loop-count-preserved : goal.loop-count-preserved
 loop-count-preserved c =
-    (law.grouped_more _ _ _ _ c.loop-count.reader _ c.loop-count.invariant.0 c.loop-count.invariant.1 _ _ c.loop-count-test.true c.requires.1 c.in_ok-group.ensures c.put_group.ensures, c.loop-count.invariant.1)
+    (law.grouped_more _ _ _ _ c.loop-count.reader _ c.loop-count.invariant.0 c.loop-count.invariant.1 _ _ _ c.loop-count-test.true c.requires.1 c.in_ok-group.ensures.0 c.put_group.ensures, ap (λ (r : LineReader). r.line) c.in_ok-group.ensures.1 ∙ c.loop-count.invariant.1)
 
 pub returns : goal.returns
 returns c =

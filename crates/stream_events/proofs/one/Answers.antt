@@ -4,7 +4,7 @@ use Rattle.stream_events.proofs.one.Goals as goal
 
 pub returns-then-long-clause-writes : goal.returns-then-long-clause-writes
 returns-then-long-clause-writes c =
-    law.says_long _ _ _ _ _ _ _ _ _ c.requires.0 (law.counted _ _ (omega arith) c.saturating_add-number.ensures) _ _ c.if-long.true (rw c.number.ensures at c.put_answer-end.ensures)
+    law.says_long _ _ _ _ _ _ _ _ _ c.requires.0 (law.counted _ _ (omega arith) c.saturating_add-number.ensures) _ _ c.if-long.true c.put_answer-end.ensures
 
 pub returns-clause-writes : goal.returns-clause-writes
 returns-clause-writes c =
