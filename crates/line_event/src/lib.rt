@@ -107,7 +107,7 @@ fn is_fit(host: Host, buffers: &Buffers<'_>) -> bool
     ensures { let b = buffers.now in result ≡ whole host.draft b.mem.now b.rows.now b.area.now b.groups.now }
 {
     line_host::is_sound(host.draft, buffers.mem, buffers.rows)
-        && buffers.area.len() / 6 == ITEM_PLACES
+        && items::places(buffers.area) == ITEM_PLACES
         && GROUP_WORDS <= buffers.groups.len()
 }
 
