@@ -115,14 +115,15 @@ impl Program<'_> {
                 ..from
             }));
         }
-        let said = stream_events::last_line(
-            from.place.state,
+        let mut state = from.place.state;
+        let end = stream_events::last_line(
+            &mut state,
             &mut self.buffers,
             from.place.long,
             &self.buf[..from.end],
             self.out,
         );
-        write(self.output, &self.out[..said.end])?;
+        write(self.output, &self.out[..end])?;
         Ok(None)
     }
 

@@ -39,10 +39,9 @@ use Rattle.stream_pieces.specs.Pieces.{before}
 use Rattle.stream_pieces.specs.Streamed.{streamed, last_line, output_after}
 use Rattle.stream_pieces.proofs.Laws.{line_none, line_below, done_line}
 use Rattle.stream_events.specs.declared.LineState.{LineState}
-use Rattle.stream_events.specs.declared.LineWritten.{LineWritten}
 use Rattle.stream_events.specs.declared.Place.{Place}
 use Rattle.stream_events.specs.Lines.{State, start, bumped, result_of, line_output, last_state}
-use Rattle.stream_events.specs.Fed.{Lent, state_of, WritesLine, WritesLastLine, WritesLines}
+use Rattle.stream_events.specs.Fed.{Lent, LineWritten, state_of, WritesLine, WritesLastLine, WritesLines}
 
 -- ---- the number of the next line
 pub counted : (n m : ℕ) → n < 2 ^ 64 → m ≡ min (n + 1) (2 ^ 64 - 1) → m ≡ bumped n

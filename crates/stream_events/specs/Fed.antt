@@ -10,7 +10,6 @@ use Rattle.line_host.specs.Follows.{host_of, sound}
 use Rattle.stream_pieces.specs.Pieces.{Begun, before}
 use Rattle.stream_pieces.specs.Streamed.{streamed, last_line, output_after}
 use Rattle.stream_events.specs.declared.LineState.{LineState}
-use Rattle.stream_events.specs.declared.LineWritten.{LineWritten}
 use Rattle.stream_events.specs.declared.Place.{Place}
 use Rattle.stream_events.specs.declared.Fed.{Fed}
 use Rattle.stream_events.specs.Lines.{State, line_output, last_state}
@@ -27,6 +26,11 @@ LentBy h b = Lent h b.mem.now b.rows.now b.area.now b.groups.now
 
 unfoldable pub state_of : LineState → List ℕ → List ℕ → State
 state_of c mem rows = record { host = host_of c.host mem rows; number = c.number }
+
+-- what a line leaves, and where its text ends
+pub record LineWritten : Type 0 where
+  pub state : LineState
+  pub end : ℕ
 
 -- a line was answered, and its text is at the start of out; words of area and groups are free
 pub record WritesLine (c : LineState) (mem rows : List ℕ) (b : Begun) (out : Bytes) (r : LineWritten) (mem' rows' area' groups' : List ℕ) (out' : Bytes) : Type 0 where

@@ -19,13 +19,6 @@ pub struct LineState {
     pub number: u64,
 }
 
-// What a line leaves, and where its text ends: a length, since the output is lent.
-#[derive(Clone, Copy)]
-pub struct LineWritten {
-    pub state: LineState,
-    pub end: usize,
-}
-
 // A place in a piece: where the next line starts, what it finds, and whether bytes of it were dropped.
 // A flag, since a line of which bytes were dropped starts somewhere too.
 #[derive(Clone, Copy)]
@@ -57,33 +50,25 @@ impl LineState {
     }
 }
 
-// Answers a line. If `long`, the line had bytes more, which were dropped.
+// Answers a line, and says where its text ends. If `long`, the line had bytes more, which were dropped.
 pub fn one(
-    from: LineState,
+    state: &mut LineState,
     buffers: &mut Buffers<'_>,
     long: bool,
     line: &[u8],
     out: &mut [u8],
-) -> LineWritten
-    requires { LentBy from.host buffers.old × (65536 ≤ length out.old) }
+) -> usize
+    requires { LentBy state.old.host buffers.old × (65536 ≤ length out.old) }
     ensures same { SameBuffers buffers.old buffers.new }
-    ensures writes { let b = buffers.old in let b' = buffers.new in WritesLine from b.mem.now b.rows.now (record { long = long; line = line.now }) out.old result b'.mem.now b'.rows.now b'.area.now b'.groups.now out.new }
+    ensures writes { let b = buffers.old in let b' = buffers.new in WritesLine state.old b.mem.now b.rows.now (record { long = long; line = line.now }) out.old (record { state = state.new; end = result }) b'.mem.now b'.rows.now b'.area.now b'.groups.now out.new }
 {
-    let number = from.number.saturating_add(1);
+    let number = state.number;
+    state.number = number.saturating_add(1);
     if long {
         let area = &mut *buffers.area;
-        let end = line_answer::put_answer(out, from.number, Err(Refusal::Malformed), area);
-        return LineWritten {
-            state: LineState { number, ..from },
-            end,
-        };
+        return line_answer::put_answer(out, number, Err(Refusal::Malformed), area);
     }
-    let mut host = from.host;
-    let heard = line_event::event(&mut host, buffers, from.number, line, out);
-    LineWritten {
-        state: LineState { host, number },
-        end: heard.end,
-    }
+    line_event::event(&mut state.host, buffers, number, line, out).end
 }
 
 // Answers the lines of a piece from a place on, while the output has room for any answer.
@@ -104,19 +89,15 @@ pub fn feed(piece: &[u8], from: Place, buffers: &mut Buffers<'_>, out: &mut [u8]
                 more: false,
             };
         }
-        let said = one(
-            place.state,
+        used += one(
+            &mut place.state,
             buffers,
             place.long,
             &piece[place.at..end],
             &mut out[used..],
         );
-        used += said.end;
-        place = Place {
-            at: end + 1,
-            state: said.state,
-            long: false,
-        };
+        place.at = end + 1;
+        place.long = false;
     }
     Fed {
         place,
@@ -132,24 +113,21 @@ fn is_line(long: bool, line: &[u8]) -> bool
     long || !line.is_empty()
 }
 
-// Answers a last line without a newline, if it has a byte.
+// Answers a last line without a newline, if it has a byte, and says where its text ends.
 pub fn last_line(
-    from: LineState,
+    state: &mut LineState,
     buffers: &mut Buffers<'_>,
     long: bool,
     line: &[u8],
     out: &mut [u8],
-) -> LineWritten
-    requires { LentBy from.host buffers.old × (65536 ≤ length out.old) }
+) -> usize
+    requires { LentBy state.old.host buffers.old × (65536 ≤ length out.old) }
     ensures same { SameBuffers buffers.old buffers.new }
-    ensures writes { let b = buffers.old in let b' = buffers.new in WritesLastLine from b.mem.now b.rows.now (record { long = long; line = line.now }) out.old result b'.mem.now b'.rows.now b'.area.now b'.groups.now out.new }
+    ensures writes { let b = buffers.old in let b' = buffers.new in WritesLastLine state.old b.mem.now b.rows.now (record { long = long; line = line.now }) out.old (record { state = state.new; end = result }) b'.mem.now b'.rows.now b'.area.now b'.groups.now out.new }
 {
     if is_line(long, line) {
-        one(from, buffers, long, line, out)
+        one(state, buffers, long, line, out)
     } else {
-        LineWritten {
-            state: from,
-            end: 0,
-        }
+        0
     }
 }

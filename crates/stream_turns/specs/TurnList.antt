@@ -4,9 +4,8 @@ use Rattle.words.specs.Text.{Bytes}
 use Rattle.line_host.specs.Host.{fresh_host, answer_lines}
 use Rattle.stream_pieces.specs.Pieces.{none_begun, concat}
 use Rattle.stream_pieces.specs.Streamed.{streamed}
-use Rattle.stream_events.specs.declared.LineWritten.{LineWritten}
 use Rattle.stream_events.specs.Lines.{start, line_output, lines_of}
-use Rattle.stream_events.specs.Fed.{WritesLastLine}
+use Rattle.stream_events.specs.Fed.{LineWritten, WritesLastLine}
 use Rattle.stream_turns.specs.declared.Stream.{Stream}
 use Rattle.stream_turns.specs.declared.TurnResult.{TurnResult}
 use Rattle.stream_turns.specs.Turn.{Begins, TurnLeaves, waiting}

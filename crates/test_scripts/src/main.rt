@@ -124,11 +124,13 @@ fn finish(
 ) -> Outcome
     requires { (p.line.have ≤ length buf.now) × LentBy p.state.host buffers.old × (65536 ≤ length out.old) }
 {
-    let said = stream_events::last_line(p.state, buffers, p.line.long, &buf[..p.line.have], out);
-    let met = meet(answers, p.met, &out[..said.end]);
+    let mut state = p.state;
+    let line = &buf[..p.line.have];
+    let end = stream_events::last_line(&mut state, buffers, p.line.long, line, out);
+    let met = meet(answers, p.met, &out[..end]);
     Outcome {
         same: met == Some(answers.len()),
-        lines: said.state.number.wrapping_sub(1),
+        lines: state.number.wrapping_sub(1),
     }
 }
 

@@ -15,7 +15,7 @@ slice_bounds-one-end c = search (rules, law.feed_part_end)
 
 pub overflow_add-used : goal.overflow_add-used
 overflow_add-used c =
-    law.feed_fits _ _ _ _ _ _ _ _ _ _ _ _ c.loop-out.invariant.0 _ c.line_end-end.ensures c.loop-out-test.true c.if-end-piece.false _ _ _ _ _ _ c.one-said.ensures.writes (omega (arith, c.well_formed.1.1.1.0.1))
+    law.feed_fits _ _ _ _ _ _ _ _ _ _ _ _ c.loop-out.invariant.0 _ c.line_end-end.ensures c.loop-out-test.true c.if-end-piece.false _ _ _ _ _ _ c.one-used.ensures.writes (omega (arith, c.well_formed.1.1.1.0.1))
 
 pub overflow_add-place : goal.overflow_add-place
 overflow_add-place c =
@@ -26,7 +26,7 @@ loop-out-smaller c = pieces.next_less _ _ _ c.loop-out.invariant.0.within c.line
 
 pub loop-out-preserved : goal.loop-out-preserved
 loop-out-preserved c =
-    (law.inv_turn _ _ _ _ _ _ _ _ _ _ _ _ c.loop-out.invariant.0 _ c.line_end-end.ensures c.loop-out-test.true c.if-end-piece.false _ _ _ _ _ _ c.one-said.ensures.writes, search rules)
+    (law.inv_turn _ _ _ _ _ _ _ _ _ _ _ _ c.loop-out.invariant.0 _ c.line_end-end.ensures c.loop-out-test.true c.if-end-piece.false _ _ _ _ _ _ c.one-used.ensures.writes, search rules)
 
 pub returns : goal.returns
 returns c = search (rules, law.feeds_full)
