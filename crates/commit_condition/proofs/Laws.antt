@@ -1,25 +1,23 @@
 -- What a written key asks of the acks, and the requests of a batch one by one.
 use Rattle.std.specs.Prelude.{if◌then◌else◌}
 use mathlib.Core.Path.{◌≡◌, refl, ap, ◌∙◌}
-use Rattle.std.specs.List.{list_all, range_with_len}
+use Rattle.std.specs.List.{list_all}
 use mathlib.Core.Bool.{Bool, true, false, ◌&&◌}
-use mathlib.Core.List.{List}
+use mathlib.Core.List.{List, [], ◌∷◌}
 use Rattle.std.specs.Prelude.{Option, None, Some}
-use Prim.Native.Nat.{ℕ, zero, suc, ◌+◌, ◌≤◌, ◌<◌}
+use Prim.Native.Nat.{ℕ, ◌≤◌, ◌<◌}
 use native.Mathlib.Omega.{arith}
 use borrow.Author.Tests.{lt-leb, lt-ltb, le-ltb, le-leb}
 use lib.Dec.{leb}
 use lib.ListN.{length, take}
 use Rattle.words.specs.Choice.{if_none◌then◌else◌}
-use Rattle.words.specs.Tab.{tab}
 use Rattle.layout.specs.Layout.{roster_words}
 use Rattle.key_words.specs.Key.{bytes_of, at_most_48}
 use Rattle.key_words.specs.declared.Key.{Key}
 use Rattle.key_words.proofs.Laws.{foreign_unread}
 use Rattle.bitmap.specs.Bitmap.{count}
-use Rattle.inst_reqs.specs.Batch.{request_at, requests_of}
+use Rattle.inst_reqs.specs.Batch.{requests_of}
 use Rattle.bodega.specs.Replica as machine
-use Rattle.inst_reqs.proofs.Laws.{requests_are}
 use Rattle.bodega.specs.Localread.{acked, all_acked, commit_condition}
 use Rattle.roster_conf.specs.declared.RespondersConf.{RespondersConf}
 use Rattle.roster_conf.specs.Conf.{Conf, get_responders_by_key}
@@ -51,15 +49,15 @@ module _ (c : RespondersConf) (rows : List ℕ) (key : Key) (t : List ℕ) where
 
 -- ---- the batch
 
-each : (c : Conf) (acks : ℕ) (f : ℕ → machine.Request) (i n : ℕ) → list_all (λ k. acked c acks (f k)) (range_with_len i n) ≡ all_acked c acks (tab f i n)
-each c acks f i zero = refl
-each c acks f i (suc n) = ap (λ (t : Bool). acked c acks (f i) && t) (each c acks f (i + 1) n)
+each : (c : Conf) (acks : ℕ) (qs : List machine.Request) → list_all (acked c acks) qs ≡ all_acked c acks qs
+each c acks [] = refl
+each c acks (q ∷ qs) = ap (λ (t : Bool). acked c acks q && t) (each c acks qs)
 
 module _ (c : Conf) (acks : ℕ) (s : List ℕ) (quorum a w : ℕ) (p : a ≡ count acks) (q : w ≡ quorum) where
   pub few_acks : a < w → leb w a ≡ commit_condition acks (requests_of s) quorum c
   unfolding commit_condition
   few_acks h = rw (lt-leb w a h, lt-ltb (count acks) quorum (omega arith))
 
-  pub enough : (n : ℕ) (r : Bool) → w ≤ a → n ≡ length (requests_of s) → r ≡ list_all (λ k. acked c acks (request_at s k)) (range_with_len 0 n) → r ≡ commit_condition acks (requests_of s) quorum c
+  pub enough : (r : Bool) → w ≤ a → r ≡ list_all (acked c acks) (requests_of s) → r ≡ commit_condition acks (requests_of s) quorum c
   unfolding commit_condition
-  enough n r h m e = e ∙ rw (le-ltb (count acks) quorum (omega arith), requests_are s n m) (each c acks (request_at s) 0 n)
+  enough r h e = e ∙ rw (le-ltb (count acks) quorum (omega arith)) (each c acks (requests_of s))

@@ -57,6 +57,5 @@ pub fn commit_condition(
     requires { (roster_words ≤ length rows.now) × (conf.count ≤ 64) }
     ensures { result ≡ commit_condition acks (requests_of batch.entry.words.now) quorum (view conf rows.now) }
 {
-    u64::from(quorum) <= bitmap::count(acks)
-        && (0..batch.count()).all(|i| acked(acks, batch.get(i), conf, rows))
+    u64::from(quorum) <= bitmap::count(acks) && batch.iter().all(|q| acked(acks, q, conf, rows))
 }

@@ -6,8 +6,8 @@ use mathlib.Core.Path.{◌≡◌, refl, sym, ap, ◌∙◌}
 use mathlib.Core.Bool.{Bool, true, false, ◌||◌, ◌&&◌, or-false}
 use mathlib.Core.List.{List, [], ◌∷◌, ◌++◌}
 use Rattle.std.specs.Prelude.{Option, None, Some}
-use Prim.Native.Nat.{ℕ, zero, suc, ◌+◌, ◌-◌, ◌≤◌, ◌<◌}
-use native.Mathlib.Nat.{add-zero, zero-add, sub-zero}
+use Prim.Native.Nat.{ℕ, suc, ◌+◌, ◌-◌, ◌≤◌, ◌<◌}
+use native.Mathlib.Nat.{add-zero, zero-add}
 use native.Mathlib.Omega.{arith}
 use borrow.Author.Tests.{le-ltb, lt-ltb}
 use lib.Dec.{ltb}
@@ -156,17 +156,17 @@ module _ (q : machine.Request) (r : Request) (is : request_of r ≡ q) (qs : Lis
       pick None (Some v) = refl
       pick (Some w) b = refl
 
-module _ (q : machine.Request) (r : Request) (is : request_of r ≡ q) where
-  pub note_get : (slot : ℕ) (s : List ℕ) → r.command ≡ Get → Refreshes slot (q ∷ []) s s
+module _ (q : Request) where
+  pub note_get : (slot : ℕ) (s : List ℕ) → q.command ≡ Get → Refreshes slot (request_of q ∷ []) s s
   unfolding refresh_highest_slot
-  note_get slot s e = record { written = rw (← is, e); beyond = λ j h. refl }
+  note_get slot s e = record { written = rw e; beyond = λ j h. refl }
 
-  pub note_put : (slot : ℕ) (s t : List ℕ) (v : ℕ) (ok : Bool) → r.command ≡ Put v → Notes s (bytes_of r.key) slot ok t
-      → length (refresh_highest_slot slot (q ∷ []) (written_of s)) ≤ keys → Refreshes slot (q ∷ []) s t
+  pub note_put : (slot : ℕ) (s t : List ℕ) (v : ℕ) (ok : Bool) → q.command ≡ Put v → Notes s (bytes_of q.key) slot ok t
+      → length (refresh_highest_slot slot (request_of q ∷ []) (written_of s)) ≤ keys → Refreshes slot (request_of q ∷ []) s t
   unfolding refresh_highest_slot
   note_put slot s t v ok e n h =
-      let f : noted slot q (written_of s) ≡ raise slot (bytes_of r.key) (written_of s) = rw (← is, e) in
-      record { written = noted_on s t (bytes_of r.key) slot ok n (rw f at h) ∙ sym f; beyond = n.beyond }
+      let f : noted slot (request_of q) (written_of s) ≡ raise slot (bytes_of q.key) (written_of s) = rw e in
+      record { written = noted_on s t (bytes_of q.key) slot ok n (rw f at h) ∙ sym f; beyond = n.beyond }
 
 refresh_append : (slot : ℕ) (qs ps : List machine.Request) (hs : List machine.Highest) → refresh_highest_slot slot (qs ++ ps) hs ≡ refresh_highest_slot slot ps (refresh_highest_slot slot qs hs)
 unfolding refresh_highest_slot
@@ -231,34 +231,30 @@ module _ (b : List ℕ) (hs : List machine.Highest) where
       let l = long_after slot (requests_of b) hs in
       le-ltb keys (n + m) h ∙ sym (le-ltb keys (length (refresh_highest_slot slot (requests_of b) hs)) (omega arith))
 
--- ---- the written keys, request by request: from i on is left
+-- ---- the written keys t, when of the requests qs the requests ps are left
 
-pub record Left (slot : ℕ) (b s : List ℕ) (n i : ℕ) (t : List ℕ) : Type 0 where
-  pub left : refresh_highest_slot slot (tab (request_at b) i (n - i)) (written_of t) ≡ refresh_highest_slot slot (requests_of b) (written_of s)
+pub record Left (slot : ℕ) (qs ps : List machine.Request) (s t : List ℕ) : Type 0 where
+  pub left : refresh_highest_slot slot ps (written_of t) ≡ refresh_highest_slot slot qs (written_of s)
   pub beyond : (j : ℕ) → written_words ≤ j → get_or t j 0 ≡ get_or s j 0
 
-module _ (slot : ℕ) (b s : List ℕ) (n : ℕ) where
-  pub left_start : n ≡ length (requests_of b) → Left slot b s n 0 s
-  left_start h = record { left = rw (sub-zero n, requests_are b n h); beyond = λ j k. refl }
+module _ (slot : ℕ) (qs : List machine.Request) (s : List ℕ) where
+  pub left_start : (ps : List machine.Request) → ps ≡ qs → Left slot qs ps s s
+  left_start ps e = record { left = rw e; beyond = λ j k. refl }
 
-  module _ (i : ℕ) (t : List ℕ) (l : Left slot b s n i t) where
-    cut : i < n → refresh_highest_slot slot (tab (request_at b) (i + 1) (n - (i + 1))) (refresh_highest_slot slot (request_at b i ∷ []) (written_of t)) ≡ refresh_highest_slot slot (requests_of b) (written_of s)
+  module _ (q : machine.Request) (ps rs : List machine.Request) (e : ps ≡ q ∷ rs) (t : List ℕ) (l : Left slot qs ps s t) where
+    cut : refresh_highest_slot slot rs (refresh_highest_slot slot (q ∷ []) (written_of t)) ≡ refresh_highest_slot slot qs (written_of s)
     unfolding refresh_highest_slot
-    cut h =
-        let m : n - i ≡ suc (n - (i + 1)) = omega arith in
-        rw m at l.left
+    cut = rw e at l.left
 
-    pub room : i < n → length (refresh_highest_slot slot (requests_of b) (written_of s)) ≤ keys → length (refresh_highest_slot slot (request_at b i ∷ []) (written_of t)) ≤ keys
-    room h k =
-        let a = long_after slot (tab (request_at b) (i + 1) (n - (i + 1))) (refresh_highest_slot slot (request_at b i ∷ []) (written_of t)) in
-        let c = ap length (cut h) in
+    pub room : length (refresh_highest_slot slot qs (written_of s)) ≤ keys → length (refresh_highest_slot slot (q ∷ []) (written_of t)) ≤ keys
+    room k =
+        let a = long_after slot rs (refresh_highest_slot slot (q ∷ []) (written_of t)) in
+        let c = ap length cut in
         omega arith
 
-    pub left_next : (t' : List ℕ) → i < n → Refreshes slot (request_at b i ∷ []) t t' → Left slot b s n (i + 1) t'
-    left_next t' h r = record { left = rw r.written (cut h); beyond = λ j x. r.beyond j x ∙ l.beyond j x }
+    pub left_next : (t' : List ℕ) → Refreshes slot (q ∷ []) t t' → Left slot qs rs s t'
+    left_next t' r = record { left = rw r.written cut; beyond = λ j x. r.beyond j x ∙ l.beyond j x }
 
-    pub left_end : n ≤ i → Refreshes slot (requests_of b) s t
-    unfolding refresh_highest_slot
-    left_end h =
-        let m : n - i ≡ 0 = omega arith in
-        record { written = rw m at l.left; beyond = l.beyond }
+  pub left_end : (ps : List machine.Request) (t : List ℕ) → ps ≡ [] → Left slot qs ps s t → Refreshes slot qs s t
+  unfolding refresh_highest_slot
+  left_end ps t e l = record { written = rw e at l.left; beyond = l.beyond }

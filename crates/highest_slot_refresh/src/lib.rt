@@ -6,13 +6,13 @@ ghost use Rattle.words.specs.Tab.{tab};
 ghost use Rattle.ids.specs.Limits.{keys};
 ghost use Rattle.layout.specs.Layout.{request_places, written_words};
 ghost use Rattle.bodega.specs.Localread.{refresh_highest_slot};
-ghost use Rattle.inst_reqs.specs.Batch.{request_at, requests_of};
+ghost use Rattle.inst_reqs.specs.Batch.{request_of, request_at, requests_of};
 ghost use Rattle.highest_slot.specs.Written.{written_of};
 ghost use Rattle.highest_slot_refresh.specs.Refresh.{adds, Refreshes};
 
 use highest_slot::{Written, WrittenMut};
 use ids::Slot;
-use inst_reqs::{Batch, Command};
+use inst_reqs::{Batch, Command, Request};
 
 // Whether the i-th request adds a key: it is a Put, its key is not written, and no earlier request puts it.
 #[tactic(auto, using(crate::proofs::Laws::get_adds, crate::proofs::Laws::put_adds))]
@@ -52,14 +52,12 @@ pub fn overflows(written: Written<'_>, batch: Batch<'_>) -> bool
     highest_slot::KEYS < written.count() + batch.count() && exceeds(written, batch)
 }
 
-// The i-th request's part.
-fn note_at(written: &mut WrittenMut<'_>, batch: Batch<'_>, i: usize, slot: Slot)
-    requires place { i < request_places }
-    requires fits { length (refresh_highest_slot slot.0 (request_at batch.words.now i ∷ []) (written_of written.old.words.now)) ≤ keys }
+// One request's part.
+fn note_one(written: &mut WrittenMut<'_>, q: Request, slot: Slot)
+    requires { length (refresh_highest_slot slot.0 (request_of q ∷ []) (written_of written.old.words.now)) ≤ keys }
     ensures same_reference { written.new.words.ghost_name ≡ written.old.words.ghost_name }
-    ensures refreshes { Refreshes slot.0 (request_at batch.entry.words.now i ∷ []) written.old.words.now written.new.words.now }
+    ensures refreshes { Refreshes slot.0 (request_of q ∷ []) written.old.words.now written.new.words.now }
 {
-    let q = batch.get(i);
     match q.command {
         Command::Get => {}
         Command::Put(_) => {
@@ -73,8 +71,8 @@ fn note_all(written: &mut WrittenMut<'_>, batch: Batch<'_>, slot: Slot)
     ensures same_reference { written.new.words.ghost_name ≡ written.old.words.ghost_name }
     ensures refreshes { Refreshes slot.0 (requests_of batch.entry.words.now) written.old.words.now written.new.words.now }
 {
-    for i in 0..batch.count() {
-        note_at(written, batch, i, slot);
+    for q in batch.iter() {
+        note_one(written, q, slot);
     }
 }
 

@@ -1,5 +1,5 @@
 -- Trusted: the reads held by a slot that lent words stand for.
-use Rattle.std.specs.Prelude.{Bool, List, ◌∷◌, ℕ, ◌+◌, ◌*◌, get_or}
+use Rattle.std.specs.Prelude.{Bool, List, ◌∷◌, ℕ, ◌+◌, get_or}
 use Rattle.std.specs.Prelude.{Option}
 use Rattle.words.specs.Counted.{counted}
 use Rattle.key_words.specs.Key.{key_at, words_of, bytes_of}
@@ -15,12 +15,9 @@ read_of x = record { client = x.client; request = x.request; key = bytes_of x.ke
 abbrev pub read_words : ReadReq → List ℕ
 read_words x = x.client ∷ x.request ∷ words_of x.key
 
--- the read at word p, and the i-th
+-- the read at word p
 unfoldable pub read_from : List ℕ → ℕ → machine.ReadReq
 read_from s p = record { client = get_or s p 0; request = get_or s (p + 1) 0; key = bytes_of (key_at s (p + 2)) }
-
-abbrev pub read_at : List ℕ → ℕ → machine.ReadReq
-read_at s i = read_from s (1 + i * held_row)
 
 -- the reads held, on any words
 abbrev pub reads_of : List ℕ → List machine.ReadReq

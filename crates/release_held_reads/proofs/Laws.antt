@@ -1,16 +1,15 @@
 -- A slot's held reads answered one by one.
 use mathlib.Core.Path.{◌≡◌, refl, sym, ap, ◌∙◌}
 use mathlib.Core.Bool.{Bool, true, false, not}
-use mathlib.Core.List.{List, [], ◌∷◌, ◌++◌, map}
+use mathlib.Core.List.{List, [], ◌∷◌, ◌++◌, map, append_assoc}
 use Rattle.std.specs.Prelude.{Option, None, Some, if◌then◌else◌}
-use Prim.Native.Nat.{ℕ, ◌+◌, ◌*◌, ◌≤◌, ◌<◌}
-use native.Mathlib.Nat.{add-zero, zero-add}
+use Prim.Native.Nat.{ℕ, suc, ◌+◌, ◌*◌, ◌≤◌, ◌<◌}
+use native.Mathlib.Nat.{add-zero}
 use native.Mathlib.Omega.{arith}
 use lib.Dec.{leb}
 use lib.ListN.{length, length-append, length-map}
 use Rattle.std.specs.Option.{is_some}
 use Rattle.words.specs.Choice.{if_none◌then◌else◌}
-use Rattle.words.specs.Tab.{tab, length_tab, tab_snoc, map_tab}
 use Rattle.words.specs.Writes.{length_writes}
 use Rattle.bitmap.specs.Bitmap.{count}
 use Rattle.items.specs.Item.{Item, encode, places}
@@ -22,8 +21,7 @@ use Rattle.inst_cell.specs.Cell.{Notices, Short, cell_of, book_of}
 use Rattle.inst_cell.specs.declared.Cell.{Cell}
 use Rattle.inst_cell.specs.declared.NoticeBook.{NoticeBook}
 use Rattle.inst_reqs.specs.Batch.{requests_of}
-use Rattle.inst_holding.specs.Held.{read_at, reads_of}
-use Rattle.inst_holding.proofs.Laws.{reads_are}
+use Rattle.inst_holding.specs.Held.{reads_of}
 use Rattle.insts.specs.Slots as slots
 use Rattle.insts.specs.Slots.{short_at, batch_at, reads_at, inst_of, inst_in}
 use Rattle.release_held_reads.specs.Release.{answer_to, holding_of, answers_of, Answered}
@@ -77,42 +75,39 @@ module _ (s : List ℕ) (c : ℕ) (cell : Cell) (e : cell_of cell ≡ short_at s
       go None = refl
       go (Some b) = refl
 
--- the reads one by one, with the slot's batch and its reads as lent words
-module _ (bound : Bool) (leader : Option ℕ) (batch reads : List ℕ) where
-  abbrev pub answer_at : ℕ → Item
-  answer_at i = answer_to bound leader (requests_of batch) (read_at reads i)
+  -- of the slot's reads none where it has no notice book, and else what its lent words hold
+  module _ (quorum : ℕ) (leader : Option ℕ) where
+    pub no_answers : is_some cell.replica_bk ≡ false → answers_of quorum leader (inst_in s c) ≡ []
+    no_answers n =
+        let k : holding_of (inst_in s c) ≡ [] = rw n at held_by in
+        rw k
 
-  abbrev pub answers : ℕ → List Item
-  answers n = tab answer_at 0 n
-
-  module _ {place : ℕ} {area : List ℕ} where
-    pub next_answer : (i n count : ℕ) (now : List ℕ) → Answered place area (answers i) count now → i < n → place + n ≤ places area → (q : machine.ReadReq) → q ≡ read_at reads i
-        → (x : Item) → x ≡ answer_to bound leader (requests_of batch) q → (t : Bool) (after : List ℕ) (more : ℕ)
-        → ◌≡◌ {A = Put} (record { taken = t; area = after }) (put_item now count x) → more ≡ count + (if t then 1 else 0) → Answered place area (answers (i + 1)) more after
-    next_answer i n count now a h k q d x e t after more p g =
-        let z : answers (i + 1) ≡ answers i ++ (x ∷ []) =
-        tab_snoc answer_at 0 i ∙ ap (λ (j : ℕ). answers i ++ (answer_at j ∷ [])) (zero-add i)
-        ∙ ap (λ (y : Item). answers i ++ (y ∷ [])) (sym (e ∙ ap (answer_to bound leader (requests_of batch)) d)) in
-        rw z (one_more (answers i) count now a (rw length_tab (omega arith)) x t after more p g)
-
-  module _ (quorum : ℕ) (s : List ℕ) (c n : ℕ) (cell : Cell) (h : n ≡ length (holding_of (inst_in s c))) (e : cell_of cell ≡ short_at s c)
-      (b : (reqs : List machine.Request) (held : List machine.ReadReq) → bound ≡ is_bound quorum (inst_of (cell_of cell) reqs held))
-      (f : requests_of batch ≡ batch_at s c) (g : reads_of reads ≡ reads_at s c) where
-    bound_is : is_bound quorum (inst_in s c) ≡ bound
+    pub answers_are : (bound : Bool) (batch reads : List ℕ) → ((reqs : List machine.Request) (held : List machine.ReadReq) → bound ≡ is_bound quorum (inst_of (cell_of cell) reqs held))
+        → requests_of batch ≡ batch_at s c → reads_of reads ≡ reads_at s c → is_some cell.replica_bk ≡ true
+        → answers_of quorum leader (inst_in s c) ≡ map (answer_to bound leader (requests_of batch)) (reads_of reads)
     unfolding inst_in
-    bound_is = sym (b (batch_at s c) (reads_at s c) ∙ ap (λ (x : Short). is_bound quorum (inst_of x (batch_at s c) (reads_at s c))) e)
+    answers_are bound batch reads b f g h =
+        let k : holding_of (inst_in s c) ≡ reads_at s c = rw h at held_by in
+        let d : is_bound quorum (inst_in s c) ≡ bound = sym (b (batch_at s c) (reads_at s c) ∙ ap (λ (x : Short). is_bound quorum (inst_of x (batch_at s c) (reads_at s c))) e) in
+        rw (k, d, f, g)
 
-    pub answers_are : answers_of quorum leader (inst_in s c) ≡ answers n
-    unfolding inst_in
-    answers_are =
-        ap (λ (x : Bool). map (answer_to x leader (batch_at s c)) (holding_of (inst_in s c))) bound_is
-        ∙ ap (λ (l : List machine.Request). map (answer_to bound leader l) (holding_of (inst_in s c))) (sym f) ∙ go cell.replica_bk refl
-      where
-        go : (bk : Option NoticeBook) → cell.replica_bk ≡ bk → map (answer_to bound leader (requests_of batch)) (holding_of (inst_in s c)) ≡ answers n
-        go None d =
-            let q : holding_of (inst_in s c) ≡ [] = held_by s c cell e ∙ simp d in
-            ap (map (answer_to bound leader (requests_of batch))) q ∙ ap answers (sym (h ∙ ap length q))
-        go (Some k) d =
-            let q : holding_of (inst_in s c) ≡ reads_of reads = held_by s c cell e ∙ (simp d) ∙ sym g in
-            ap (map (answer_to bound leader (requests_of batch))) (q ∙ reads_are reads n (h ∙ ap length q))
-            ∙ map_tab (answer_to bound leader (requests_of batch)) (read_at reads) 0 n
+-- items put one by one from a place on: of all of them those that are done are put, and the others are left
+pub record Left (place : ℕ) (area : List ℕ) (all left : List Item) (n : ℕ) (now : List ℕ) : Type 0 where
+  pub done : List Item
+  pub whole : all ≡ done ++ left
+  pub put : Answered place area done n now
+
+module _ {place : ℕ} {area : List ℕ} (all : List Item) where
+  pub left_start : (left : List Item) → all ≡ left → Left place area all left place area
+  left_start left e = record { done = []; whole = e; put = none_put }
+
+  pub left_next : (x : Item) (left : List Item) (n : ℕ) (now : List ℕ) → place + length all ≤ places area → Left place area all (x ∷ left) n now
+      → (t : Bool) (after : List ℕ) (more : ℕ) → ◌≡◌ {A = Put} (record { taken = t; area = after }) (put_item now n x) → more ≡ n + (if t then 1 else 0)
+      → Left place area all left more after
+  left_next x left n now h l t after more p k =
+      let w : length all ≡ length l.done + suc (length left) = ap length l.whole ∙ length-append l.done (x ∷ left) in
+      record {
+        done = l.done ++ (x ∷ []);
+        whole = l.whole ∙ sym (append_assoc l.done (x ∷ []) left);
+        put = one_more l.done n now l.put (omega arith) x t after more p k;
+      }

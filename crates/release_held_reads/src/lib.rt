@@ -77,11 +77,14 @@ fn put_answers(insts: Insts<'_>, slot: Slot, group: ReplicaGroup, items: &mut It
     ensures same_reference { items.new.area.ghost_name ≡ items.old.area.ghost_name }
     ensures put { Answered items.old.count items.old.area.now (answers_of group.quorum (leader_of group.leader) (inst_in insts.entry.words.now (place_of slot.0))) items.new.count items.new.area.now }
 {
-    let bound = is_bound(insts.load(slot), group.quorum);
+    let cell = insts.load(slot);
+    if cell.replica_bk.is_none() {
+        return;
+    }
+    let bound = is_bound(cell, group.quorum);
     let batch = insts.batch(slot);
-    let reads = insts.reads(slot);
-    for i in 0..holding(insts, slot) {
-        items.push(answer_to(bound, group.leader, batch, reads.get(i)));
+    for read in insts.reads(slot).iter() {
+        items.push(answer_to(bound, group.leader, batch, read));
     }
 }
 

@@ -1,14 +1,24 @@
--- A row goes after the others.
-use Rattle.std.proofs.Common.{◌≡◌, refl, ◌∙◌, inr, arith, List, [], ◌∷◌, ◌++◌, ℕ, ◌+◌, ◌*◌, ◌≤◌, ◌<◌, length, set, length-append, get_or-set_other}
+-- A row goes after the others, and the rows one by one.
+use Rattle.std.proofs.Common.{◌≡◌, refl, sym, ap, ◌∙◌, inr, zero-add, arith, List, [], ◌∷◌, ◌++◌, ℕ, ◌+◌, ◌*◌, ◌≤◌, ◌<◌, length, set, length-append, get_or-set_other}
 use Rattle.std.specs.Prelude.{Some, None, if◌then◌else◌}
 use mathlib.Core.Bool.{Bool, true, false, true≢false}
 use borrow.Author.Tests.{le-leb, lt-leb}
+use Rattle.std.proofs.lemmas.List.{drop_more}
+use Rattle.words.specs.Tab.{get_or_tab}
 use Rattle.words.specs.Counted.{count_of, counted, length_counted, counted_push, apart}
 use Rattle.words.specs.Writes.{writes, Agrees, writes_other}
-use Rattle.table.specs.Table.{Pushes}
+use Rattle.table.specs.Table.{Pushes, rows_from}
 
 pub below : {A : Type 0} (f : List ℕ → ℕ → A) (w lim : ℕ) (s : List ℕ) (i : ℕ) → i < length (counted f w lim s) → i < lim
 below f w lim s i b = let c : i < count_of lim s = rw length_counted at b in omega arith
+
+-- the rows from the i-th on are it and the others
+pub first_row : {A : Type 0} (f : List ℕ → ℕ → A) (w lim : ℕ) (s : List ℕ) (i n : ℕ) (x : A) → n ≡ length (counted f w lim s) → i < n → x ≡ f s (1 + i * w) → rows_from f w lim s i ≡ x ∷ rows_from f w lim s (i + 1)
+unfolding counted
+first_row {A = A} f w lim s i n x k b e =
+    let r : ℕ → A = λ j. f s (1 + j * w) in
+    let m = k ∙ length_counted f w lim s in
+    drop_more (counted f w lim s) i x (rw k at b) ∙ ap (λ y. y ∷ rows_from f w lim s (i + 1)) (get_or_tab r 0 (count_of lim s) i x (rw m at b) ∙ ap r (zero-add i) ∙ sym e)
 
 -- a push where there is room
 pub pushed_on : {A : Type 0} (f : List ℕ → ℕ → A) (w lim : ℕ) (s t : List ℕ) (x : A) (r : Bool) → Pushes f w lim s x r t → length (counted f w lim s) < lim → counted f w lim t ≡ counted f w lim s ++ (x ∷ [])

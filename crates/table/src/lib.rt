@@ -4,7 +4,8 @@
 ghost use Rattle.std.specs.Prelude.{◌≡◌, List, [], ℕ, ◌+◌, ◌*◌, ◌<◌, ◌≤◌, length, set};
 ghost use Rattle.words.specs.Counted.{counted};
 ghost use Rattle.words.specs.Writes.{writes, Agrees};
-ghost use Rattle.table.specs.Table.{Pushes};
+ghost use Rattle.std.specs.Iterator.{YieldsFirstBy, item_count};
+ghost use Rattle.table.specs.Table.{Pushes, rows_from};
 
 use std::alloc::AllocError;
 use std::marker::PhantomData;
@@ -79,6 +80,42 @@ impl<'a, R: Row, const PLACES: usize> Table<'a, R, PLACES> {
         ensures { R.view result ≡ R.at self.entry.words.now (1 + i * R.WORDS) }
     {
         R::get(self.words, 1 + i * R::WORDS)
+    }
+
+    pub fn iter(self) -> Rows<'a, R, PLACES>
+        ensures { rows_from R.at R.WORDS PLACES result.table.words.now result.next ≡ counted R.at R.WORDS PLACES self.entry.words.now }
+    {
+        Rows {
+            table: self,
+            next: 0,
+            count: self.count(),
+        }
+    }
+}
+
+// The rows of a table one by one, from the next on.
+#[derive(Drop)]
+pub struct Rows<'a, R: Row, const PLACES: usize> {
+    table: Table<'a, R, PLACES>,
+    next: usize,
+    count: usize,
+    ghost counts: { count ≡ length (counted R.at R.WORDS PLACES table.words.now) },
+}
+
+impl<'a, R: Row, const PLACES: usize> Iterator for Rows<'a, R, PLACES> {
+    type Item = R;
+
+    ghost next_gives = { YieldsFirstBy R.view (λ s. rows_from R.at R.WORDS PLACES s.table.words.now s.next) };
+
+    ghost remaining = { item_count (λ s. rows_from R.at R.WORDS PLACES s.table.words.now s.next) };
+
+    fn next(&mut self) -> Option<R> {
+        let i = self.next;
+        if i >= self.count {
+            return None;
+        }
+        self.next = i + 1;
+        Some(self.table.get(i))
     }
 }
 
