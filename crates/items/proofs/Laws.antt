@@ -255,6 +255,3 @@ put_after area place xs x h =
     put_area (writes area (place * 6) ws) (place + length xs) x k ∙ rw (e, encode_snoc xs x) (writes_append area (place * 6) ws (item_words x))
 
 -- from the start on
-pub put_encoded : (area : List ℕ) (xs : List Item) (x : Item) → length xs < places area
-    → (put_item (writes area 0 (encode xs)) (length xs) x).area ≡ writes area 0 (encode (xs ++ (x ∷ [])))
-put_encoded area xs x h = rw (zero-add (length xs)) at (put_after area 0 xs x (rw (zero-add (length xs)) h))

@@ -1,5 +1,5 @@
--- Bridge: what a push leaves on a table in lent words (words/specs/Counted); tied by the Laws of req_batch, insts and
--- highest_slot.
+-- Bridge: what a push leaves on a table in lent words (words/specs/Counted), and the rows that are left from one on;
+-- tied by the Laws of req_batch, insts and highest_slot, and by those of table.
 use Rattle.std.specs.Prelude.{◌≡◌, Bool, false, List, [], ◌∷◌, ◌++◌, ℕ, ◌+◌, ◌*◌, ◌≤◌, leb, length, drop, get_or, if◌then◌else◌}
 use Rattle.std.specs.Prelude.{Option, None, Some}
 use Rattle.words.specs.Counted.{counted}

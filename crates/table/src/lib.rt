@@ -93,7 +93,7 @@ impl<'a, R: Row, const PLACES: usize> Table<'a, R, PLACES> {
     }
 }
 
-// The rows of a table one by one, from the next on.
+// The rows of a table one by one, from the next on. A number, as the rows are words of the table that is lent.
 #[derive(Drop)]
 pub struct Rows<'a, R: Row, const PLACES: usize> {
     table: Table<'a, R, PLACES>,
@@ -146,7 +146,7 @@ impl<'a, R: Row, const PLACES: usize> TableMut<'a, R, PLACES> {
     }
 
     // A row after the others; false, and nothing changed, where there is no place left. No condition alone: where it is
-    // true, the row is put.
+    // true, the row is put. No `Result`, here and in what hands it on: the callers count their rows first.
     pub fn push(&mut self, row: R) -> bool
         ensures same_reference { self.new.words.ghost_name ≡ self.old.words.ghost_name }
         ensures pushes { Pushes R.at R.WORDS PLACES self.old.words.now (R.view row) result self.new.words.now }
