@@ -253,5 +253,3 @@ put_after area place xs x h =
     let k : place + length xs < places (writes area (place * 6) ws) = rw (length_writes area (place * 6) ws) h in
     let e : (place + length xs) * 6 ≡ place * 6 + length ws = omega (arith, length_encode xs) in
     put_area (writes area (place * 6) ws) (place + length xs) x k ∙ rw (e, encode_snoc xs x) (writes_append area (place * 6) ws (item_words x))
-
--- from the start on
