@@ -34,7 +34,8 @@ fn any_far(to: Moving) -> bool
         .any(|bar| Slot::TOP < *bar)
 }
 
-// The bars as they are come one by one, here and below: the accept bar may fall, so it is not among them.
+// The bars as they are come one by one, here and below, as the definitions of the refusals have them: the start is the
+// window's, and the accept bar, which may fall, is none of them, so they are no `Moving`.
 fn falls(start: Slot, commit: Slot, exec: Slot, to: Moving) -> bool
     ensures { result ≡ lowered start.0 commit.0 exec.0 to.start.0 to.commit.0 to.exec.0 }
 {

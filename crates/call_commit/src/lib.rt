@@ -12,7 +12,7 @@ use ids::{Ballot, Refusal, Replica, Slot};
 use items::Items;
 use node::{Node, Taken};
 
-// Refusals 3 and 8.
+// Refusals 3 and 8. The population is the node's, the peer the call's.
 fn commit_refusal(population: u8, peer: Replica, bar: Slot) -> Result<(), Refusal>
     ensures { refused_by result ≡ commit_refusal population peer.0 bar.0 }
 {

@@ -12,7 +12,7 @@ use ids::{Ballot, Refusal, Replica, Slot};
 use node::{Node, Taken};
 use peer_accept_bar::Pair;
 
-// Refusals 3, 8 and 10.
+// Refusals 3, 8 and 10. Population and own number are the node's, and come as the definition has them.
 fn guard_refusal(population: u8, id: Replica, peer: Replica, bar: Slot) -> Result<(), Refusal>
     ensures { refused_by result ≡ guard_refusal population id.0 peer.0 bar.0 }
 {

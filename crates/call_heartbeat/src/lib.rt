@@ -1,5 +1,6 @@
-// The call *heartbeat*: a peer's ballot, its roster where one is attached, and its commit, exec and snap bar. The rows
-// of the roster are lent beside its short part, as a host in C hands them over, with `fitting` where they hold it.
+// The call *heartbeat*: a peer's ballot, its roster where one is attached, and its commit, exec and snap bar. A roster is
+// its short part by value and its rows lent beside it, for the node's own, the draft and this one alike (document 01),
+// with `fitting` where the rows hold it.
 #![tactic(auto)]
 
 ghost use Rattle.std.specs.Prelude.{◌≡◌, true, ◌&&◌, ◌||◌, List, ℕ, ◌+◌, ◌≤◌, ◌<◌, leb, length};
@@ -131,7 +132,7 @@ fn is_unformed(conf: Option<RespondersConf>, rows: &[u64]) -> bool
     conf.is_some_and(|c| roster_compare::is_unformed(c, rows))
 }
 
-// 3.
+// 3. The population is the node's, the peer the call's.
 fn is_foreign(population: u8, peer: Replica, conf: Option<RespondersConf>) -> bool
     ensures { (rows : List ℕ) → result ≡ leb population peer.0 || foreign_leader population (carried conf rows) }
 {

@@ -1,5 +1,5 @@
 // The call *record*: a batch into a slot at the current ballot; null slots before it where they are not held, and the
-// keys that it writes.
+// keys that it writes. Slot, ballot and batch come one by one, as the call has them.
 #![tactic(auto)]
 
 ghost use Rattle.std.specs.Prelude.{◌≡◌, true, ◌+◌, ◌≤◌, ◌<◌, length, if◌then◌else◌};
@@ -82,7 +82,8 @@ fn slot_refusal(
     Ok(())
 }
 
-// Null slots up to and with the window's k-th, where it is not held; how many slots there are then.
+// Null slots up to and with the window's k-th, where it is not held; how many slots there are then. The k-th may lie past
+// the slots that are held, so its bound is in the clause.
 fn padded(insts: &mut InstsMut<'_>, window: Window, k: usize) -> usize
     requires { k < slot_places }
     ensures same_reference { insts.new.words.ghost_name ≡ insts.old.words.ghost_name }

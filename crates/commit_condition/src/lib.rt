@@ -21,7 +21,7 @@ fn responders_by_key(key: Key, conf: RespondersConf, rows: &[u64]) -> Option<u64
     requires { (roster_words ≤ length rows.now) × (conf.count ≤ 64) }
     ensures { result ≡ get_responders_by_key (view conf rows.now) (bytes_of key) }
 {
-    let mut text = [0; 48];
+    let mut text = [0; keys::KEY_BYTES];
     let n = key_words::unpack(key, &mut text)?;
     conf.get_responders_by_key(rows, &text[..n]).unwrap_or(None)
 }

@@ -24,8 +24,8 @@ use peer_accept_bar::Pair;
 use release_held_reads::ReplicaGroup;
 use roster_conf::RespondersConf;
 
-// The own guard, at the ballot and the accept bar; gives the reading bar worked out anew. Words and population come
-// apart as in peer_accept_bar.
+// The own guard, at the ballot and the accept bar; gives the reading bar worked out anew. Words, population and quorum
+// come apart as in peer_accept_bar.
 fn guard_itself(
     pairs: &mut [u64],
     population: u8,

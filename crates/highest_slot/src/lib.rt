@@ -86,7 +86,8 @@ pub fn highest(written: Written<'_>, key: Key) -> Option<Slot>
     Some(written.get(i).slot)
 }
 
-// A write of a key at a slot; false, and nothing changed, where it would be a 257th key.
+// A write of a key at a slot; false, and nothing changed, where it would be a 257th key. No `Result`, as in
+// `TableMut::push`.
 pub fn note(written: &mut WrittenMut<'_>, key: Key, slot: Slot) -> bool
     ensures same_reference { written.new.words.ghost_name ≡ written.old.words.ghost_name }
     ensures notes { Notes written.old.words.now (bytes_of key) slot.0 result written.new.words.now }

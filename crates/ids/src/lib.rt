@@ -54,6 +54,7 @@ pub enum Refusal {
 }
 
 impl Refusal {
+    // By name: document 01 numbers them, and `u64::from` would not say what the word is.
     pub fn number(self) -> u64
         ensures { result ≡ number_of self }
     {

@@ -86,6 +86,7 @@ fn not_responder(stored: Option<u64>) -> Settled
 
 // ---- slots
 
+// As `Window::holds`, which a node's window has only where the node is asked to be ready.
 fn is_held(node: Node, slot: Slot) -> bool
     ensures { result ≡ held_at node.start_slot.0 node.slots slot.0 }
 {

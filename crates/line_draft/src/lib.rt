@@ -49,6 +49,7 @@ pub fn edit_line(
 ) -> Result<RespondersConf, Refusal>
     ensures { EditsLine (is_edit kind (fields_from reader.entry.line.now reader.entry.at)) (edit_of kind (fields_from reader.entry.line.now reader.entry.at)) population draft rows.old result rows.new }
 {
+    // Each arm reads its own fields and edits by its own method.
     match kind {
         EditKind::Lead => {
             let [leader] = reader.numbers::<1>().ok_or(Refusal::Malformed)?;

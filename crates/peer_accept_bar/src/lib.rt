@@ -37,8 +37,8 @@ impl Pair {
     }
 }
 
-// A replica's pair. Here and below words and population are apart: a struct that lends the words was tried, and the
-// proof of a caller that lends a part of its buffer through it did not close.
+// A replica's pair. Here and below words, population and quorum are apart, each with what it is asked: a struct that
+// lends the words was tried, and the proof of a caller that lends a part of its buffer through it did not close.
 #[tactic(auto, using(crate::proofs::Laws::pair_at))]
 fn get(pairs: &[u64], population: u8, peer: Replica) -> Pair
     requires { (peer.0 < population) × (population ≤ replicas) × (pair_words ≤ length pairs.now) }

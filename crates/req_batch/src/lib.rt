@@ -13,7 +13,8 @@ ghost use Rattle.req_batch.specs.Given.{given, given_at, any_long, Loads};
 use inst_reqs::{BatchMut, Request, command_at};
 use key_words::pack_short;
 
-// Words of a row. The rows stay words: a caller in C lends them so.
+// Words of a row. Rows and text stay two buffers, and the rows words, as a caller in C lends them; a row is read by its
+// place, as `given_at` has it.
 const ROW: usize = 6;
 
 pub fn count(rows: &[u64]) -> usize

@@ -20,6 +20,7 @@ use ids::{Ballot, Replica};
 use roster_conf::RespondersConf;
 use roster_map::Row;
 
+// Row by row: `==` of the slices takes half as many instructions again.
 fn same_rows(c: RespondersConf, crows: &[u64], d: RespondersConf, drows: &[u64]) -> bool
     requires { (c.count * roster_row ≤ length crows.now) × (d.count * roster_row ≤ length drows.now) }
     ensures { result ≡ same_ranges (ranges_of crows.now c.count) (ranges_of drows.now d.count) }

@@ -100,6 +100,7 @@ fn done_by(
     let rows = &mut *buffers.rows;
     let area = &mut *buffers.area;
     let groups = &mut *buffers.groups;
+    // Each arm hands on other buffers.
     match kind {
         Kind::Node => begin(state, mem, reader),
         Kind::Edit(kind) => edit(state, kind, rows, reader),

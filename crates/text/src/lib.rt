@@ -1,4 +1,5 @@
-// Text in lent bytes: numbers, bytes, and fields that a comma begins.
+// Text in lent bytes: numbers, bytes, and fields that a comma begins. No `write!`: it goes to a `String`, and there
+// is no heap, or may fail, where each method here asks for its room.
 #![tactic(auto)]
 
 ghost use Rattle.std.specs.Prelude.{◌≡◌, [], ◌∷◌, ◌+◌, ◌/◌, ◌%◌, ◌<◌, ◌≤◌, length};
