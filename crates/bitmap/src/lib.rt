@@ -1,5 +1,5 @@
-// bitmap.rs: a set of replicas is a 64-bit mask, by value. No struct of its own: masks are words of the calls from C and
-// of a roster's rows.
+// bitmap.rs: a set of replicas is a 64-bit mask, by value. No struct of its own: masks are words of the calls from C
+// and of a roster's rows.
 #![tactic(auto)]
 
 ghost use Rattle.std.specs.Prelude.{◌≡◌};

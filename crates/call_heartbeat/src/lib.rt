@@ -1,6 +1,6 @@
-// The call *heartbeat*: a peer's ballot, its roster where one is attached, and its commit, exec and snap bar. A roster is
-// its short part by value and its rows lent beside it, for the node's own, the draft and this one alike (document 01),
-// with `fitting` where the rows hold it.
+// The call *heartbeat*: a peer's ballot, its roster where one is attached, and its commit, exec and snap bar. A roster
+// is its short part by value and its rows lent beside it, for the node's own, the draft and this one alike (document
+// 01), with `fitting` where the rows hold it.
 #![tactic(auto)]
 
 ghost use Rattle.std.specs.Prelude.{◌≡◌, true, ◌&&◌, ◌||◌, List, ℕ, ◌+◌, ◌≤◌, ◌<◌, leb, length};

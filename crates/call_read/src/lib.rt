@@ -15,8 +15,8 @@ use inst_holding::ReadReq;
 use insts::InstsMut;
 use node::{Node, Taken, is_ready};
 
-// A read at the end of a slot's queue. The words come whole: a struct made of a part of the buffer would lose what became
-// of the part.
+// A read at the end of a slot's queue. The words come whole: a struct made of a part of the buffer would lose what
+// became of the part.
 fn hold(words: &mut [u64], slot: Slot, read: ReadReq)
     requires { (slot_words ≤ length words.old) × (length (reads_at words.old (place_of slot.0)) < held_places) }
     ensures { PutsReads words.old (place_of slot.0) (reads_at words.old (place_of slot.0) ++ (read_of read ∷ [])) words.new }

@@ -82,8 +82,8 @@ fn slot_refusal(
     Ok(())
 }
 
-// Null slots up to and with the window's k-th, where it is not held; how many slots there are then. The k-th may lie past
-// the slots that are held, so its bound is in the clause.
+// Null slots up to and with the window's k-th, where it is not held; how many slots there are then. The k-th may lie
+// past the slots that are held, so its bound is in the clause.
 fn padded(insts: &mut InstsMut<'_>, window: Window, k: usize) -> usize
     requires { k < slot_places }
     ensures same_reference { insts.new.words.ghost_name ≡ insts.old.words.ghost_name }

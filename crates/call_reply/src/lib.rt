@@ -254,15 +254,16 @@ fn awaits(node: Node, slot: Slot, ballot: Ballot) -> bool
     node.start_slot <= slot && ballot == node.bal_prepared && node::is_leader(node)
 }
 
-// The slot up to which the slots from the commit bar on are looked at for Accepts to send again: none upon the own reply.
+// The slot up to which the slots from the commit bar on are looked at for Accepts to send again: none upon the own
+// reply.
 fn resends_to(id: Replica, peer: Replica, commit: Slot, slot: Slot) -> Slot
     ensures { result.0 - commit.0 ≡ span id.0 peer.0 commit.0 slot.0 }
 {
     if peer == id { commit } else { slot }
 }
 
-// A reply that is waited on: its items and its ack, or 20 and nothing where the area has too few places. The words come whole:
-// a struct made of a part of the buffer would lose what became of the part.
+// A reply that is waited on: its items and its ack, or 20 and nothing where the area has too few places. The words come
+// whole: a struct made of a part of the buffer would lose what became of the part.
 fn take_reply(
     node: Node,
     words: &mut [u64],

@@ -1,5 +1,5 @@
-// Numbers in decimal, most significant digit first; by the recursion that document 01 asks for, and no `Display`. Output
-// and place come apart: the writer that has both, in crate text, is made over this.
+// Numbers in decimal, most significant digit first; by the recursion that document 01 asks for, and no `Display`.
+// Output and place come apart: the writer that has both, in crate text, is made over this.
 #![tactic(auto)]
 
 ghost use Rattle.std.specs.Prelude.{◌≡◌, ◌+◌, ◌<◌, ◌≤◌, length};

@@ -51,8 +51,8 @@ pub struct PlainAnswered {
     pub node: Plain,
 }
 
-// By name, here and below, as the definitions are called that the entry points' clauses cite: `into` would hide which of
-// the structs it makes.
+// By name, here and below, as the definitions are called that the entry points' clauses cite: `into` would hide which
+// of the structs it makes.
 pub fn conf_of(r: Roster) -> RespondersConf
     ensures { result ≡ conf_of r }
 {

@@ -100,8 +100,8 @@ fn waits(cell: Cell) -> bool
     cell.status == Status::Accepting && cell.replica_bk.is_some()
 }
 
-// ---- what settles a read: the node and its slots' words are two arguments here, as a call has the node and its buffer,
-// since what is short goes by value and the tables are lent
+// ---- what settles a read: the node and its slots' words are two arguments here, as a call has the node and its
+// buffer, since what is short goes by value and the tables are lent
 
 fn inspect_highest_slot(node: Node, insts: Insts<'_>, key: Key, slot: Slot) -> Settled
     ensures { (m : List ℕ) → part m slots_at slot_words ≡ insts.entry.words.now → settled_of result ≡ inspect_highest_slot (view node m) (bytes_of key) slot.0 }

@@ -57,8 +57,8 @@ impl Row for ReadReq {
     ghost back = { read_back };
 }
 
-// No read, and a read after the others (by `bool`, as `TableMut::push` says it). A table made of a part of a buffer loses
-// what became of the part, so the words come as they are lent.
+// No read, and a read after the others (by `bool`, as `TableMut::push` says it). A table made of a part of a buffer
+// loses what became of the part, so the words come as they are lent.
 pub fn clear(words: &mut [u64])
     requires { held_words ≤ length words.old }
     ensures { (reads_of words.new ≡ []) × (words.new ≡ set words.old 0 0) }

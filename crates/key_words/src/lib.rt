@@ -20,8 +20,8 @@ pub struct Key {
     pub w5: u64,
 }
 
-// Whether two keys are the same bytes: the derived equality of the words, said of what they stand for. The lengths first,
-// since most keys of a table differ there: the equality alone compares four words at once, which takes 16 % more
+// Whether two keys are the same bytes: the derived equality of the words, said of what they stand for. The lengths
+// first, since most keys of a table differ there: the equality alone compares four words at once, which takes 16 % more
 // instructions of all of `replay` where many keys are written.
 pub fn same(a: Key, b: Key) -> bool
     ensures { result ≡ same_bytes (bytes_of a) (bytes_of b) }

@@ -10,8 +10,8 @@ use inty::Inty;
 // The bytes of a key at most, wherever one is kept or stands in a call.
 pub const KEY_BYTES: usize = 48;
 
-// The key after its leading k and K. Slices have no `trim_start_matches`, and to find the first other byte and cut there
-// is no plainer.
+// The key after its leading k and K. Slices have no `trim_start_matches`, and to find the first other byte and cut
+// there is no plainer.
 fn skip_ks(key: &[u8]) -> &[u8]
     ensures { result.now ≡ strip key.now }
 {

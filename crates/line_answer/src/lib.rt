@@ -66,7 +66,8 @@ fn put_span(text: &mut TextMut, start: Inty, end: Inty, mask: u64)
 
 // ---- items
 
-// The area is lent as words (document 01), so the kinds are the numbers that a call writes there; each has its own fields.
+// The area is lent as words (document 01), so the kinds are the numbers that a call writes there; each has its own
+// fields.
 #[tactic(auto, unfolding(crate::specs::Six::six_text))]
 fn put_six(text: &mut TextMut, words: &[u64; 6])
     requires { text.old.at + 106 ≤ length text.old.out.now }

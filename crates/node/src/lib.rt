@@ -34,8 +34,8 @@ pub struct Node {
     pub slots: usize,
 }
 
-// What a call gives that is taken: the node after it, and how many items it sends. A call that is refused leaves the node
-// as it was. The items stand in a lent area (no heap), so their number goes beside it.
+// What a call gives that is taken: the node after it, and how many items it sends. A call that is refused leaves the
+// node as it was. The items stand in a lent area (no heap), so their number goes beside it.
 #[derive(Clone, Copy)]
 pub struct Taken {
     pub node: Node,
