@@ -54,11 +54,6 @@ past_end start slots prepared slot ballot h g = sym (simp (le-leb start slot h, 
 
 -- ---- the items, and the ack
 
-pub commits_one : (a : Ack) → commits_by a ≤ 1
-commits_one Ignored = omega arith
-commits_one (Marks m) = omega arith
-commits_one (Commits m) = omega arith
-
 length_commits : (a : Ack) (slot : ℕ) → length (commit_items a slot) ≡ commits_by a
 length_commits Ignored slot = refl
 length_commits (Marks m) slot = refl
