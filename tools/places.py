@@ -59,13 +59,13 @@ def point_1():
     for c, n, sig, body in FUNCTIONS:
         ps = re.findall(r"(\w+): ([^,)]+)", sig.split("requires")[0].split("ensures")[0])
         for (a, x), (b, y) in zip(ps, ps[1:]):
-            if a == "attached" and x.strip() == "bool":
+            if a == "attached" and x.strip() == "bool" or {a, b} == {"line", "long"}:
                 yield "flag beside a value", c, n
         k = len(re.findall(r"Refused\(\d+\)|refused\(\w+, \d+\)", body))
         k += len(re.findall(r"return [1-9]\d?;", body)) if n.endswith("refusal") else 0
         for _ in range(k):
             yield "number for a refusal", c, n
-        if re.search(r"match \w+ \{\n +(?:1|0x[0-9a-f]+) =>", body) or re.search(r"Six\(1, ", body):
+        if re.search(r"match \*?\w+ \{\n +(?:1|0x[0-9a-f]+|\[1,[^\n]*) =>", body) or re.search(r"Six\(1, |=> \[1, ", body):
             yield "kinds by number", c, n
 
 
@@ -96,7 +96,7 @@ def point_4():
             yield "by its name", c, n
         elif "-> bool" in sig and re.search(r"return (true|false);", body) and not re.search(r"\b(while|for|loop|match)\b", body):
             yield "a chain of ifs for && and ||", c, n
-        elif re.search(r"_named$|_word$|kind_of$|value_of$|command_at$|leader_at$|has_leader$|leader_in$|leader_number$", n):
+        elif re.search(r"_named$|_word$|kind_of$|value_of$|command_at$|leader_at$|has_leader$|leader_in$|leader_number$|^(?:conf|node|plain)_of$|^number$", n):
             yield "a conversion by its name", c, n
 
 
@@ -138,10 +138,10 @@ def point_6():
 
 def point_7():
     for c, n, sig, body in FUNCTIONS:
-        for m in re.finditer(r"match (\w+) \{\n(.*?)\n    \}", body, re.S):
-            arms = re.findall(r"=>", m.group(2))
-            calls = re.findall(r"=>\s*(?:\{\s*)?\w+(?:::\w+)*\(", m.group(2))
-            if len(arms) > 2 and len(calls) * 2 > len(arms) and not re.search(r"=> (Some|Ok|Err|Six|Item::|Kind::|Call::)", m.group(2)):
+        for m in re.finditer(r"match \*?(\w+) \{\n(.*?)\n    \}", body, re.S):
+            arms = re.findall(r"^        [^ \n][^\n]*=>", m.group(2), re.M)
+            calls = re.findall(r"=>\s*(?:\{\s*)?(?:let [^\n]*;\s*)*(?:\w+\.)?(?!Some|Ok|Err|Six|Item::|Kind::|Call::|Command::)\w+(?:::\w+)*\(", m.group(2))
+            if len(arms) > 2 and len(calls) * 2 > len(arms):
                 yield "match %s" % m.group(1), c, n
 
 
