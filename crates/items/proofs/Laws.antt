@@ -13,11 +13,12 @@ use native.Mathlib.Decide.{dec_lt}
 use native.Mathlib.Omega.{arith}
 use borrow.Author.Tests.{lt-ltb, le-ltb, eq-eqb, eqb-true, ltb-true}
 use lib.Dec.{eqb, ltb}
-use lib.ListN.{length, get_or, length-append}
-use lib.Seq.{get_or-append-add, take_at}
+use lib.ListN.{length, get_or, take, drop, length-append}
+use lib.Seq.{get_or-append-add, take_at, drop-drop}
 use lib.Pow.{split}
 use lib.Pointwise.{pointwise}
 use Rattle.std.specs.Bool.{then_some}
+use Rattle.std.specs.Simd.{first_chunks}
 use Rattle.words.specs.Tab.{words_from, run_part}
 use Rattle.words.specs.Writes.{writes, length_writes, writes_other, writes_same, run_writes, run_agrees, writes_append}
 use Rattle.words.proofs.Tests.{and_both}
@@ -148,6 +149,25 @@ pub words_at : (area : List ℕ) (place : ℕ) (x : Item) → place < places are
     → item_at area place ≡ Some x
 unfolding item_at
 words_at area place x h e f = rw (lt-ltb place (places area) h) (ap decode e ∙ decode_words x f)
+
+-- the area cut into places
+pub chunk_at : (k : ℕ) (area : List ℕ) (i : ℕ) → i < k → get_or (first_chunks 6 k area) i [] ≡ take 6 (drop (i * 6) area)
+chunk_at zero area i h = absurd (omega arith)
+chunk_at (suc k) area zero h =
+    let e : 0 ≡ 0 * 6 = omega arith in
+    ap (λ (n : ℕ). take 6 (drop n area)) e
+chunk_at (suc k) area (suc i) h =
+    let e : 6 + i * 6 ≡ suc i * 6 = omega arith in
+    chunk_at k (drop 6 area) i (omega arith) ∙ ap (take 6) (drop-drop (i * 6) 6 area ∙ ap (λ (n : ℕ). drop n area) e)
+
+-- what the words of a place are decoded to
+pub place_item : (area : List ℕ) (place : ℕ) (chunks : List (List ℕ)) (ws : List ℕ) (x : Option Item) → chunks ≡ first_chunks 6 (length area / 6) area → length chunks ≡ length area / 6
+    → place < length chunks → ws ≡ get_or chunks place [] → x ≡ decode ws → x ≡ item_at area place
+unfolding item_at
+place_item area place chunks ws x e n h w d =
+    let k : place < length area / 6 = omega (arith, n) in
+    let q : ws ≡ words_from 6 area (place * 6) = w ∙ ap (λ (l : List (List ℕ)). get_or l place []) e ∙ chunk_at (length area / 6) area place k ∙ run_part 6 area (place * 6) (place_room (length area) place k) in
+    rw (lt-ltb place (length area / 6) k) (d ∙ ap decode q)
 
 -- ---- after put_item
 

@@ -1,11 +1,9 @@
 // The items of a call, in a lent answer area: six words each, the kind first.
 #![tactic(auto)]
 
-ghost use Rattle.std.specs.Prelude.{◌≡◌, ◌*◌, ◌+◌, ◌%◌, ◌≤◌, length, option_map, slice_index, if◌then◌else◌};
+ghost use Rattle.std.specs.Prelude.{◌≡◌, ◌+◌, ◌%◌, option_map, slice_index, if◌then◌else◌};
 ghost use Rattle.items.specs.Item.{item_of, item_words, places};
 ghost use Rattle.items.specs.Area.{Put, put_item, put_answer, HasRoom, item_at, named, decode};
-ghost use Rattle.words.specs.Tab.{words_from};
-ghost use Rattle.words.specs.Writes.{writes};
 
 use ids::{Ballot, Refusal, Replica, Slot};
 use inty::Inty;
@@ -61,6 +59,7 @@ pub enum Item {
     Rest(u64),
 }
 
+// The kinds are numbers written out: those that a host in C reads in the area.
 fn words_of(item: Item) -> [u64; WORDS]
     ensures { result ≡ item_words (item_of item) }
 {
@@ -105,7 +104,7 @@ fn replica_in(word: u64) -> Replica
     Replica((word % 256) as u8)
 }
 
-// The only item that the words can be. The kinds are the numbers that the C side reads in the area. No `From`: only
+// The only item that the words can be. The kinds are the numbers that a host in C reads in the area. No `From`: only
 // `decoded` says whether the words are the item's.
 #[tactic(auto, unfolding(crate::specs::Area::named))]
 fn item_named(words: [u64; WORDS]) -> Item
@@ -170,21 +169,6 @@ fn decoded(words: [u64; WORDS]) -> Option<Item>
     (words_of(item) == words).then_some(item)
 }
 
-fn load(area: &[u64], place: usize) -> [u64; WORDS]
-    requires { place * 6 + 6 ≤ length area.now }
-    ensures { result ≡ words_from 6 area.now (place * 6) }
-{
-    let p = place * WORDS;
-    [
-        area[p],
-        area[p + 1],
-        area[p + 2],
-        area[p + 3],
-        area[p + 4],
-        area[p + 5],
-    ]
-}
-
 // How many places an area has.
 pub fn places(area: &[u64]) -> usize
     ensures { result ≡ places area.now }
@@ -216,8 +200,8 @@ pub fn put_item(area: &mut [u64], place: usize, item: Item) -> Result<(), Refusa
     Ok(())
 }
 
-// Items put into a lent area one after the other, from its first place on or after those that stand there. They go
-// beside a function's other arguments, which are not lent.
+// Items put into a lent area one after the other, from its first place on or after those that stand there. No part of
+// a struct over the slots' words: an answer area is the call's, those words are the node's.
 #[derive(Drop)]
 pub struct Items<'a> {
     pub area: &'a mut [u64],
@@ -246,8 +230,6 @@ impl<'a> Items<'a> {
 pub fn get_item(area: &[u64], place: usize) -> Option<Item>
     ensures { option_map item_of result ≡ item_at area.now place }
 {
-    if place >= places(area) {
-        return None;
-    }
-    decoded(load(area, place))
+    let (places, _) = area.as_chunks();
+    decoded(*places.get(place)?)
 }

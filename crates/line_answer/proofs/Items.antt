@@ -3,16 +3,17 @@ use mathlib.Core.Path.{◌≡◌, refl, sym, ap, ◌∙◌}
 use mathlib.Core.Bool.{true, false}
 use mathlib.Core.List.{List, [], ◌∷◌, ◌++◌, append_assoc, append-nil}
 use Rattle.std.specs.Prelude.{None, Some, Ok, Err}
-use Prim.Native.Nat.{ℕ, zero, suc, ◌+◌, ◌*◌, ◌/◌, ◌≤◌, ◌<◌}
+use Prim.Native.Nat.{ℕ, suc, ◌+◌, ◌*◌, ◌/◌, ◌≤◌, ◌<◌}
 use native.Mathlib.Omega.{arith}
 use lib.ListN.{length, get_or, take, drop}
-use lib.Seq.{take-suc, take_all, take-add, take_at, drop_at, drop-drop, get_or-take, length-take-le}
+use lib.Seq.{take-suc, take_all, take-add, take_at, drop_at, get_or-take, length-take-le}
 use Rattle.std.specs.Simd.{first_chunks}
 use lib.Pow.{split}
 use Rattle.words.specs.Text.{Bytes, bytes}
 use Rattle.words.specs.Tab.{run_part}
 use Rattle.words.specs.Writes.{writes, length_writes, run_writes}
 use Rattle.decimal.specs.Digits.{decimal, decimal_in}
+use Rattle.items.proofs.Laws.{chunk_at}
 use Rattle.items.specs.Item.{Item, Value, Absent, Store, Pass, Hold, Retry, Resend, Commit, Lead, Prelog, Prepare, Span, Rest, item_words, encode, length_encode, encode_snoc}
 use Rattle.line_answer.specs.Text.{line, item_text, items_text, refused_text, taken_text}
 use Rattle.line_answer.specs.Six.{six_text}
@@ -64,15 +65,6 @@ listed_none t area = record { held = refl; size = refl; within = omega arith; it
     go (x ∷ l) h = absurd (omega (arith, h.0))
 
 -- six words out of an area
-chunk_at : (k : ℕ) (area : List ℕ) (i : ℕ) → i < k → get_or (first_chunks 6 k area) i [] ≡ take 6 (drop (i * 6) area)
-chunk_at zero area i h = absurd (omega arith)
-chunk_at (suc k) area zero h =
-    let e : 0 ≡ 0 * 6 = omega arith in
-    ap (λ (n : ℕ). take 6 (drop n area)) e
-chunk_at (suc k) area (suc i) h =
-    let e : 6 + i * 6 ≡ suc i * 6 = omega arith in
-    chunk_at k (drop 6 area) i (omega arith) ∙ ap (take 6) (drop-drop (i * 6) 6 area ∙ ap (λ (n : ℕ). drop n area) e)
-
 pub place_words : (area : List ℕ) (chunks : List (List ℕ)) (count i : ℕ) → chunks ≡ first_chunks 6 (length area / 6) area → count * 6 ≤ length area → i < count
     → get_or (take count chunks) i [] ≡ take 6 (drop (i * 6) area)
 place_words area chunks count i e r h =

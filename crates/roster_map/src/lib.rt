@@ -1,7 +1,7 @@
 // `KeyRangeMap` of keyrange.rs: key ranges and their masks as rows in lent words.
 #![tactic(auto)]
 
-ghost use Rattle.std.specs.Prelude.{◌≡◌, false, ℕ, ◌+◌, ◌*◌, ◌≤◌, List, Option, length};
+ghost use Rattle.std.specs.Prelude.{◌≡◌, false, ℕ, ◌+◌, ◌*◌, ◌≤◌, List, Option, length, IfErr};
 ghost use Rattle.words.specs.Writes.{writes};
 ghost use Rattle.layout.specs.Layout.{roster_row, roster_words};
 ghost use Rattle.inty.specs.Value.{value_of};
@@ -210,6 +210,7 @@ impl RangeMapMut<'_> {
         requires { roster_words ≤ length self.old.rows.now }
         ensures words { SameWords self.old.rows self.new.rows }
         ensures stored { Stores (ranges_of out.entry.rows.now out.entry.count) self.old.rows.now result self.new.rows.now self.new.count }
+        ensures refused { IfErr result (λ e. self.new.count ≡ self.old.count) }
     {
         if out.count > RANGES {
             return Err(Refusal::TooManyRanges);
@@ -224,6 +225,7 @@ impl RangeMapMut<'_> {
         requires { (self.old.count ≤ 64) × (roster_words ≤ length self.old.rows.now) }
         ensures words { SameWords self.old.rows self.new.rows }
         ensures stored { Stores (overwrite (ranges_of self.old.rows.now self.old.count) (range_of w)) self.old.rows.now result self.new.rows.now self.new.count }
+        ensures refused { IfErr result (λ e. self.new.count ≡ self.old.count) }
     {
         // A fixed array, since there is no heap.
         let mut words = [0; CUT_WORDS];
