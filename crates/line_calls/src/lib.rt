@@ -30,7 +30,7 @@ fn read_call<'a>(mut reader: LineReader<'a>) -> Option<Asked<'a>>
     let client = reader.next_number()?;
     let request = reader.next_number()?;
     let leases = reader.next_number()?;
-    let key = reader.next_field()?;
+    let key = reader.next_bytes()?;
     reader.is_ended().then_some(Asked {
         call: Call::Read {
             client,

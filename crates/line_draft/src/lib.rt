@@ -30,8 +30,8 @@ fn range_line(
 ) -> Result<RespondersConf, Refusal>
     ensures { EditsLine (is_edit Range (fields_from reader.entry.line.now reader.entry.at)) (edit_of Range (fields_from reader.entry.line.now reader.entry.at)) population draft rows.old result rows.new }
 {
-    let start = reader.next_field().ok_or(Refusal::Malformed)?;
-    let end = reader.next_field().ok_or(Refusal::Malformed)?;
+    let start = reader.next_bytes().ok_or(Refusal::Malformed)?;
+    let end = reader.next_bytes().ok_or(Refusal::Malformed)?;
     let mask = reader.next_number().ok_or(Refusal::Malformed)?;
     if !reader.is_ended() {
         return Err(Refusal::Malformed);

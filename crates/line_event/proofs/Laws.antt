@@ -1,14 +1,15 @@
 -- What a line's call, edit or listing leaves for the host.
 use Rattle.std.specs.Prelude.{if◌then◌else◌}
 use mathlib.Core.Path.{◌≡◌, refl, sym, ap, subst, ◌∙◌}
-use mathlib.Core.Bool.{Bool, true, false, ◌&&◌, and-true, and-false}
+use mathlib.Core.Bool.{Bool, true, false, ◌&&◌, true≢false, and-true, and-false}
 use mathlib.Core.List.{List, [], ◌∷◌, ◌++◌}
-use Rattle.std.specs.Prelude.{Option, None, Some}
+use Rattle.std.specs.Prelude.{Option, None, Some, IsSome}
 use Prim.Native.Nat.{ℕ, ◌+◌, ◌*◌, ◌<◌, ◌≤◌}
 use native.Mathlib.Omega.{arith}
 use lib.Dec.{leb, ltb, eqb}
 use lib.ListN.{length, length-append, length-map}
 use borrow.Author.Tests.{le-leb, lt-leb, lt-ltb, le-ltb, leb-true, ltb-false, eqb-true}
+use denote.Bor.{Bor}
 use Rattle.words.specs.Text.{Bytes}
 use Rattle.words.specs.Choice.{if_none◌then◌else◌}
 use Rattle.words.proofs.Tests.{and_both}
@@ -34,10 +35,12 @@ use Rattle.node.specs.declared.Taken as code-taken
 use Rattle.node.specs.View.{size, view, ready, given_of, in_range as inRangeOf}
 use Rattle.node.proofs.Calls.{is_ready, number-not-0}
 use Rattle.line_fields.specs.Split.{fields_from}
+use Rattle.line_fields.specs.Reads.{none_left}
 use Rattle.line_kind.specs.Kind.{kind_of}
 use Rattle.line_kind.specs.declared.Kind.{Kind}
-use Rattle.line_fields.proofs.Laws.{from_start}
-use Rattle.line_reader.specs.Takes.{FirstBytes}
+use Rattle.line_fields.proofs.Laws.{from_start, some_left}
+use Rattle.line_reader.specs.declared.LineReader.{LineReader}
+use Rattle.line_reader.specs.Takes.{moved_to, FirstBytes, TakesBytes}
 use Rattle.line_host.specs.declared.Host as code
 use Rattle.line_host.specs.Line.{Line, NodeLine, EditLine, ShowLine, HeardLine, CallLine, only, line_by, line_of}
 use Rattle.line_host.specs.Host.{Host, LineResult, refused_line, first_line, line_at, answer_line, text_of}
@@ -334,10 +337,15 @@ pub long_line : (h : code.Host) (mem rows area : List ℕ) (s : Bytes) → 1024 
 unfolding answer_line line_of
 long_line h mem rows area s l = rw (lt-ltb 1024 (length s) l) (unknown h mem rows area)
 
--- a line has a field, so the first of two cases does not come up
-pub no_name : (h : code.Host) (mem rows area : List ℕ) (s : Bytes) → length s ≤ 1024 → fields_from s 0 ≡ [] → LineFollows (answer_line (host_of h mem rows) s) h mem rows area (Err Malformed) mem rows area
-unfolding answer_line line_of
-no_name h mem rows area s l e = rw (le-ltb 1024 (length s) l, sym (from_start s) ∙ e) (unknown h mem rows area)
+-- a line has a field
+pub has_name : (line : Bor (List ℕ)) (r r' : LineReader) → r ≡ record { line = line; at = 0 } → (o : Option (Bor (List ℕ))) → TakesBytes r o r' → IsSome o
+has_name line r r' e (Some f) t = refl
+has_name line r r' e None t =
+    let z : fields_from line.now 0 ≡ [] = rw e at t.0 in
+    absurd (true≢false (sym (ap none_left z) ∙ ap none_left (some_left line.now 0 (omega arith))))
+
+pub named : (r r' : LineReader) (o : Option (Bor (List ℕ))) → TakesBytes r o r' → (f : Bor (List ℕ)) → o ≡ Some f → FirstBytes r.line.now r.at f.now × (r' ≡ moved_to r (r.at + length f.now + 1))
+named r r' o t f e = rw e at t
 
 pub by_name : (h : code.Host) (mem rows area mem' rows' area' : List ℕ) (s f : Bytes) (k : Kind) (r : Result LineTaken Refusal) → length s ≤ 1024 → FirstBytes s 0 f
     → k ≡ kind_of f → LineFollows (result_by (host_of h mem rows) (line_by k (fields_from s (0 + length f + 1)))) h mem rows area r mem' rows' area'

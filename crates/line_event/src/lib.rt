@@ -1,5 +1,5 @@
-// An event line: what it does to the host, and the text that answers it. The host is short and copied, the buffers are
-// lent, so the two come apart.
+// An event line: what it does to the host, and the text that answers it. Host and buffers are lent; only a line that is
+// taken changes the host.
 #![tactic(auto)]
 
 ghost use Rattle.std.specs.Prelude.{◌≡◌, true, ◌≤◌, length, if◌then◌else◌};
@@ -124,9 +124,8 @@ fn hear(host: &mut Host, buffers: &mut Buffers<'_>, line: &[u8]) -> Result<usize
         return Err(Refusal::Malformed);
     }
     let mut reader = LineReader::new(line, 0);
-    let Some(name) = reader.next_field() else {
-        return Err(Refusal::Malformed);
-    };
+    // A line has a field, if an empty one.
+    let name = reader.next_bytes().unwrap();
     let kind = line_kind::kind_of(name);
     act(host, buffers, kind, reader)
 }

@@ -2,13 +2,19 @@
 use Rattle.std.specs.Prelude.{ℕ, ◌≡◌, ◌+◌, ◌≤◌, List, [], ◌∷◌, Option, None, Some, Ok, Err, length}
 use denote.Bor.{Bor}
 use Rattle.words.specs.Text.{Bytes}
+use Rattle.line_fields.specs.declared.Field.{Field}
 use Rattle.line_fields.specs.Split.{fields_from}
-use Rattle.line_fields.specs.Reads.{between, ReadsNumberAt, ReadsNumbersAt, ReadsOptionalAt}
+use Rattle.line_fields.specs.Reads.{between, ReadsField, ReadsNumberAt, ReadsNumbersAt, ReadsOptionalAt}
 use Rattle.line_reader.specs.declared.LineReader.{LineReader}
 
 -- the same line, at another position
 abbrev pub moved_to : LineReader → ℕ → LineReader
 moved_to r n = record { line = r.line; at = n }
+
+-- what is read at the reader's position, and the reader then: at the field after it, or, where it is no field of that
+-- kind, still at it
+abbrev pub TakesField : LineReader → Field → LineReader → Type 0
+TakesField r f r' = ReadsField r.line.now r.at f × (r' ≡ moved_to r f.next)
 
 -- the first field that is left, by its bytes; the others begin behind its comma
 pub record FirstBytes (s : Bytes) (at : ℕ) (f : Bytes) : Type 0 where
@@ -16,11 +22,9 @@ pub record FirstBytes (s : Bytes) (at : ℕ) (f : Bytes) : Type 0 where
   pub bytes : f ≡ between s at (at + length f)
   pub here : fields_from s at ≡ f ∷ fields_from s (at + length f + 1)
 
--- what is read at the reader's position, and the reader then: at the field after it, or, where it is no field of that
--- kind, still at it
-abbrev pub TakesField : LineReader → Option (Bor (List ℕ)) → LineReader → Type 0
-TakesField r None r' = (fields_from r.line.now r.at ≡ []) × (r' ≡ r)
-TakesField r (Some f) r' = FirstBytes r.line.now r.at f.now × (r' ≡ moved_to r (r.at + length f.now + 1))
+abbrev pub TakesBytes : LineReader → Option (Bor (List ℕ)) → LineReader → Type 0
+TakesBytes r None r' = (fields_from r.line.now r.at ≡ []) × (r' ≡ r)
+TakesBytes r (Some f) r' = FirstBytes r.line.now r.at f.now × (r' ≡ moved_to r (r.at + length f.now + 1))
 
 abbrev pub TakesNumber : LineReader → Option ℕ → LineReader → Type 0
 TakesNumber r None r' = ReadsNumberAt r.line.now r.at None × (r' ≡ r)

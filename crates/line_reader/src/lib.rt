@@ -4,7 +4,9 @@
 ghost use Rattle.std.specs.Prelude.{◌≡◌};
 ghost use Rattle.line_fields.specs.Split.{fields_from};
 ghost use Rattle.line_fields.specs.Reads.{none_left, ReadsNumbers};
-ghost use Rattle.line_reader.specs.Takes.{TakesField, TakesNumber, TakesNumbers, TakesOptional};
+ghost use Rattle.line_reader.specs.Takes.{TakesBytes, TakesField, TakesNumber, TakesNumbers, TakesOptional};
+
+use line_fields::Field;
 
 #[derive(Clone, Copy)]
 pub struct LineReader<'a> {
@@ -26,15 +28,23 @@ impl<'a> LineReader<'a> {
         line_fields::ended(self.line, self.at)
     }
 
-    // The bytes of the first field that is left. The reader moves on to the one after it.
-    pub fn next_field(&mut self) -> Option<&'a [u8]>
+    // The first field that is left. The reader moves on to the one after it.
+    pub fn next_field(&mut self) -> Field
         ensures { TakesField self.old result self.new }
+    {
+        let field = line_fields::field_at(self.line, self.at);
+        self.at = field.next;
+        field
+    }
+
+    // Its bytes, if one is left.
+    pub fn next_bytes(&mut self) -> Option<&'a [u8]>
+        ensures { TakesBytes self.old result self.new }
     {
         if self.is_ended() {
             return None;
         }
-        let field = line_fields::field_at(self.line, self.at);
-        self.at = field.next;
+        let field = self.next_field();
         Some(&self.line[field.start..field.end])
     }
 

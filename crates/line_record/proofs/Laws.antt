@@ -6,8 +6,9 @@ use mathlib.Core.List.{List, [], ◌∷◌, ◌++◌, append_assoc, append-nil}
 use mathlib.Core.Logic.{inl}
 use Prim.Native.Nat.{ℕ, ◌+◌, ◌-◌, ◌*◌, ◌/◌, ◌≤◌, ◌<◌}
 use native.Mathlib.Nat.{add-zero, zero-add}
+use native.Mathlib.Decide.{dec_lt}
 use native.Mathlib.Omega.{arith}
-use lib.ListN.{length, get_or, take, drop}
+use lib.ListN.{length, get_or, take}
 use lib.Seq.{get_or-take, length-take-le}
 use denote.Bor.{Bor}
 use Rattle.words.specs.Text.{Bytes}
@@ -15,13 +16,14 @@ use Rattle.words.specs.Choice.{if_none◌then◌else◌}
 use Rattle.words.specs.Part.{part}
 use Rattle.words.specs.Tab.{tab, tab_ext, tab_snoc}
 use Rattle.words.specs.Writes.{writes, Agrees, writes_other, writes_same, length_writes}
+use Rattle.line_fields.specs.declared.Field.{Field}
 use Rattle.line_fields.specs.Split.{fields_from}
 use Rattle.line_fields.specs.Number.{value_of, has_byte, is_number}
-use Rattle.line_fields.specs.Reads.{none_left, FirstNumber, is_optional, FirstOptional}
+use Rattle.line_fields.specs.Reads.{none_left, between, ReadsField, FirstNumber, is_optional, FirstOptional}
 use borrow.Author.Tests.{ltb-false}
 use Rattle.line_fields.proofs.Laws.{from_past, some_left, all_read, none_left_lem}
 use Rattle.line_reader.specs.declared.LineReader.{LineReader}
-use Rattle.line_reader.specs.Takes.{moved_to, FirstBytes, TakesField, TakesNumber, TakesOptional}
+use Rattle.line_reader.specs.Takes.{moved_to, TakesField, TakesNumber, TakesOptional}
 use Rattle.bodega.specs.Replica.{Request, Put, Get}
 use Rattle.inst_reqs.specs.Batch.{command_at}
 use Rattle.req_batch.specs.Given.{given_from, given_at, given}
@@ -77,50 +79,51 @@ module _ (s : Bytes) (at : ℕ) where
     group_request : is_number (get_or (fields_from s n) 0 []) ≡ false → are_groups (fields_from s at) ≡ false
     group_request e = rw a.here (no_request (get_or (fields_from s at) 0 []) (fields_from s n) e)
 
-    module _ (w m : ℕ) (b : FirstNumber s n (record { value = w; next = m })) where
+    module _ (w m : ℕ) (b : FirstNumber s n (record { value = w; next = m })) (key : Field) (c : ReadsField s m key) where
       two : fields_from s at ≡ get_or (fields_from s at) 0 [] ∷ get_or (fields_from s n) 0 [] ∷ fields_from s m
       two = a.here ∙ ap {B = List Bytes} (λ l. get_or (fields_from s at) 0 [] ∷ l) b.here
 
-      group_key : fields_from s m ≡ [] → are_groups (fields_from s at) ≡ false
-      group_key e =
-          ap are_groups (two ∙ ap {B = List Bytes} (λ l. get_or (fields_from s at) 0 [] ∷ get_or (fields_from s n) 0 [] ∷ l) e) ∙ two_alone (get_or (fields_from s at) 0 []) (get_or (fields_from s n) 0 [])
+      three : m ≤ length s → fields_from s at ≡ get_or (fields_from s at) 0 [] ∷ get_or (fields_from s n) 0 [] ∷ between s key.start key.end ∷ fields_from s key.next
+      three h = two ∙ ap {B = List Bytes} (λ l. get_or (fields_from s at) 0 [] ∷ get_or (fields_from s n) 0 [] ∷ l) (c.first h).here
 
-      module _ (key : Bytes) (c : FirstBytes s m key) where
-        -- where the fields after the key begin
-        abbrev behind : ℕ
-        behind = m + length key + 1
+      group_value : is_optional (fields_from s key.next) ≡ false → are_groups (fields_from s at) ≡ false
+      group_value e =
+          elim (dec_lt (length s) m) [
+            | yes h ↦ ap are_groups (two ∙ ap {B = List Bytes} (λ l. get_or (fields_from s at) 0 [] ∷ get_or (fields_from s n) 0 [] ∷ l) (c.past h).none) ∙ two_alone (get_or (fields_from s at) 0 []) (get_or (fields_from s n) 0 [])
+            | no h ↦ ap are_groups (three (omega arith)) ∙ no_command (get_or (fields_from s at) 0 []) (get_or (fields_from s n) 0 []) (between s key.start key.end) (fields_from s key.next) e
+          ]
 
-        three : fields_from s at ≡ get_or (fields_from s at) 0 [] ∷ get_or (fields_from s n) 0 [] ∷ key ∷ fields_from s behind
-        three = two ∙ ap {B = List Bytes} (λ l. get_or (fields_from s at) 0 [] ∷ get_or (fields_from s n) 0 [] ∷ l) c.here
+      module _ (o : Option ℕ) (k : ℕ) (d : FirstOptional s key.next (record { value = o; next = k })) where
+        -- past the end there is no field
+        key_in : m ≤ length s
+        key_in =
+            elim (dec_lt (length s) m) [
+              | yes h ↦
+                  (let p = c.past h in
+                  let e : fields_from s key.next ≡ [] = ap (λ (x : Field). fields_from s x.next) p.stands ∙ p.none in
+                  absurd (true≢false (sym (ap none_left e) ∙ ap none_left d.here)))
+              | no h ↦ omega arith
+            ]
 
-        group_value : is_optional (fields_from s behind) ≡ false → are_groups (fields_from s at) ≡ false
-        group_value e = ap are_groups three ∙ no_command (get_or (fields_from s at) 0 []) (get_or (fields_from s n) 0 []) key (fields_from s behind) e
+        four : fields_from s at ≡ get_or (fields_from s at) 0 [] ∷ get_or (fields_from s n) 0 [] ∷ between s key.start key.end ∷ get_or (fields_from s key.next) 0 [] ∷ fields_from s k
+        four = three key_in ∙ ap {B = List Bytes} (λ l. get_or (fields_from s at) 0 [] ∷ get_or (fields_from s n) 0 [] ∷ between s key.start key.end ∷ l) d.here
 
-        -- it is a part of the line
-        key_part : part s m (length key) ≡ key
+        group_whole : FirstGroup s at (record { client = v; request = w; value = o; start = key.start; length = key.end - key.start }) k
         unfolding part
-        key_part =
-            let e : m + length key - m ≡ length key = omega arith in
-            sym (c.bytes ∙ ap (λ (i : ℕ). take i (drop m s)) e)
-
-        module _ (o : Option ℕ) (k : ℕ) (d : FirstOptional s behind (record { value = o; next = k })) where
-          four : fields_from s at ≡ get_or (fields_from s at) 0 [] ∷ get_or (fields_from s n) 0 [] ∷ key ∷ get_or (fields_from s behind) 0 [] ∷ fields_from s k
-          four = three ∙ ap {B = List Bytes} (λ l. get_or (fields_from s at) 0 [] ∷ get_or (fields_from s n) 0 [] ∷ key ∷ l) d.here
-
-          group_whole : FirstGroup s at (record { client = v; request = w; value = o; start = m; length = length key }) k
-          group_whole =
-              let t : not (has_byte (get_or (fields_from s behind) 0 [])) || is_number (get_or (fields_from s behind) 0 []) ≡ true =
-              (let l : none_left (fields_from s behind) ≡ false = ap none_left d.here in rw l at d.good) in
-              record {
-                low = omega (arith, a.low, b.low, d.low);
-                good =
-                    ap are_groups four
-                    ∙ one_group (get_or (fields_from s at) 0 []) (get_or (fields_from s n) 0 []) key (get_or (fields_from s behind) 0 []) (fields_from s k) a.good b.good t;
-                batch =
-                    ap batch_of four
-                    ∙ one_request (get_or (fields_from s at) 0 []) (get_or (fields_from s n) 0 []) key (get_or (fields_from s behind) 0 []) (fields_from s k)
-                    ∙ rw (a.value, b.value, key_part, command_is (has_byte (get_or (fields_from s behind) 0 [])) o (value_of (get_or (fields_from s behind) 0 [])) d.value);
-              }
+        group_whole =
+            let z = c.first key_in in
+            let t : not (has_byte (get_or (fields_from s key.next) 0 [])) || is_number (get_or (fields_from s key.next) 0 []) ≡ true =
+            (let l : none_left (fields_from s key.next) ≡ false = ap none_left d.here in rw l at d.good) in
+            record {
+              low = omega (arith, a.low, b.low, z.low, z.next, d.low);
+              good =
+                  ap are_groups four
+                  ∙ one_group (get_or (fields_from s at) 0 []) (get_or (fields_from s n) 0 []) (between s key.start key.end) (get_or (fields_from s key.next) 0 []) (fields_from s k) a.good b.good t;
+              batch =
+                  ap batch_of four
+                  ∙ one_request (get_or (fields_from s at) 0 []) (get_or (fields_from s n) 0 []) (between s key.start key.end) (get_or (fields_from s key.next) 0 []) (fields_from s k)
+                  ∙ rw (a.value, b.value, command_is (has_byte (get_or (fields_from s key.next) 0 [])) o (value_of (get_or (fields_from s key.next) 0 [])) d.value);
+            }
 
 -- by what a reader took
 module _ (r₀ : LineReader) where
@@ -141,25 +144,22 @@ module _ (r₀ : LineReader) where
       line_is_2 : r₂.line ≡ r₀.line
       line_is_2 = ap (λ (r : LineReader). r.line) b.1 ∙ line_is
 
-      pub other_key : fields_from r₂.line.now r₂.at ≡ [] → r₀.at ≤ length r₀.line.now → are_groups (fields_from r₀.line.now r₀.at) ≡ false
-      other_key n = λ _. group_key r₀.line.now r₀.at v r₁.at a.0 w r₂.at second (rw line_is_2 at n)
-
-      module _ (key : Bor (List ℕ)) (r₃ : LineReader) (c : TakesField r₂ (Some key) r₃) where
-        third : FirstBytes r₀.line.now r₂.at key.now
+      module _ (key : Field) (r₃ : LineReader) (c : TakesField r₂ key r₃) where
+        third : ReadsField r₀.line.now r₂.at key
         third = rw line_is_2 at c.0
 
         line_is_3 : r₃.line ≡ r₀.line
         line_is_3 = ap (λ (r : LineReader). r.line) c.1 ∙ line_is_2
 
-        at_is_3 : r₃.at ≡ r₂.at + length key.now + 1
+        at_is_3 : r₃.at ≡ key.next
         at_is_3 = ap (λ (r : LineReader). r.at) c.1
 
         pub other_value : is_optional (fields_from r₃.line.now r₃.at) ≡ false → r₀.at ≤ length r₀.line.now → are_groups (fields_from r₀.line.now r₀.at) ≡ false
-        other_value n = λ _. group_value r₀.line.now r₀.at v r₁.at a.0 w r₂.at second key.now third (rw (line_is_3, at_is_3) at n)
+        other_value n = λ _. group_value r₀.line.now r₀.at v r₁.at a.0 w r₂.at second key third (rw (line_is_3, at_is_3) at n)
 
-        pub whole_group : (o : Option ℕ) (r₄ : LineReader) → TakesOptional r₃ (Some o) r₄ → TakesGroup r₀ (Some (record { client = v; request = w; value = o; start = r₂.at; length = length key.now })) r₄
+        pub whole_group : (o : Option ℕ) (r₄ : LineReader) → TakesOptional r₃ (Some o) r₄ → TakesGroup r₀ (Some (record { client = v; request = w; value = o; start = key.start; length = key.end - key.start })) r₄
         whole_group o r₄ d = (
-          group_whole r₀.line.now r₀.at v r₁.at a.0 w r₂.at second key.now third o r₄.at (rw (line_is_3, at_is_3) at d.0),
+          group_whole r₀.line.now r₀.at v r₁.at a.0 w r₂.at second key third o r₄.at (rw (line_is_3, at_is_3) at d.0),
           d.1 ∙ ap (λ (l : Bor (List ℕ)). moved_to (record { line = l; at = r₄.at }) r₄.at) line_is_3,
         )
 

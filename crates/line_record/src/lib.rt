@@ -29,15 +29,14 @@ fn group_at(reader: &mut LineReader<'_>) -> Option<Group>
 {
     let client = reader.next_number()?;
     let request = reader.next_number()?;
-    let start = reader.at;
-    let key = reader.next_field()?;
+    let key = reader.next_field();
     let value = reader.next_optional()?;
     Some(Group {
         client,
         request,
         value,
-        start: start as u64,
-        length: key.len() as u64,
+        start: key.start as u64,
+        length: (key.end - key.start) as u64,
     })
 }
 

@@ -215,7 +215,7 @@ impl Program<'_> {
         requires { (places ≤ 546) × (length line.now ≤ 1024) }
     {
         let mut reader = LineReader::new(line, 0);
-        let name = reader.next_field().unwrap_or(&[]);
+        let name = reader.next_bytes().unwrap_or(&[]);
         let kind = line_kind::kind_of(name);
         let mut area: [u64; ITEM_WORDS] = blank();
         let mut groups: [u64; GROUP_WORDS] = blank();

@@ -23,10 +23,10 @@ struct Header<'a> {
 
 fn read_header(line: &[u8]) -> Option<Header<'_>> {
     let mut reader = LineReader::new(line, 0);
-    if reader.next_field()? != b"script".as_slice() {
+    if reader.next_bytes()? != b"script".as_slice() {
         return None;
     }
-    let name = reader.next_field()?;
+    let name = reader.next_bytes()?;
     let input = reader.next_number()?;
     let answers = reader.next_number()?;
     reader.is_ended().then_some(Header {

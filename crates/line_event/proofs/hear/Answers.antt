@@ -10,14 +10,13 @@ pub returns-then-line-gt-LINE_BYTES-clause-follows : goal.returns-then-line-gt-L
 returns-then-line-gt-LINE_BYTES-clause-follows c =
     let a = c.args in law.fitted a.host.now a.buffers.now.mem.now a.buffers.now.rows.now a.buffers.now.area.now a.buffers.now.groups.now a.line.now _ (Err Malformed) c.is_fit.ensures _ _ _ c.if-not-is_fit.false (law.long_line a.host.now a.buffers.now.mem.now a.buffers.now.rows.now a.buffers.now.area.now a.line.now c.if-line-gt-LINE_BYTES.true)
 
+pub unwrap-name-requires : goal.unwrap-name-requires
+unwrap-name-requires c = law.has_name _ _ _ c.new-reader.ensures _ c.next_bytes.ensures
+
 pub act-requires : goal.act-requires
 act-requires c =
-    let a = c.args in (law.is_sound_lem a.host.now.draft a.buffers.now.mem.now a.buffers.now.rows.now a.buffers.now.area.now a.buffers.now.groups.now _ c.is_fit.ensures c.if-not-is_fit.false, law.has_places a.host.now.draft a.buffers.now.mem.now a.buffers.now.rows.now a.buffers.now.area.now a.buffers.now.groups.now _ c.is_fit.ensures c.if-not-is_fit.false, law.has_groups a.host.now.draft a.buffers.now.mem.now a.buffers.now.rows.now a.buffers.now.area.now a.buffers.now.groups.now _ c.is_fit.ensures c.if-not-is_fit.false, rw (c.in-Some.ensures.1, c.new-reader.ensures) c.if-line-gt-LINE_BYTES.false)
+    let a = c.args in (law.is_sound_lem a.host.now.draft a.buffers.now.mem.now a.buffers.now.rows.now a.buffers.now.area.now a.buffers.now.groups.now _ c.is_fit.ensures c.if-not-is_fit.false, law.has_places a.host.now.draft a.buffers.now.mem.now a.buffers.now.rows.now a.buffers.now.area.now a.buffers.now.groups.now _ c.is_fit.ensures c.if-not-is_fit.false, law.has_groups a.host.now.draft a.buffers.now.mem.now a.buffers.now.rows.now a.buffers.now.area.now a.buffers.now.groups.now _ c.is_fit.ensures c.if-not-is_fit.false, rw ((law.named _ _ _ c.next_bytes.ensures _ c.unwrap-name.ensures).1, c.new-reader.ensures) c.if-line-gt-LINE_BYTES.false)
 
 pub returns-clause-follows : goal.returns-clause-follows
 returns-clause-follows c =
-    law.fitted _ _ _ _ _ _ _ _ c.is_fit.ensures _ _ _ c.if-not-is_fit.false (law.by_name _ _ _ _ _ _ _ _ _ _ _ c.if-line-gt-LINE_BYTES.false (rw c.new-reader.ensures at c.in-Some.ensures.0) c.kind_of-kind.ensures (rw (c.in-Some.ensures.1, c.new-reader.ensures) at c.act.ensures.follows))
-
-pub returns-in_default-clause-follows : goal.returns-in_default-clause-follows
-returns-in_default-clause-follows c =
-    let a = c.args in law.fitted a.host.now a.buffers.now.mem.now a.buffers.now.rows.now a.buffers.now.area.now a.buffers.now.groups.now a.line.now _ (Err Malformed) c.is_fit.ensures _ _ _ c.if-not-is_fit.false (law.no_name a.host.now a.buffers.now.mem.now a.buffers.now.rows.now a.buffers.now.area.now a.line.now c.if-line-gt-LINE_BYTES.false (rw c.new-reader.ensures at c.in_default.ensures.0))
+    law.fitted _ _ _ _ _ _ _ _ c.is_fit.ensures _ _ _ c.if-not-is_fit.false (law.by_name _ _ _ _ _ _ _ _ _ _ _ c.if-line-gt-LINE_BYTES.false (rw c.new-reader.ensures at (law.named _ _ _ c.next_bytes.ensures _ c.unwrap-name.ensures).0) c.kind_of-kind.ensures (rw ((law.named _ _ _ c.next_bytes.ensures _ c.unwrap-name.ensures).1, c.new-reader.ensures) at c.act.ensures.follows))

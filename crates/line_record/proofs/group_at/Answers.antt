@@ -8,13 +8,9 @@ pub returns-in_err-request : goal.returns-in_err-request
 returns-in_err-request c =
     rw c.from_residual-in_err-request.ensures (law.other_request c.args.reader.now _ _ c.in_ok-client.ensures c.in_err-request.ensures.0)
 
-pub returns-in_err-key : goal.returns-in_err-key
-returns-in_err-key c =
-    rw c.from_residual-in_err-key.ensures (law.other_key c.args.reader.now _ _ c.in_ok-client.ensures _ _ c.in_ok-request.ensures c.in_err-key.ensures.0)
-
 pub returns-in_err-value : goal.returns-in_err-value
 returns-in_err-value c =
-    rw c.from_residual-in_err-value.ensures (law.other_value c.args.reader.now _ _ c.in_ok-client.ensures _ _ c.in_ok-request.ensures c.in_ok-key.key _ c.in_ok-key.ensures c.in_err-value.ensures.0)
+    rw c.from_residual-in_err-value.ensures (law.other_value c.args.reader.now _ _ c.in_ok-client.ensures _ _ c.in_ok-request.ensures _ _ c.next_field-key.ensures c.in_err-value.ensures.0)
 
 pub returns : goal.returns
-returns c = law.whole_group c.args.reader.now _ _ c.in_ok-client.ensures _ _ c.in_ok-request.ensures c.in_ok-key.key _ c.in_ok-key.ensures _ _ c.in_ok-value.ensures
+returns c = law.whole_group c.args.reader.now _ _ c.in_ok-client.ensures _ _ c.in_ok-request.ensures _ _ c.next_field-key.ensures _ _ c.in_ok-value.ensures
