@@ -1,3 +1,4 @@
+pub mod Back
 pub mod Open
 pub mod Lists
 pub mod Laws
