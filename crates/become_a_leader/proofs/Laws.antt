@@ -67,14 +67,14 @@ module _ (start n : ℕ) (s : List ℕ) where
       ∙ slot.none_cons (here k) (rest_of start n (k + 1) s) (h k (omega arith) (omega arith)) (none_from m (k + 1) (omega arith) (λ j x y. h j (omega arith) y))
 
   pub last_found : (o : Option ℕ)
-      → MatchOption o ((k : ℕ) → 0 ≤ k → k < n → is_open (here k).status ≡ false) (λ i. (0 ≤ i) × (i < n) × (is_open (here i).status ≡ true) × ((k : ℕ) → i < k → k < n → is_open (here k).status ≡ false))
+      → MatchOption o ((k : ℕ) → k < n → is_open (here k).status ≡ false) (λ i. (i < n) × (is_open (here i).status ≡ true) × ((k : ℕ) → i < k → k < n → is_open (here k).status ≡ false))
       → unwrap_or o n ≡ last_open (insts_of start n s)
   last_found None h =
-      sym (slot.last_none (insts_of start n s) (ap any_open (sym (rest_all start n s)) ∙ none_from n 0 (omega arith) h) ∙ length_insts start n s)
+      sym (slot.last_none (insts_of start n s) (ap any_open (sym (rest_all start n s)) ∙ none_from n 0 (omega arith) (λ k x y. h k y)) ∙ length_insts start n s)
   last_found (Some i) h =
       sym
-      (ap last_open (parted i h.1)
-      ∙ slot.last_at (here i) (rest_of start n (i + 1) s) h.2 (insts_of start i s) (none_from (n - (i + 1)) (i + 1) (omega (arith, h.1)) (λ j x y. h.3 j (omega arith) y))
+      (ap last_open (parted i h.0)
+      ∙ slot.last_at (here i) (rest_of start n (i + 1) s) h.1 (insts_of start i s) (none_from (n - (i + 1)) (i + 1) (omega (arith, h.0)) (λ j x y. h.2 j (omega arith) y))
       ∙ length_insts start i s)
 
 -- ---- one slot more where none is open

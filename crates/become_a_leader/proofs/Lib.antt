@@ -1,4 +1,3 @@
-pub mod Back
 pub mod Open
 pub mod Lists
 pub mod Laws
