@@ -13,10 +13,7 @@ use inst_cell::NoticeBook;
 pub fn fresh() -> NoticeBook
     ensures { result ≡ fresh_book }
 {
-    NoticeBook {
-        bal: Ballot(0),
-        notices: 0,
-    }
+    NoticeBook::default()
 }
 
 // No notices any more; the ballot stays.

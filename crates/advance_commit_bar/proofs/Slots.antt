@@ -1,7 +1,7 @@
 -- The slots that a chain over a range of a window's numbers goes over.
-use mathlib.Core.Path.{◌≡◌, refl, sym, ap, ◌∙◌}
-use mathlib.Core.List.{List, ◌∷◌, map}
-use Prim.Native.Nat.{ℕ, zero, suc, ◌+◌, ◌-◌, ◌%◌, ◌≤◌}
+use mathlib.Core.Path.{◌≡◌, sym, ap, ◌∙◌}
+use mathlib.Core.List.{List, map}
+use Prim.Native.Nat.{ℕ, ◌+◌, ◌-◌, ◌%◌, ◌≤◌}
 use native.Mathlib.Nat.{zero-add}
 use native.Mathlib.Omega.{arith}
 use lib.ListN.{take, drop}
@@ -9,10 +9,7 @@ use Rattle.std.specs.List.{range_with_len}
 use Rattle.words.specs.Tab.{tab, take_tab, drop_tab}
 use Rattle.layout.specs.Layout.{slot_places}
 use Rattle.insts.specs.Slots.{inst_in, insts_of}
-
-map_range : {A : Type 0} (f : ℕ → A) (a n : ℕ) → map f (range_with_len a n) ≡ tab f a n
-map_range f a zero = refl
-map_range {A = A} f a (suc n) = ap (λ (l : List A). f a ∷ l) (map_range f (a + 1) n)
+use Rattle.insts.proofs.Rest.{map_range}
 
 pub slots_from : (start n from m : ℕ) (s : List ℕ) → from + m ≤ n → map (λ k. inst_in s ((start + k) % slot_places)) (range_with_len from m) ≡ take m (drop from (insts_of start n s))
 unfolding insts_of

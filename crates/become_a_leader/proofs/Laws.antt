@@ -3,8 +3,8 @@ use Rattle.std.specs.Prelude.{if◌then◌else◌}
 use mathlib.Core.Path.{◌≡◌, refl, sym, ap, ◌∙◌}
 use mathlib.Core.Bool.{Bool, true, false}
 use mathlib.Core.List.{List, [], ◌∷◌, ◌++◌, map}
-use Rattle.std.specs.Prelude.{Option, None, Some}
-use Prim.Native.Nat.{ℕ, ◌+◌, ◌-◌, ◌*◌, ◌%◌, ◌≤◌, ◌<◌}
+use Rattle.std.specs.Prelude.{Option, None, Some, MatchOption}
+use Prim.Native.Nat.{ℕ, zero, suc, ◌+◌, ◌-◌, ◌*◌, ◌%◌, ◌≤◌, ◌<◌}
 use native.Mathlib.Omega.{arith}
 use lib.ListN.{length, drop, replicate, take-append-drop}
 use Rattle.words.specs.Writes.{writes}
@@ -58,21 +58,24 @@ module _ (start n : ℕ) (s : List ℕ) where
       ap (λ (p : Option ℕ). unwrap_or p n) e ∙ ap (unwrap_or (position_from is_open_at 0 (insts_of start n s))) (sym (zero-add (length (insts_of start n s)) ∙ length_insts start n s))
       ∙ first_is (insts_of start n s) 0 ∙ zero-add (first_open (insts_of start n s))
 
-  pub none_after : any_open (rest_of start n n s) ≡ false
+  -- none is open from the k-th on
+  none_from : (m k : ℕ) → k + m ≡ n → ((j : ℕ) → k ≤ j → j < n → is_open (here j).status ≡ false) → any_open (rest_of start n k s) ≡ false
   unfolding any_open
-  none_after = rw (rest_none start n n s (omega arith))
+  none_from zero k e h = rw (rest_none start n k s (omega arith))
+  none_from (suc m) k e h =
+      ap any_open (rest_more start n k s (omega arith))
+      ∙ slot.none_cons (here k) (rest_of start n (k + 1) s) (h k (omega arith) (omega arith)) (none_from m (k + 1) (omega arith) (λ j x y. h j (omega arith) y))
 
-  module _ (k : ℕ) (h : k < n) (t : Bool) (e : t ≡ is_open (here k).status) where
-    pub last_here : (j : ℕ) → j ≡ k + 1 → any_open (rest_of start n j s) ≡ false → t ≡ true → k ≡ last_open (insts_of start n s)
-    last_here j q r g = let f = rw q at r in sym (ap last_open (parted k h) ∙ slot.last_at (here k) (rest_of start n (k + 1) s) (sym e ∙ g) (insts_of start k s) f ∙ length_insts start k s)
-
-    pub last_next : (j : ℕ) → j ≡ k + 1 → any_open (rest_of start n j s) ≡ false → t ≡ false → any_open (rest_of start n k s) ≡ false
-    last_next j q r g = let f = rw q at r in ap any_open (rest_more start n k s h) ∙ slot.none_cons (here k) (rest_of start n (k + 1) s) (sym e ∙ g) f
-
-  pub last_end : (k : ℕ) → k ≤ 0 → any_open (rest_of start n k s) ≡ false → n ≡ last_open (insts_of start n s)
-  last_end k h f =
-      let z : k ≡ 0 = omega arith in
-      sym (slot.last_none (insts_of start n s) (ap any_open (sym (rest_all start n s)) ∙ (rw z at f)) ∙ length_insts start n s)
+  pub last_found : (o : Option ℕ)
+      → MatchOption o ((k : ℕ) → k < n → is_open (here k).status ≡ false) (λ i. (i < n) × (is_open (here i).status ≡ true) × ((k : ℕ) → i < k → k < n → is_open (here k).status ≡ false))
+      → unwrap_or o n ≡ last_open (insts_of start n s)
+  last_found None h =
+      sym (slot.last_none (insts_of start n s) (ap any_open (sym (rest_all start n s)) ∙ none_from n 0 (omega arith) (λ k x y. h k y)) ∙ length_insts start n s)
+  last_found (Some i) h =
+      sym
+      (ap last_open (parted i h.0)
+      ∙ slot.last_at (here i) (rest_of start n (i + 1) s) h.1 (insts_of start i s) (none_from (n - (i + 1)) (i + 1) (omega (arith, h.0)) (λ j x y. h.2 j (omega arith) y))
+      ∙ length_insts start i s)
 
 -- ---- one slot more where none is open
 

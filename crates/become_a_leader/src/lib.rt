@@ -28,17 +28,14 @@ fn first_open(insts: Insts<'_>, window: Window) -> usize
         .unwrap_or(window.held)
 }
 
-// The number of the last open slot, that of all where none is. A loop, where `first_open` has a search: the library has
-// no law for a range that is gone over from the back by an iterator.
+// The number of the last open slot, that of all where none is.
 fn last_open(insts: Insts<'_>, window: Window) -> usize
     ensures { result ≡ last_open (insts_of window.start.0 window.held insts.entry.words.now) }
 {
-    for k in (0..window.held).rev() {
-        if insts.is_open(window.slot(k)) {
-            return k;
-        }
-    }
-    window.held
+    (0..window.held)
+        .rev()
+        .find(|&k| insts.is_open(window.slot(k)))
+        .unwrap_or(window.held)
 }
 
 // The numbers from that of the first open slot to that of the last.

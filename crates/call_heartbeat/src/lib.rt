@@ -179,8 +179,7 @@ fn lacks_slot(node: Node, mem: &[u64], ballot: Ballot, conf: Option<RespondersCo
             node.bal_max_seen <= ballot
                 && node::leads(c.leader, node.id)
                 && !any_open(node, mem)
-                && (Node::WINDOW <= node.slots
-                    || Slot::TOP.0 < node.start_slot.0 + node.slots as u64)
+                && (Node::WINDOW <= node.slots || Slot::TOP < node::window(node, mem).end())
         }
         None => false,
     }

@@ -11,8 +11,9 @@ ghost use Rattle.inst_cell.specs.Cell.{status_of, status_named, cell_of, cell_at
 
 use ids::Ballot;
 
-#[derive(Clone, Copy, PartialEq, Eq, PartialOrd, Ord)]
+#[derive(Clone, Copy, PartialEq, Eq, PartialOrd, Ord, Default)]
 pub enum Status {
+    #[default]
     Null,
     Preparing,
     Accepting,
@@ -44,13 +45,13 @@ impl From<Status> for u64 {
 }
 
 // The notices of a ballot.
-#[derive(Clone, Copy)]
+#[derive(Clone, Copy, Default)]
 pub struct NoticeBook {
     pub bal: Ballot,
     pub notices: u64,
 }
 
-#[derive(Clone, Copy)]
+#[derive(Clone, Copy, Default)]
 pub struct Cell {
     pub bal: Ballot,
     pub status: Status,
@@ -81,11 +82,7 @@ pub fn store(cells: &mut [u64], c: usize, cell: Cell)
     requires { c * cell_row + cell_row ≤ length cells.old }
     ensures { cells.new ≡ writes cells.old (c * cell_row) (cell_words (cell_of cell)) }
 {
-    let no_book = NoticeBook {
-        bal: Ballot(0),
-        notices: 0,
-    };
-    let book = cell.replica_bk.unwrap_or(no_book);
+    let book = cell.replica_bk.unwrap_or_default();
     let p = c * layout::CELL_ROW;
     cells[p..p + 7].copy_from_slice(&[
         cell.bal.0,
@@ -111,7 +108,7 @@ pub fn is_open(cells: &[u64], c: usize) -> bool
     requires { c * cell_row + cell_row ≤ length cells.now }
     ensures { result ≡ is_open (cell_at cells.now (c * cell_row)).status }
 {
-    cells[c * layout::CELL_ROW + 1] < Status::Committed as u64
+    cells[c * layout::CELL_ROW + 1] < u64::from(Status::Committed)
 }
 
 #[tactic(auto, using(crate::proofs::Laws::book_is))]
@@ -126,5 +123,5 @@ pub fn set_status(cells: &mut [u64], c: usize, status: Status)
     requires { c * cell_row + cell_row ≤ length cells.old }
     ensures { cells.new ≡ set cells.old (c * cell_row + 1) (order (status_of status)) }
 {
-    cells[c * layout::CELL_ROW + 1] = status as u64;
+    cells[c * layout::CELL_ROW + 1] = u64::from(status);
 }

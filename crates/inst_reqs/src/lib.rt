@@ -120,13 +120,7 @@ pub fn last_put_among(batch: Batch<'_>, n: usize, key: Key) -> Option<u64>
     requires { n ≤ request_places }
     ensures { result ≡ last_put (bytes_of key) (tab (request_at batch.entry.words.now) 0 n) }
 {
-    // `rev().find_map(..)` was tried: its proof did not close.
-    for i in (0..n).rev() {
-        if let Some(v) = put_at(batch, i, key) {
-            return Some(v);
-        }
-    }
-    None
+    (0..n).rev().find_map(|i| put_at(batch, i, key))
 }
 
 // The value of the last Put of a key.

@@ -19,8 +19,7 @@ use Rattle.words.specs.Part.{part, splice, part_here, part_before, part_after, l
 use Rattle.words.specs.Writes.{writes, length_writes, part_writes}
 use Rattle.layout.specs.Layout.{request_row, request_places, cell_row, slot_places, held_places, batch_words, held_words, batches_from, reads_from, slot_words}
 use Rattle.bodega.specs.Replica as machine
-use Rattle.bodega.specs.Localread.{last_put}
-use Rattle.bodega.specs.Grounds.{any, holds}
+use Rattle.bodega.specs.Grounds.{holds}
 use Rattle.inst_cell.specs.Cell.{Notices, Short, cell_at, cell_words, with_status, has_book}
 use Rattle.inst_cell.proofs.Laws.{cell_same, cell_other, cell_near, status_same, status_other}
 use Rattle.std.proofs.Common.{get_or-take}

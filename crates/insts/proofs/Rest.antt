@@ -1,7 +1,7 @@
 -- The slots from the k-th on, as a loop comes to them one by one.
-use mathlib.Core.Path.{◌≡◌, refl, sym, ap, ◌∙◌}
-use mathlib.Core.List.{List, [], ◌∷◌, ◌++◌}
-use Prim.Native.Nat.{ℕ, suc, ◌+◌, ◌-◌, ◌%◌, ◌≤◌, ◌<◌}
+use mathlib.Core.Path.{◌≡◌, refl, ap, ◌∙◌}
+use mathlib.Core.List.{List, [], ◌∷◌, ◌++◌, map}
+use Prim.Native.Nat.{ℕ, zero, suc, ◌+◌, ◌-◌, ◌%◌, ◌≤◌, ◌<◌}
 use native.Mathlib.Nat.{zero-add}
 use native.Mathlib.Omega.{arith}
 use lib.ListN.{drop}
@@ -10,8 +10,8 @@ use Rattle.layout.specs.Layout.{slot_places}
 use Rattle.bodega.specs.Replica as machine
 use Rattle.inst_cell.specs.Cell.{Short}
 use Rattle.insts.specs.Slots.{short_at, batch_at, reads_at, inst_in, insts_of, Puts}
-use Rattle.std.specs.Prelude.{Option, None, Some, Bool, true, false, ◌||◌, cond}
-use Rattle.std.specs.List.{position_from}
+use Rattle.std.specs.Prelude.{Option, Some, Bool, true, false, ◌||◌, cond}
+use Rattle.std.specs.List.{position_from, range_with_len}
 use Rattle.std.specs.Option.{is_some}
 use Rattle.bodega.specs.Grounds.{any}
 use Rattle.insts.proofs.Laws.{there_is, apart, place}
@@ -66,13 +66,11 @@ any_from f k (x ∷ l) = go (f x) (any_from f (k + 1) l)
 pub any_is : {A : Type 0} (f : A → Bool) (l : List A) (r : Option ℕ) → r ≡ position_from f 0 l → is_some r ≡ any f l
 any_is f l r e = ap is_some e ∙ any_from f 0 l
 
-module _ (f : machine.Instance → Bool) (start n : ℕ) (s : List ℕ) where
-  pub found_none : (k : ℕ) → n ≤ k → position_from f k (rest_of start n k s) ≡ None
-  found_none k h = rw (rest_none start n k s h)
+pub map_range : {A : Type 0} (f : ℕ → A) (i n : ℕ) → map f (range_with_len i n) ≡ tab f i n
+map_range f i zero = refl
+map_range f i (suc n) = ap (λ l. f i ∷ l) (map_range f (i + 1) n)
 
-  module _ (k : ℕ) (h : k < n) (t : Bool) (e : t ≡ f (inst_in s ((start + k) % slot_places))) where
-    pub found_here : t ≡ true → position_from f k (rest_of start n k s) ≡ Some k
-    found_here g = rw (rest_more start n k s h, sym e ∙ g)
-
-    pub found_next : t ≡ false → position_from f k (rest_of start n k s) ≡ position_from f (k + 1) (rest_of start n (k + 1) s)
-    found_next g = rw (rest_more start n k s h, sym e ∙ g)
+-- as a chain goes over them
+pub slots_all : (start n : ℕ) (s : List ℕ) → map (λ k. inst_in s ((start + k) % slot_places)) (range_with_len 0 n) ≡ insts_of start n s
+unfolding insts_of
+slots_all start n s = map_range (λ k. inst_in s ((start + k) % slot_places)) 0 n

@@ -14,7 +14,7 @@ ghost use Rattle.inst_reqs.specs.Batch.{requests_of};
 ghost use Rattle.inst_holding.specs.Held.{reads_of, read_of};
 ghost use Rattle.insts.specs.Slots.{short_at, batch_at, reads_at, seen_reads, insts_of, null_short, Puts, PutsShort, PutsBatch, PutsReads, inst_in, batch_start, reads_start, place_of};
 
-use ids::{Ballot, Slot};
+use ids::Slot;
 use inst_cell::{Cell, Status};
 use inst_holding::{Held, ReadReq};
 use inst_reqs::Batch;
@@ -172,12 +172,9 @@ impl<'a> Insts<'a> {
         requires { F.IsAlwaysCallable passes × ((slot : Slot) (b : Bool) → F.post passes slot b → b ≡ test (inst_in self.words.now (place_of slot.0))) }
         ensures { result ≡ position_from test 0 (insts_of window.start.0 window.held self.entry.words.now) }
     {
-        for k in 0..window.held {
-            if passes(window.slot(k)) {
-                return Some(k);
-            }
-        }
-        None
+        (0..window.held)
+            .map(|k| window.slot(k))
+            .position(|slot| passes(slot))
     }
 
     // Whether a slot of the window is below Committed.
@@ -256,13 +253,7 @@ impl<'a> InstsMut<'a> {
         ensures same_reference { self.new.words.ghost_name ≡ self.old.words.ghost_name }
         ensures puts { Puts self.old.words.now (place_of slot.0) null_short [] (reads_at self.old.words.now (place_of slot.0)) self.new.words.now }
     {
-        let cell = Cell {
-            bal: Ballot(0),
-            status: Status::Null,
-            leader_bk: None,
-            replica_bk: None,
-        };
-        self.store(slot, cell);
+        self.store(slot, Cell::default());
         let a = batch_at(place(slot));
         inst_reqs::clear(&mut self.words[a..a + layout::BATCH_WORDS]);
     }

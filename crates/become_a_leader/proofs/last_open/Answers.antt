@@ -1,23 +1,18 @@
-use Rattle.std.proofs.Common.{◌-◌, arith}
+use Rattle.std.proofs.Common.{◌≡◌, true, false, ◌+◌, ◌∙◌, rules}
+use borrow.Author.Tests.{tests}
+use Rattle.bodega.specs.Replica.{is_open}
+use Rattle.insts.specs.Slots.{inst_in, place_of}
+use Rattle.inst_reqs.proofs.Back.{last_from_find}
 use Rattle.become_a_leader.proofs.Laws as law
 use Rattle.become_a_leader.proofs.last_open.Goals as goal
 
-pub loop-k-init : goal.loop-k-init
-loop-k-init c = law.none_after c.args.window.start.0 c.args.window.held c.args.insts.words.now
-
-pub returns-then-is_open : goal.returns-then-is_open
-returns-then-is_open c =
-    let l = c.loop-k in
-    let e = rw c.slot.ensures at c.is_open.ensures in
-    law.last_here _ _ _ (l.k - 1) (omega arith) _ e l.k (omega arith) l.invariant c.if-is_open.true
-
-pub loop-k-preserved : goal.loop-k-preserved
-loop-k-preserved c =
-    let l = c.loop-k in
-    let e = rw c.slot.ensures at c.is_open.ensures in
-    law.last_next _ _ _ (l.k - 1) (omega arith) _ e l.k (omega arith) l.invariant c.if-is_open.false
-
 pub returns : goal.returns
 returns c =
-    let l = c.loop-k in
-    law.last_end _ _ _ l.k (omega arith) l.invariant
+    let a = c.args in
+    let s = a.insts.words.now in
+    let u = c.find.ensures.runs in
+    c.unwrap_or.ensures
+    ∙ law.last_found a.window.start.0 a.window.held s c.find.result
+    (last_from_find a.window.held c.rev.result c.rev.ensures.runs u.0 u.1 _ (λ x r q k. search (rules, tests))
+    (λ k. is_open (inst_in s (place_of (a.window.start.0 + k))).status ≡ true) (λ k. is_open (inst_in s (place_of (a.window.start.0 + k))).status ≡ false)
+    (λ x k. search (rules, tests)) (λ x k. search (rules, tests)) c.find.result u.2)

@@ -1,13 +1,7 @@
 use Rattle.std.proofs.Common.{arith}
 use Rattle.std.proofs.lemmas.Grind.{common_steps}
 use Rattle.call_heartbeat.proofs.Refusals as law
-use Rattle.heard_new_conf.proofs.Laws.{readied}
 use Rattle.call_heartbeat.proofs.lacks_slot.Goals as goal
-
-pub overflow_add-result : goal.overflow_add-result
-overflow_add-result c =
-    let a = c.args in
-    omega (arith, (readied a.node a.mem.now c.requires).start_low_lem, (readied a.node a.mem.now c.requires).window)
 
 pub returns-then-node-ge-WINDOW : goal.returns-then-node-ge-WINDOW
 returns-then-node-ge-WINDOW c =

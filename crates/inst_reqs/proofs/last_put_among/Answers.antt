@@ -1,11 +1,13 @@
-use Rattle.std.proofs.Common.{Some, None, ◌-◌, sym, arith}
+use Rattle.std.proofs.Common.{rules}
+use borrow.Author.Tests.{tests}
+use Rattle.key_words.specs.Key.{bytes_of}
+use Rattle.inst_reqs.proofs.Back.{last_from_find_map}
 use Rattle.inst_reqs.proofs.Laws as law
 use Rattle.inst_reqs.proofs.last_put_among.Goals as goal
 
-pub returns-in-Some : goal.returns-in-Some
-returns-in-Some c =
-    let l = c.loop-i in
-    law.last_is _ _ _ (Some _) (l.i - 1, omega arith, sym c.in-Some.ensures, λ k a b. l.invariant k (omega arith) b)
-
 pub returns : goal.returns
-returns c = law.last_is _ _ _ None (λ k h. c.loop-i.invariant k (omega arith) h)
+returns c =
+    let a = c.args in
+    let u = c.find_map.ensures.runs in
+    law.last_is _ _ _ _
+    (last_from_find_map a.n c.rev.result c.rev.ensures.runs u.0 u.1 _ (λ x r q k. search (rules, tests)) (law.PutAt a.batch.words.now (bytes_of a.key)) (λ x r k. search (rules, tests)) c.find_map.result u.2)

@@ -1,4 +1,4 @@
-use Rattle.std.proofs.Common.{refl, sym, ◌≡◌, ◌∙◌, ap, ◌≤◌, length, take, arith, List, ℕ}
+use Rattle.std.proofs.Common.{refl, sym, ◌≡◌, ◌∙◌, ap, take, arith, List, ℕ}
 use Rattle.std.proofs.lemmas.List.{length-take-le}
 use Rattle.layout.specs.Layout.{batch_words}
 use Rattle.inst_reqs.specs.Batch.{requests_of}
