@@ -1,7 +1,7 @@
 // Keys that come in lines, one to a line, and an answer line to each: the key's number in decimal, or `-` where the key
 // does not read. A line of more than 1,024 bytes is not kept, and is answered `-`. A line goes as its bytes and whether
-// bytes of it were dropped, and not as an `Option<&[u8]>`: one of which bytes were dropped still has bytes that stand in
-// the piece, and a last line is one if it has a byte or had more.
+// bytes of it were dropped, and not as an `Option<&[u8]>`: one of which bytes were dropped still has bytes that stand
+// in the piece, and a last line is one if it has a byte or had more.
 #![tactic(auto)]
 
 ghost use Rattle.std.specs.Prelude.{◌≡◌, [], ◌+◌, ◌*◌, ◌≤◌, length, drop, option_map};
@@ -72,8 +72,8 @@ pub fn feed(piece: &[u8], mut long: bool, out: &mut [u8]) -> Fed
 {
     let mut text = TextMut { out, at: 0 };
     let mut at = 0;
-    // No `for`: a line's end is found by the kit's `memchr`, faster than by going over the bytes, and the next line begins
-    // behind it.
+    // No `for`: a line's end is found by the kit's `memchr`, faster than by going over the bytes, and the next line
+    // begins behind it.
     loop {
         let end = stream_pieces::line_end(piece, at);
         if end == piece.len() {

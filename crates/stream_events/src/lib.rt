@@ -1,7 +1,7 @@
 // The event lines of a stream that comes in pieces, and the answers to them. A line goes as its bytes and whether bytes
 // of it were dropped, and not as an `Option<&[u8]>`: one of which bytes were dropped still has bytes that stand in the
-// piece, and a last line is one if it has a byte or had more (`is_line`). The output is a slice with room for any answer,
-// another part of it for each line: a struct of it would be made for each line only to be taken apart.
+// piece, and a last line is one if it has a byte or had more (`is_line`). The output is a slice with room for any
+// answer, another part of it for each line: a struct of it would be made for each line only to be taken apart.
 #![tactic(auto)]
 
 ghost use Rattle.std.specs.Prelude.{◌≡◌, ◌||◌, List, ℕ, ◌≤◌, ltb, length};
@@ -80,8 +80,8 @@ pub fn feed(piece: &[u8], from: Place, buffers: &mut Buffers<'_>, out: &mut [u8]
 {
     let mut place = from;
     let mut used = 0;
-    // No `for`: a line's end is found by the kit's `memchr`, faster than by going over the bytes, and the next line begins
-    // behind it.
+    // No `for`: a line's end is found by the kit's `memchr`, faster than by going over the bytes, and the next line
+    // begins behind it.
     while out.len() - used >= TEXT_BYTES {
         let end = stream_pieces::line_end(piece, place.at);
         if end == piece.len() {
