@@ -75,6 +75,7 @@ fn act(
     let rows = &mut *buffers.rows;
     let area = &mut *buffers.area;
     let groups = &mut *buffers.groups;
+    // Each arm hands on other buffers to a line's own function.
     match kind {
         Kind::Node => called(host, line_draft::node_line(node, mem, reader)),
         Kind::Edit(edit) => {
