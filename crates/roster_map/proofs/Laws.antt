@@ -1,16 +1,18 @@
 -- What the proofs of this crate share: rows of words as ranges, a push at the end of a table, and passes over one.
-use Rattle.std.specs.Prelude.{if◌then◌else◌}
+use Rattle.std.specs.Prelude.{if◌then◌else◌, option_map}
+use Rattle.std.specs.List.{find}
+use Rattle.std.specs.Simd.{first_chunks}
 use mathlib.Core.Path.{◌≡◌, refl, sym, ap, ◌∙◌}
-use mathlib.Core.Bool.{Bool, true, false}
+use mathlib.Core.Bool.{Bool, true, false, cond}
 use mathlib.Core.Logic.{inl, inr}
 use mathlib.Core.List.{List, ◌∷◌, ◌++◌, []}
 use Rattle.std.specs.Prelude.{Option, None, Some, Result, Ok, Err}
 use Rattle.ids.specs.declared.Refusal.{Refusal}
 use Rattle.ids.specs.declared.Refusal.TheVariants.{TooManyRanges}
-use Prim.Native.Nat.{ℕ, zero, suc, ◌+◌, ◌-◌, ◌*◌, ◌≤◌, ◌<◌}
+use Prim.Native.Nat.{ℕ, zero, suc, ◌+◌, ◌-◌, ◌*◌, ◌/◌, ◌^◌, ◌≤◌, ◌<◌}
 use native.Mathlib.Omega.{arith}
-use lib.ListN.{length, get_or, take}
-use lib.Seq.{get_or-take, length-take-le}
+use lib.ListN.{length, get_or, take, drop}
+use lib.Seq.{get_or-take, get_or-drop, drop-drop, length-take-le}
 use lib.Dec.{ltb}
 use borrow.Author.Tests.{le-ltb}
 use Rattle.words.specs.Choice.{if_none◌then◌else◌}
@@ -21,7 +23,7 @@ use Rattle.layout.specs.Layout.{roster_row, roster_words}
 use Rattle.inty.specs.Value.{value_of}
 use Rattle.roster_ranges.specs.Range.{Range, inside, at, goes_on, joined, push, push_all, below, above, each, overwrite, remask, remasked}
 use Rattle.roster_map.specs.declared.Row.{Row}
-use Rattle.roster_map.specs.Rows.{range_of, row_words, range_at, ranges_of, extends_last, Stores}
+use Rattle.roster_map.specs.Rows.{range_of, row_words, range_at, ranges_of, rows_left, extends_last, Stores}
 
 -- ---- rows
 
@@ -51,6 +53,37 @@ module _ (s : List ℕ) where
 
   last_is : (n : ℕ) → 0 < n → ranges_of s n ≡ ranges_of s (n - 1) ++ (range_at s ((n - 1) * roster_row) ∷ [])
   last_is n h = let e : n ≡ n - 1 + 1 = omega arith in ap (ranges_of s) e ∙ more_is (n - 1)
+
+-- a row out of the words cut in fives
+chunk_at : (k : ℕ) (s : List ℕ) (i : ℕ) → i < k → get_or (first_chunks 5 k s) i [] ≡ take 5 (drop (i * 5) s)
+chunk_at zero s i h = absurd (omega arith)
+chunk_at (suc k) s zero h =
+    let e : 0 ≡ 0 * 5 = omega arith in
+    ap (λ (n : ℕ). take 5 (drop n s)) e
+chunk_at (suc k) s (suc i) h =
+    let e : 5 + i * 5 ≡ suc i * 5 = omega arith in
+    chunk_at k (drop 5 s) i (omega arith) ∙ ap (take 5) (drop-drop (i * 5) 5 s ∙ ap (λ (n : ℕ). drop n s) e)
+
+module _ (s : List ℕ) (i : ℕ) (chunks : List (List ℕ)) (e : chunks ≡ first_chunks 5 (length s / 5) s) (h : i * roster_row + roster_row ≤ length s) where
+  word_in : (q j : ℕ) → q ≡ i * 5 + j → j < 5 → get_or (get_or chunks i []) j 0 ≡ get_or s q 0
+  word_in q j f b =
+      let k : i < length s / 5 = omega arith in
+      ap (λ (l : List (List ℕ)). get_or (get_or l i []) j 0) e ∙ ap (λ (l : List ℕ). get_or l j 0) (chunk_at (length s / 5) s i k)
+      ∙ get_or-take 5 (drop (i * 5) s) j 0 b ∙ get_or-drop (i * 5) s j 0 ∙ ap (λ (n : ℕ). get_or s n 0) (sym f)
+
+  abbrev word : ℕ → ℕ
+  word j = get_or (get_or chunks i []) j 0
+
+  pub row_in : record { from = word 0 * 2 ^ 64 + word 1; to = word 2 * 2 ^ 64 + word 3; mask = word 4 } ≡ range_at s (i * roster_row)
+  unfolding range_at
+  row_in =
+      simp (
+        word_in (i * roster_row) 0 (omega arith) (omega arith),
+        word_in (i * roster_row + 1) 1 (omega arith) (omega arith),
+        word_in (i * roster_row + 2) 2 (omega arith) (omega arith),
+        word_in (i * roster_row + 3) 3 (omega arith) (omega arith),
+        word_in (i * roster_row + 4) 4 (omega arith) (omega arith),
+      )
 
 -- a row that is stored, and those before it
 module _ (s : List ℕ) (i : ℕ) (v : Row) (h : i * roster_row + roster_row ≤ length s) where
@@ -102,24 +135,38 @@ range_kept s t p h =
 pub put_beyond : (s t : List ℕ) (i n : ℕ) (v : Row) → t ≡ writes s (i * roster_row) (row_words v) → i ≤ n → Untouched ((n + 1) * roster_row) s t
 put_beyond s t i n v e h j k = ap (λ (x : List ℕ). get_or x j 0) e ∙ writes_other s (i * roster_row) (row_words v) j (inr (omega arith))
 
--- ---- lookup: t is whether row i holds v, g what is known of the rows from i on
+-- ---- the rows one by one
 
-pub from_start : (s : List ℕ) (n v : ℕ) → at (rows_from s 0 n) v ≡ at (ranges_of s n) v
-from_start s n v = ap (λ (l : List Range). at l v) (from_all s n)
+pub first_left : (s : List ℕ) (i n : ℕ) (r : Range) → i < n → r ≡ range_at s (i * roster_row) → rows_left s i n ≡ r ∷ rows_left s (i + 1) n
+unfolding rows_left
+first_left s i n r h e = from_first s i n h ∙ ap (λ (x : Range). x ∷ rows_from s (i + 1) n) (sym e)
 
-module _ (s : List ℕ) (n v i : ℕ) (o : Option ℕ) where
-  pub found : (t : Bool) (k : ℕ) → i < n → t ≡ inside (range_at s (i * roster_row)) v → t ≡ true → k ≡ (range_at s (i * roster_row)).mask → at (rows_from s i n) v ≡ o → Some k ≡ o
-  found t k h e f q g =
-      ap Some q ∙ sym (ap (λ (b : Bool). if b then Some (range_at s (i * roster_row)).mask else at (rows_from s (i + 1) n) v) (sym e ∙ f))
-      ∙ sym (ap (λ (l : List Range). at l v) (from_first s i n h)) ∙ g
+pub none_left : (s : List ℕ) (i n : ℕ) → n ≤ i → rows_left s i n ≡ []
+unfolding rows_left
+none_left s i n h = from_none s i n h
 
-  pub passed : (t : Bool) → i < n → t ≡ inside (range_at s (i * roster_row)) v → t ≡ false → at (rows_from s i n) v ≡ o → at (rows_from s (i + 1) n) v ≡ o
-  passed t h e f g =
-      sym (ap (λ (b : Bool). if b then Some (range_at s (i * roster_row)).mask else at (rows_from s (i + 1) n) v) (sym e ∙ f))
-      ∙ sym (ap (λ (l : List Range). at l v) (from_first s i n h)) ∙ g
+pub all_left : (s : List ℕ) (n : ℕ) → rows_left s 0 n ≡ ranges_of s n
+unfolding rows_left
+all_left s n = from_all s n
 
-  pub lost : n ≤ i → at (rows_from s i n) v ≡ o → None ≡ o
-  lost h g = sym (ap (λ (l : List Range). at l v) (from_none s i n h)) ∙ g
+-- ---- lookup
+
+found_in : (l : List Range) (v : ℕ) → option_map (λ (r : Range). r.mask) (find (λ r. inside r v) l) ≡ at l v
+found_in [] v = refl
+found_in (r ∷ l) v = go (inside r v) (found_in l v)
+  where
+    go : (b : Bool) → option_map (λ (x : Range). x.mask) (find (λ x. inside x v) l) ≡ at l v
+        → option_map (λ (x : Range). x.mask) (cond b (Some r) (find (λ x. inside x v) l)) ≡ (if b then Some r.mask else at l v)
+    go true e = refl
+    go false e = e
+
+-- o is the row that the search gave, m its mask
+pub found : (l : List Range) (v : ℕ) (o : Option Row) (m : Option ℕ) → option_map range_of o ≡ find (λ r. inside r v) l → m ≡ option_map (λ (r : Row). r.mask) o → m ≡ at l v
+found l v o m e f = f ∙ masks o ∙ ap (option_map (λ (r : Range). r.mask)) e ∙ found_in l v
+  where
+    masks : (o : Option Row) → option_map (λ (r : Row). r.mask) o ≡ option_map (λ (r : Range). r.mask) (option_map range_of o)
+    masks None = refl
+    masks (Some r) = refl
 
 -- ---- a push
 

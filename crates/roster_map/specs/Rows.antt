@@ -1,6 +1,7 @@
 -- Trusted: the table of ranges that lent words stand for, five to a row: start high and low, end high and low, mask.
--- What storing a list leaves is a bridge, tied by roster_conf/proofs/Laws.
-use Rattle.std.specs.Prelude.{ℕ, ◌+◌, ◌*◌, ◌^◌, ◌≤◌, ◌<◌, Bool, false, List, ◌∷◌, [], ◌≡◌, get_or, length}
+-- What storing a list leaves is a bridge, tied by roster_conf/proofs/Laws; so are the rows that are left, tied by the
+-- Laws here.
+use Rattle.std.specs.Prelude.{ℕ, ◌+◌, ◌-◌, ◌*◌, ◌^◌, ◌≤◌, ◌<◌, Bool, false, List, ◌∷◌, [], ◌≡◌, get_or, length}
 use Rattle.std.specs.Prelude.{Option, None, Some, Result, Ok, Err}
 use Rattle.std.specs.Borrow.{MutBor}
 use Rattle.words.specs.Tab.{tab}
@@ -31,6 +32,10 @@ range_at s p =
 -- the first n rows
 unfoldable pub ranges_of : List ℕ → ℕ → List Range
 ranges_of s n = tab (λ i. range_at s (i * roster_row)) 0 n
+
+-- those of the first n rows from the i-th on
+unfoldable pub rows_left : List ℕ → ℕ → ℕ → List Range
+rows_left s i n = tab (λ j. range_at s (j * roster_row)) i (n - i)
 
 -- whether r goes on from the last range
 abbrev pub extends_last : List Range → Range → Bool

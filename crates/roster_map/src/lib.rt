@@ -2,13 +2,14 @@
 #![tactic(auto)]
 
 ghost use Rattle.std.specs.Prelude.{◌≡◌, false, ℕ, ◌+◌, ◌*◌, ◌≤◌, List, Option, length, IfErr};
+ghost use Rattle.std.specs.Iterator.{YieldsFirstBy, item_count};
 ghost use Rattle.words.specs.Writes.{writes};
 ghost use Rattle.layout.specs.Layout.{roster_row, roster_words};
 ghost use Rattle.inty.specs.Value.{value_of};
 ghost use Rattle.roster_ranges.specs.Range.{Range, inside, at, mask_at, goes_on, push as pushed, push_all, below, above, each, overwrite, remask, remasked};
 ghost use Rattle.bitmap.specs.Bitmap.{set_to};
 ghost use Rattle.words.specs.Part.{Untouched};
-ghost use Rattle.roster_map.specs.Rows.{range_of, row_words, range_at, ranges_of, extends_last, range_list, SameWords, Stores};
+ghost use Rattle.roster_map.specs.Rows.{range_of, row_words, range_at, ranges_of, rows_left, extends_last, range_list, SameWords, Stores};
 
 use ids::{Refusal, Replica};
 use inty::Inty;
@@ -26,23 +27,22 @@ pub const RANGES: usize = layout::ROSTER_PLACES;
 // Words of the rows that one more range can make of them: each is cut in two at most.
 const CUT_WORDS: usize = (2 * layout::ROSTER_PLACES + 1) * layout::ROSTER_ROW;
 
-// By index: the words are lent, and no slice of rows.
-#[tactic(auto, unfolding(crate::specs::Rows::range_at))]
 pub fn get_row(rows: &[u64], i: usize) -> Row
     requires { i * roster_row + roster_row ≤ length rows.now }
     ensures { range_of result ≡ range_at rows.now (i * roster_row) }
 {
-    let p = i * layout::ROSTER_ROW;
+    let (rows, _) = rows.as_chunks::<{ layout::ROSTER_ROW }>();
+    let [start_hi, start_lo, end_hi, end_lo, mask] = rows[i];
     Row {
         start: Inty {
-            hi: rows[p],
-            lo: rows[p + 1],
+            hi: start_hi,
+            lo: start_lo,
         },
         end: Inty {
-            hi: rows[p + 2],
-            lo: rows[p + 3],
+            hi: end_hi,
+            lo: end_lo,
         },
-        mask: rows[p + 4],
+        mask,
     }
 }
 
@@ -51,11 +51,13 @@ fn put_row(rows: &mut [u64], i: usize, row: Row)
     ensures { rows.new ≡ writes rows.old (i * roster_row) (row_words row) }
 {
     let p = i * layout::ROSTER_ROW;
-    rows[p] = row.start.hi;
-    rows[p + 1] = row.start.lo;
-    rows[p + 2] = row.end.hi;
-    rows[p + 3] = row.end.lo;
-    rows[p + 4] = row.mask;
+    rows[p..p + layout::ROSTER_ROW].copy_from_slice(&[
+        row.start.hi,
+        row.start.lo,
+        row.end.hi,
+        row.end.lo,
+        row.mask,
+    ]);
 }
 
 // Whether r goes on from x with the same mask.
@@ -113,19 +115,19 @@ pub struct RangeMap<'a> {
     ghost within: { count * roster_row ≤ length rows.now },
 }
 
-impl RangeMap<'_> {
+impl<'a> RangeMap<'a> {
+    #[tactic(auto, using(crate::proofs::Laws::all_left))]
+    pub fn iter(self) -> Rows<'a>
+        ensures { rows_left result.map.rows.now result.next result.map.count ≡ ranges_of self.entry.rows.now self.entry.count }
+    {
+        Rows { map: self, next: 0 }
+    }
+
     // The mask stored at n.
-    #[tactic(auto, using(crate::proofs::Laws::from_start, crate::proofs::Laws::found, crate::proofs::Laws::passed, crate::proofs::Laws::lost))]
     pub fn at(&self, n: Inty) -> Option<u64>
         ensures { result ≡ at (ranges_of self.now.rows.now self.now.count) (value_of n) }
     {
-        for i in 0..self.count {
-            let row = get_row(self.rows, i);
-            if row.holds(n) {
-                return Some(row.mask);
-            }
-        }
-        None
+        self.iter().find(|row| row.holds(n)).map(|row| row.mask)
     }
 
     // The mask at n, the default where none is stored.
@@ -133,6 +135,31 @@ impl RangeMap<'_> {
         ensures { result ≡ mask_at default (ranges_of self.now.rows.now self.now.count) (value_of n) }
     {
         self.at(n).unwrap_or(default)
+    }
+}
+
+// The rows one by one, from the next on. A number, as the rows are lent words.
+#[derive(Drop)]
+pub struct Rows<'a> {
+    map: RangeMap<'a>,
+    next: usize,
+}
+
+impl Iterator for Rows<'_> {
+    type Item = Row;
+
+    ghost next_gives = { YieldsFirstBy range_of (λ s. rows_left s.map.rows.now s.next s.map.count) };
+
+    ghost remaining = { item_count (λ s. rows_left s.map.rows.now s.next s.map.count) };
+
+    #[tactic(auto, using(crate::proofs::Laws::first_left, crate::proofs::Laws::none_left))]
+    fn next(&mut self) -> Option<Row> {
+        let i = self.next;
+        if i >= self.map.count {
+            return None;
+        }
+        self.next = i + 1;
+        Some(get_row(self.map.rows, i))
     }
 }
 
