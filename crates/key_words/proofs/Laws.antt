@@ -10,7 +10,7 @@ use Prim.Native.Nat.{ℕ, zero, suc, ◌+◌, ◌-◌, ◌*◌, ◌/◌, ◌%◌
 use native.Mathlib.Nat.{div-div-eq-div-mul, zero-add, one-mul, not-suc-le-zero, div-lt_iff_lt-mul}
 use native.Mathlib.Numerals.{add-one}
 use native.Mathlib.Omega.{arith}
-use borrow.Author.Tests.{eqb-true, ne_eqb, le-leb, lt-leb}
+use borrow.Author.Tests.{eqb-true, le-leb, lt-leb}
 use lib.Dec.{eqb, leb}
 use mir.Syntax.{w64}
 use Rattle.std.specs.Int.{to_le_bytes}
@@ -134,11 +134,6 @@ same_is a b = go (same_bytes (bytes_of a) (bytes_of b)) refl (same_key a b) refl
         let e = same_key_true a b q in
         let z : same_bytes (bytes_of a) (bytes_of b) ≡ true = rw e (same_refl (bytes_of b)) in
         sym p ∙ z
-
-pub lengths_differ : (a b : Key) → (a.len ≡ b.len → ⊥) → eqb a.len b.len ≡ same_bytes (bytes_of a) (bytes_of b)
-lengths_differ a b h =
-    let e = ne_eqb a.len b.len h in
-    e ∙ same_eq a b false (sym (rw e)) ∙ sym (same_is a b)
 
 -- ---- at most eight bytes
 
