@@ -53,16 +53,12 @@ fn mark(insts: &mut InstsMut<'_>, slot: Slot, items: &mut Items<'_>)
     ensures same_area { items.new.area.ghost_name ≡ items.old.area.ghost_name }
     ensures marks { Marks (place_of slot.0) items.old.count slot.0 insts.old.words.now items.old.area.now items.new.count insts.new.words.now items.new.area.now }
 {
-    change_open(
-        insts,
-        slot,
-        items,
-        Item::Commit(slot),
-        |cell| Cell {
-            status: Status::Committed,
-            ..cell
-        },
-    );
+    // The status alone: `change_open` loads and stores the cell whole, twice the instructions of the walk, and writes
+    // its foreign words anew.
+    if insts.as_ref().is_open(slot) {
+        insts.set_status(slot, Status::Committed);
+        items.push(Item::Commit(slot));
+    }
 }
 
 // How many slots of the window are below the bar.
