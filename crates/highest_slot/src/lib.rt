@@ -63,11 +63,12 @@ impl Row for Entry {
 }
 
 // Whether the i-th entry is a key's.
+#[tactic(auto, unfolding(crate::specs::Written::highest_at))]
 fn is_at(written: Written<'_>, i: usize, key: Key) -> bool
     requires { i < written_places }
     ensures { result ≡ same_bytes (entry_at written.entry.words.now i).key (bytes_of key) }
 {
-    key_words::same(written.get(i).key, key)
+    key_words::is_at(written.words, 1 + i * layout::WRITTEN_ROW + 1, key)
 }
 
 // The place of a key's first entry.

@@ -4,13 +4,14 @@ use Rattle.std.specs.Prelude.{if◌then◌else◌}
 use Rattle.std.specs.Bool.{then_some}
 use mathlib.Core.Path.{◌≡◌, refl, sym, ap, ◌∙◌}
 use mathlib.Core.Bool.{Bool, true, false, ◌&&◌, and-true}
+use Rattle.std.proofs.Math.Bool.{and-false}
 use mathlib.Core.List.{List, [], ◌∷◌, ◌++◌}
 use Rattle.std.specs.Prelude.{Option, None, Some}
 use Prim.Native.Nat.{ℕ, zero, suc, ◌+◌, ◌-◌, ◌*◌, ◌/◌, ◌%◌, ◌^◌, ◌≤◌, ◌<◌, min}
 use native.Mathlib.Nat.{div-div-eq-div-mul, zero-add, one-mul, not-suc-le-zero, div-lt_iff_lt-mul}
 use native.Mathlib.Numerals.{add-one}
 use native.Mathlib.Omega.{arith}
-use borrow.Author.Tests.{eqb-true, le-leb, lt-leb}
+use borrow.Author.Tests.{eqb-true, le-leb, lt-leb, ne_eqb}
 use lib.Dec.{eqb, leb}
 use mir.Syntax.{w64}
 use Rattle.std.specs.Int.{to_le_bytes}
@@ -134,6 +135,15 @@ same_is a b = go (same_bytes (bytes_of a) (bytes_of b)) refl (same_key a b) refl
         let e = same_key_true a b q in
         let z : same_bytes (bytes_of a) (bytes_of b) ≡ true = rw e (same_refl (bytes_of b)) in
         sym p ∙ z
+
+-- a key of another length, or with another first word, is other bytes
+pub other_length : (s : List ℕ) (at : ℕ) (k : Key) → (get_or s at 0 ≡ k.len → ⊥) → same_bytes (bytes_of (key_at s at)) (bytes_of k) ≡ false
+unfolding key_at
+other_length s at k h = same_is (key_at s at) k ∙ sym (same_eq (key_at s at) k _ refl) ∙ rw (ne_eqb (get_or s at 0) k.len h) refl
+
+pub other_word : (s : List ℕ) (at : ℕ) (k : Key) → eqb (get_or s (at + 1) 0) k.w0 ≡ false → same_bytes (bytes_of (key_at s at)) (bytes_of k) ≡ false
+unfolding key_at
+other_word s at k h = same_is (key_at s at) k ∙ sym (same_eq (key_at s at) k _ refl) ∙ rw (h, and-false) refl
 
 -- ---- at most eight bytes
 

@@ -20,8 +20,7 @@ pub struct Key {
     pub w5: u64,
 }
 
-// Whether two keys are the same bytes: the derived equality of the words, said of what they stand for. Tried: the
-// lengths first. The compiler joins them with the words after, four at once, and the code is the same.
+// Whether two keys are the same bytes: the derived equality of the words, said of what they stand for.
 pub fn same(a: Key, b: Key) -> bool
     ensures { result ≡ same_bytes (bytes_of a) (bytes_of b) }
 {
@@ -41,6 +40,15 @@ pub fn get_key(s: &[u64], at: usize) -> Key
         w4: s[at + 5],
         w5: s[at + 6],
     }
+}
+
+// Whether the key that stands at `at` is these bytes. The length and the first word come first, each loaded by itself:
+// most keys of a table differ there, and their other words are not read.
+pub fn is_at(s: &[u64], at: usize, key: Key) -> bool
+    requires { at + 7 ≤ length s.now }
+    ensures { result ≡ same_bytes (bytes_of (key_at s.now at)) (bytes_of key) }
+{
+    s[at] == key.len && s[at + 1] == key.w0 && same(get_key(s, at), key)
 }
 
 pub fn put_key(s: &mut [u64], at: usize, k: Key)
