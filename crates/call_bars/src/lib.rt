@@ -104,14 +104,20 @@ pub fn bars(
     if !node::is_ready(node, mem) {
         return Err(Refusal::NotReady);
     }
-    let window = node::window(node, mem);
+    let window = node_insts::window(node, mem);
     let to = Moving {
         start,
         accept,
         commit,
         exec,
     };
-    bars_refusal(node::insts(mem), window, node.commit_bar, node.exec_bar, to)?;
+    bars_refusal(
+        node_insts::insts(mem),
+        window,
+        node.commit_bar,
+        node.exec_bar,
+        to,
+    )?;
     execute(
         &mut mem[layout::SLOTS_AT..layout::WRITTEN_AT],
         window.first(window.number(exec)),

@@ -42,9 +42,9 @@ pub fn commit(
     if ballot != node.bal_max_seen {
         return Ok(Taken { node, count: 0 });
     }
-    let window = node::window(node, mem);
+    let window = node_insts::window(node, mem);
     let count = advance_commit_bar::count_commits(
-        node::insts(mem),
+        node_insts::insts(mem),
         window,
         node.commit_bar,
         ballot,

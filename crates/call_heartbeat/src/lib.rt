@@ -42,7 +42,7 @@ fn heard_bars(node: Node, mem: &mut [u64], beat: Beat, items: &mut Items<'_>) ->
     if beat.exec < node.exec_bar {
         return node;
     }
-    let window = node::window(node, mem);
+    let window = node_insts::window(node, mem);
     advance_commit_bar::advance(
         &mut mem[layout::SLOTS_AT..layout::WRITTEN_AT],
         window,
@@ -72,8 +72,8 @@ fn count_bars(node: Node, mem: &[u64], beat: Beat) -> usize
         return 0;
     }
     advance_commit_bar::count_commits(
-        node::insts(mem),
-        node::window(node, mem),
+        node_insts::insts(mem),
+        node_insts::window(node, mem),
         node.commit_bar,
         beat.ballot,
         beat.commit,
@@ -166,7 +166,7 @@ fn any_open(node: Node, mem: &[u64]) -> bool
     requires { ready node mem.now ≡ true }
     ensures { result ≡ any_open (view node mem.now).insts }
 {
-    node::insts(mem).any_open(node::window(node, mem))
+    node_insts::insts(mem).any_open(node_insts::window(node, mem))
 }
 
 // 15: for a null slot, at a step-up that finds no slot open.
@@ -179,7 +179,7 @@ fn lacks_slot(node: Node, mem: &[u64], ballot: Ballot, conf: Option<RespondersCo
             node.bal_max_seen <= ballot
                 && node::leads(c.leader, node.id)
                 && !any_open(node, mem)
-                && (Node::WINDOW <= node.slots || Slot::TOP < node::window(node, mem).end())
+                && (Node::WINDOW <= node.slots || Slot::TOP < node_insts::window(node, mem).end())
         }
         None => false,
     }

@@ -104,7 +104,7 @@ pub fn notice(
     if !node::is_ready(node, mem) {
         return Err(Refusal::NotReady);
     }
-    let window = node::window(node, mem);
+    let window = node_insts::window(node, mem);
     let current = is_current(node, ballot);
     notice_refusal(node.population, current, window, peer, slot)?;
     if slot < node.start_slot {
@@ -130,7 +130,7 @@ pub fn notice(
     }
     let k = window.number(slot);
     let notice = Notice { peer, ballot };
-    let due = accept_notice_at::due(node::insts(mem), window, k, node.quorum, notice);
+    let due = accept_notice_at::due(node_insts::insts(mem), window, k, node.quorum, notice);
     items::has_room(area, due)?;
     let group = ReplicaGroup {
         quorum: node.quorum,

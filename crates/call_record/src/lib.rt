@@ -154,8 +154,8 @@ fn late_refusal(
     let written = Written::new(&mem[layout::WRITTEN_AT..layout::NODE_WORDS]);
     let full = highest_slot_refresh::overflows(written, batch);
     slot_refusal(
-        node::insts(mem),
-        node::window(node, mem),
+        node_insts::insts(mem),
+        node_insts::window(node, mem),
         slot,
         ballot,
         current(node),
@@ -168,7 +168,7 @@ fn recorded(node: Node, mem: &mut [u64], slot: Slot, ballot: Ballot, batch: Batc
     requires { (ready node mem.old ≡ true) × (late_refusal node mem.old slot.0 ballot.0 (requests_of batch.words.now) ≡ 0) }
     ensures { Recorded slot.0 ballot.0 (requests_of batch.entry.words.now) node mem.old result mem.new }
 {
-    let window = node::window(node, mem);
+    let window = node_insts::window(node, mem);
     highest_slot_refresh::refresh(
         &mut mem[layout::WRITTEN_AT..layout::NODE_WORDS],
         batch,

@@ -50,8 +50,8 @@ pub fn release(node: Node, mem: &mut [u64], area: &mut [u64], slot: Slot) -> Res
     if !node::is_ready(node, mem) {
         return Err(Refusal::NotReady);
     }
-    release_refusal(node::window(node, mem), slot)?;
-    let held = release_held_reads::holding(node::insts(mem), slot);
+    release_refusal(node_insts::window(node, mem), slot)?;
+    let held = release_held_reads::holding(node_insts::insts(mem), slot);
     items::has_room(area, held)?;
     let group = ReplicaGroup {
         quorum: node.quorum,

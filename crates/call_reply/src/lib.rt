@@ -161,7 +161,7 @@ fn ack_in(node: Node, mem: &[u64], slot: Slot, peer: Replica, ballot: Ballot) ->
     ensures { result ≡ ack_of (short_at (part mem.now slots_at slot_words) (place_of slot.0)) (batch_at (part mem.now slots_at slot_words) (place_of slot.0)) peer.0 ballot.0 node.quorum (roster_of node.bodega_conf (part mem.now rows_at roster_words)) }
 {
     ack_at(
-        node::insts(mem),
+        node_insts::insts(mem),
         &mem[layout::ROWS_AT..layout::SLOTS_AT],
         slot,
         peer,
@@ -301,7 +301,7 @@ pub fn reply(
     if !node::is_ready(node, mem) {
         return Err(Refusal::NotReady);
     }
-    let window = node::window(node, mem);
+    let window = node_insts::window(node, mem);
     reply_refusal(
         node.population,
         window,

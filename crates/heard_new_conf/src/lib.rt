@@ -82,7 +82,7 @@ fn become_a_leader(node: Node, mem: &mut [u64], items: &mut Items<'_>) -> Node
     ensures same_area { items.new.area.ghost_name ≡ items.old.area.ghost_name }
     ensures does { Does (become_a_leader (view node mem.old)) items.old.count mem.old items.old.area.now result items.new.count mem.new items.new.area.now }
 {
-    let window = node::window(node, mem);
+    let window = node_insts::window(node, mem);
     let group = ReplicaGroup {
         quorum: node.quorum,
         leader: node.bodega_conf.leader,
@@ -111,7 +111,7 @@ pub fn count_new_conf(node: Node, mem: &[u64], conf: RespondersConf) -> usize
     if !node::leads(conf.leader, node.id) {
         return 0;
     }
-    become_a_leader::count_items(node::insts(mem), node::window(node, mem))
+    become_a_leader::count_items(node_insts::insts(mem), node_insts::window(node, mem))
 }
 
 // An adoption, with a step-up where the roster names the replica leader.

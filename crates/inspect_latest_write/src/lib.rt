@@ -159,7 +159,7 @@ pub fn settled_by(node: Node, mem: &[u64], leases: u64, key: &[u8], packed: Key)
     }
     inspect_latest_write(
         node,
-        node::insts(mem),
+        node_insts::insts(mem),
         Written::new(&mem[layout::WRITTEN_AT..layout::NODE_WORDS]),
         packed,
     )
@@ -228,7 +228,7 @@ pub fn read_answer(node: Node, mem: &[u64], leases: u64, key: &[u8], packed: Key
 {
     answer_of(
         node,
-        node::insts(mem),
+        node_insts::insts(mem),
         settled_by(node, mem, leases, key, packed),
     )
 }
@@ -240,7 +240,7 @@ pub fn overfills(node: Node, mem: &[u64], answer: ReadAnswer) -> bool
 {
     match answer {
         ReadAnswer::HeldBy(slot) if is_held(node, slot) => {
-            Node::HOLD <= release_held_reads::holding(node::insts(mem), slot)
+            Node::HOLD <= release_held_reads::holding(node_insts::insts(mem), slot)
         }
         _ => false,
     }

@@ -6,13 +6,11 @@
 ghost use Rattle.std.specs.Prelude.{◌≡◌, true, ◌&&◌, List, ℕ, ◌≤◌, leb, length, replicate};
 ghost use Rattle.node.specs.View.{size, in_range, bars_in_range, sound, view, ready, leads_it};
 ghost use Rattle.ids.specs.Leader.{leader_of};
-ghost use Rattle.words.specs.Part.{part};
-ghost use Rattle.layout.specs.Layout.{node_words, slots_at, slot_words};
+ghost use Rattle.layout.specs.Layout.{node_words};
 ghost use Rattle.bodega.specs.Replica.{is_leader};
 ghost use Rattle.node.specs.Begins.{Reset, Begins};
 
 use ids::{Ballot, Refusal, Replica, Slot};
-use insts::{Insts, Window};
 use roster_conf::RespondersConf;
 
 // The slots stand in the lent buffer, so `slots` says how many are held.
@@ -87,28 +85,6 @@ pub fn is_leader(node: Node) -> bool
     ensures { (m : List ℕ) → result ≡ is_leader (view node m) }
 {
     leads(node.bodega_conf.leader, node.id)
-}
-
-// The slots that a node holds.
-pub fn window(node: Node, mem: &[u64]) -> Window
-    requires { ready node mem.now ≡ true }
-    ensures { (result.start ≡ node.start_slot) × (result.held ≡ node.slots) }
-{
-    Window {
-        start: node.start_slot,
-        held: node.slots,
-    }
-}
-
-// The slots' words of a node's buffer.
-#[tactic(auto, unfolding(words::specs::Part::part))]
-pub fn insts(mem: &[u64]) -> Insts<'_>
-    requires { node_words ≤ length mem.now }
-    ensures { result.words.now ≡ part mem.now slots_at slot_words }
-{
-    Insts {
-        words: &mem[layout::SLOTS_AT..layout::WRITTEN_AT],
-    }
 }
 
 // No guard and no exec bar heard, no key written.

@@ -1,6 +1,6 @@
 use Rattle.std.proofs.Common.{refl}
 use Rattle.node.proofs.Calls.{is_ready}
-use Rattle.node.proofs.window.Goals as goal
+use Rattle.node_insts.proofs.window.Goals as goal
 
 pub invariant_of-result : goal.invariant_of-result
 invariant_of-result c =
