@@ -4,13 +4,13 @@ use mathlib.Core.Path.{◌≡◌, refl, sym, ap, ◌∙◌}
 use mathlib.Core.Bool.{Bool, true, false, not, ◌||◌}
 use mathlib.Core.List.{List, []}
 use Rattle.std.specs.Prelude.{Option, None, Some}
-use Prim.Native.Nat.{ℕ, ◌+◌, ◌*◌, ◌≤◌, ◌<◌}
+use Prim.Native.Nat.{ℕ, ◌+◌, ◌*◌, ◌%◌, ◌≤◌, ◌<◌}
 use native.Mathlib.Decide.{dec_lt}
 use native.Mathlib.Omega.{arith}
 use borrow.Author.Tests.{lt-ltb, le-ltb, le-leb, ltb-true, ltb-false, leb-true}
 use lib.Dec.{ltb, leb, eqb}
 use lib.ListN.{length}
-use Rattle.layout.specs.Layout.{slots_at, slot_words, written_at, written_words, rows_at, roster_words, node_words}
+use Rattle.layout.specs.Layout.{slots_at, slot_words, written_at, written_words, rows_at, roster_words, node_words, slot_places}
 use Rattle.words.specs.Choice.{if_none◌then◌else◌}
 use Rattle.words.specs.Part.{part, length_part}
 use Rattle.ids.specs.declared.Slot.{Slot}
@@ -24,7 +24,7 @@ use Rattle.roster_conf.specs.Edits.{view as roster_of}
 use Rattle.bodega.specs.Replica as machine
 use Rattle.bodega.specs.Localread as local
 use Rattle.bodega.specs.Request as request
-use Rattle.bodega.specs.Request.{read_answer, answered}
+use Rattle.bodega.specs.Request.{answered}
 use Rattle.bodega.specs.Grounds.{full}
 use Rattle.inst_cell.specs.Cell.{status_of, cell_of}
 use Rattle.inst_cell.specs.declared.Cell.{Cell}
@@ -36,7 +36,8 @@ use Rattle.node.specs.View.{view, ready}
 use Rattle.node.specs.declared.Node.{Node}
 use Rattle.node.proofs.Calls.{Ready, is_ready}
 use Rattle.node.proofs.Slots.{not_below, not_past, held_at_lem}
-use Rattle.inspect_latest_write.specs.Located.{held_at, settled_of, answer_in}
+use Rattle.inspect_latest_write.specs.Located.{held_at, answer_in, Stands, Settles, Gets}
+use Rattle.inspect_latest_write.specs.declared.SlotAt.{SlotAt}
 use Rattle.inspect_latest_write.specs.declared.Settled.{Settled}
 use Rattle.inspect_latest_write.specs.declared.Settled.TheVariants as settled
 use Rattle.inspect_latest_write.specs.declared.ReadAnswer.{ReadAnswer}
@@ -103,12 +104,19 @@ module _ (n : Node) (m s : List ℕ) (d : part m slots_at slot_words ≡ s) (slo
     found_here : machine.inst_at (view n m) slot.0 ≡ Some here
     found_here = slot_at n m s d slot.0 t e f ∙ ap (λ (i : machine.Instance). Some i) (loaded s (place_of slot.0) x l)
 
-    pub wait_here : (w : Bool) → w ≡ local.waits here → (if w then local.HeldBy slot.0 else local.Again) ≡ local.waits_at (view n m) slot.0
-    wait_here w z = ap (λ (b : Bool). if b then local.HeldBy slot.0 else local.Again) z ∙ ap (waited slot.0) (sym found_here)
+    -- the slot beside what its cell says of it
+    pub stands : (o : SlotAt) → o.slot ≡ slot → o.place ≡ slot.0 % slot_places
+        → ((reqs : List machine.Request) (reads : List machine.ReadReq) → o.waits ≡ local.waits (inst_of (cell_of x) reqs reads)) → Stands (view n m) s o
+    stands o p c w =
+        record {
+          place = rw p c;
+          found = rw (p, c) (slot_at n m s d slot.0 t e f);
+          waits = rw c (w (batch_at s (place_of slot.0)) (reads_at s (place_of slot.0)) ∙ ap local.waits (sym (loaded s (place_of slot.0) x l)));
+        }
 
   module _ (key : List ℕ) where
     abbrev Inspects : Settled → Type 0
-    Inspects x = settled_of x ≡ local.inspect_highest_slot (view n m) key slot.0
+    Inspects x = Settles (view n m) s (local.inspect_highest_slot (view n m) key slot.0) x
 
     inspect_by : (o : Option machine.Instance) → machine.inst_at (view n m) slot.0 ≡ o
         → inspected n.quorum key slot.0 o ≡ local.inspect_highest_slot (view n m) key slot.0
@@ -116,18 +124,21 @@ module _ (n : Node) (m s : List ℕ) (d : part m slots_at slot_words ≡ s) (slo
     inspect_by o f = ap (inspected n.quorum key slot.0) (sym f)
 
     pub inspect_none : t ≡ false → Inspects (settled.SlotStatus slot)
-    inspect_none f = inspect_by None (no_slot n m s d slot.0 t e f)
+    inspect_none f = (inspect_by None (no_slot n m s d slot.0 t e f), tt)
 
     module _ (f : t ≡ true) (x : Cell) (l : cell_of x ≡ short_at s (place_of slot.0)) (u : Bool) (g : u ≡ ltb (machine.order (status_of x.status)) 2) where
       abbrev it : machine.Instance
       it = here f x l
 
       pub inspect_early : u ≡ true → Inspects (settled.SlotStatus slot)
-      inspect_early h = sym (rw (sym g ∙ h)) ∙ inspect_by (Some it) (found_here f x l)
+      inspect_early h = (sym (rw (sym g ∙ h)) ∙ inspect_by (Some it) (found_here f x l), tt)
 
       module _ (h : u ≡ false) (b : Bool) (y : b ≡ local.is_bound n.quorum it) where
-        pub inspect_unbound : b ≡ false → Inspects (settled.Notices slot)
-        inspect_unbound z = sym (rw (sym g ∙ h, sym y ∙ z)) ∙ inspect_by (Some it) (found_here f x l)
+        unbound : b ≡ false → local.Notices slot.0 ≡ local.inspect_highest_slot (view n m) key slot.0
+        unbound z = sym (rw (sym g ∙ h, sym y ∙ z)) ∙ inspect_by (Some it) (found_here f x l)
+
+        pub inspect_unbound : b ≡ false → (o : SlotAt) → o.slot ≡ slot → Stands (view n m) s o → Inspects (settled.Notices o)
+        inspect_unbound z o p i = (rw p (unbound z), i)
 
         module _ (z : b ≡ true) (p : Option ℕ) (q : p ≡ local.last_put key (batch_at s (place_of slot.0))) where
           bound : (if not (local.is_bound n.quorum it) then local.Notices slot.0 else if_none p then local.MissingPut slot.0 else local.FoundPut)
@@ -135,16 +146,30 @@ module _ (n : Node) (m s : List ℕ) (d : part m slots_at slot_words ≡ s) (slo
           bound = rw q (sym (rw (sym g ∙ h)) ∙ inspect_by (Some it) (found_here f x l))
 
           pub inspect_found : (k : ℕ) → p ≡ Some k → Inspects (settled.FoundPut k)
-          inspect_found k r = sym (rw (sym y ∙ z, r)) ∙ bound
+          inspect_found k r = (sym (rw (sym y ∙ z, r)) ∙ bound, tt)
 
-          pub inspect_missing : p ≡ None → Inspects (settled.MissingPut slot)
-          inspect_missing r = sym (rw (sym y ∙ z, r)) ∙ bound
+          missing : p ≡ None → local.MissingPut slot.0 ≡ local.inspect_highest_slot (view n m) key slot.0
+          missing r = sym (rw (sym y ∙ z, r)) ∙ bound
+
+          pub inspect_missing : p ≡ None → (o : SlotAt) → o.slot ≡ slot → Stands (view n m) s o → Inspects (settled.MissingPut o)
+          inspect_missing r o v i = (rw v (missing r), i)
+
+-- where a read waits, as it is told
+module _ (r : machine.Replica) (s : List ℕ) (x : SlotAt) (y : Stands r s x) where
+  wait_by : (if x.waits then local.HeldBy x.slot.0 else local.Again) ≡ local.waits_at r x.slot.0
+  wait_by = ap (λ (b : Bool). if b then local.HeldBy x.slot.0 else local.Again) y.waits ∙ ap (waited x.slot.0) (sym y.found)
+
+  pub wait_held : x.waits ≡ true → Gets r s (local.waits_at r x.slot.0) (HeldBy x.slot)
+  wait_held h = (sym (rw h) ∙ wait_by, y.found ∙ ap (λ (c : ℕ). Some (inst_in s c)) y.place)
+
+  pub wait_again : x.waits ≡ false → Gets r s (local.waits_at r x.slot.0) Again
+  wait_again h = (sym (rw h) ∙ wait_by, tt)
 
 -- ---- `inspect_latest_write`
 
-module _ (n : Node) (m w : List ℕ) (l : part m written_at written_words ≡ w) (key : List ℕ) (o : Option Slot) (e : slot_in o ≡ local.highest_of key (written_of w)) where
+module _ (n : Node) (m s w : List ℕ) (l : part m written_at written_words ≡ w) (key : List ℕ) (o : Option Slot) (e : slot_in o ≡ local.highest_of key (written_of w)) where
   abbrev IsLatest : Settled → Type 0
-  IsLatest x = settled_of x ≡ local.inspect_latest_write (view n m) key
+  IsLatest x = Settles (view n m) s (local.inspect_latest_write (view n m) key) x
 
   abbrev latest_of : Option ℕ → local.Settled
   latest_of q =
@@ -156,17 +181,17 @@ module _ (n : Node) (m w : List ℕ) (l : part m written_at written_words ≡ w)
   latest_by = ap latest_of (e ∙ ap (λ (y : List ℕ). local.highest_of key (written_of y)) (sym l))
 
   pub latest_none : o ≡ None → IsLatest settled.NoSlot
-  latest_none f = ap (λ (x : Option Slot). latest_of (slot_in x)) (sym f) ∙ latest_by
+  latest_none f = (ap (λ (x : Option Slot). latest_of (slot_in x)) (sym f) ∙ latest_by, tt)
 
   module _ (slot : Slot) (f : o ≡ Some slot) where
     here_by : latest_of (Some slot.0) ≡ local.inspect_latest_write (view n m) key
     here_by = ap (λ (x : Option Slot). latest_of (slot_in x)) (sym f) ∙ latest_by
 
     pub latest_low : slot.0 < n.start_slot.0 → IsLatest settled.NoSlot
-    latest_low h = sym (rw (lt-ltb slot.0 n.start_slot.0 h)) ∙ here_by
+    latest_low h = (sym (rw (lt-ltb slot.0 n.start_slot.0 h)) ∙ here_by, tt)
 
-    pub latest_at : n.start_slot.0 ≤ slot.0 → (y : Settled) → settled_of y ≡ local.inspect_highest_slot (view n m) key slot.0 → IsLatest y
-    latest_at h y g = g ∙ sym (rw (le-ltb slot.0 n.start_slot.0 h)) ∙ here_by
+    pub latest_at : n.start_slot.0 ≤ slot.0 → (y : Settled) → Settles (view n m) s (local.inspect_highest_slot (view n m) key slot.0) y → IsLatest y
+    latest_at h y g = (g.0 ∙ sym (rw (le-ltb slot.0 n.start_slot.0 h)) ∙ here_by, g.1)
 
 -- ---- `settled`
 
@@ -191,7 +216,7 @@ module _ (n : Node) (m : List ℕ) (leases : ℕ) (key : List ℕ) where
       if_none o then local.UnreadKey else λ j. responds n.bodega_conf.default n.id.0 (stored j) barred
 
   abbrev Whole : Settled → Type 0
-  Whole x = settled_of x ≡ whole
+  Whole x = Settles (view n m) (part m slots_at slot_words) whole x
 
   settled_is : settled_by (local.is_stable_leader (view n m) leases) (read_key key) ≡ whole
   unfolding request.settled view roster_of
@@ -199,14 +224,14 @@ module _ (n : Node) (m : List ℕ) (leases : ℕ) (key : List ℕ) where
 
   module _ (t : Bool) (e : t ≡ local.is_stable_leader (view n m) leases) where
     pub settled_stable : t ≡ true → Whole settled.StableLeader
-    settled_stable f = ap (λ (b : Bool). settled_by b (read_key key)) (sym f ∙ e) ∙ settled_is
+    settled_stable f = (ap (λ (b : Bool). settled_by b (read_key key)) (sym f ∙ e) ∙ settled_is, tt)
 
     module _ (f : t ≡ false) where
       unstable : settled_by false (read_key key) ≡ whole
       unstable = ap (λ (b : Bool). settled_by b (read_key key)) (sym f ∙ e) ∙ settled_is
 
       pub settled_leases : leases < n.quorum → Whole settled.FewLeases
-      settled_leases h = first ∙ unstable
+      settled_leases h = (first ∙ unstable, tt)
         where
           first : local.FewLeases ≡ settled_by false (read_key key)
           first = rw (lt-ltb leases n.quorum h)
@@ -219,7 +244,7 @@ module _ (n : Node) (m : List ℕ) (leases : ℕ) (key : List ℕ) where
             first = rw (le-ltb leases n.quorum h)
 
         pub settled_unread : k ≡ None → Whole settled.UnreadKey
-        settled_unread q = read_by None (ap (option_map value_of) q)
+        settled_unread q = (read_by None (ap (option_map value_of) q), tt)
 
         module _ (i : Inty) (q : k ≡ Some i) (r : Option ℕ) (l : r ≡ stored (value_of i)) where
           looked : responds n.bodega_conf.default n.id.0 (r) barred ≡ whole
@@ -229,18 +254,18 @@ module _ (n : Node) (m : List ℕ) (leases : ℕ) (key : List ℕ) where
             answers : (b : Bool) → u ≡ b → (if not b then (if_none r then local.DefaultRoster else λ j. local.StoredRange) else barred) ≡ whole
             answers b x = ap (λ (y : Bool). if not y then (if_none r then local.DefaultRoster else λ j. local.StoredRange) else barred) (sym x ∙ d) ∙ looked
 
-            pub settled_roster : u ≡ false → (y : Settled) → settled_of y ≡ (if_none r then local.DefaultRoster else λ j. local.StoredRange) → Whole y
-            settled_roster x y z = z ∙ answers false x
+            pub settled_roster : u ≡ false → (y : Settled) → Settles (view n m) (part m slots_at slot_words) (if_none r then local.DefaultRoster else λ j. local.StoredRange) y → Whole y
+            settled_roster x y z = (z.0 ∙ answers false x, z.1)
 
             module _ (x : u ≡ true) where
               pub settled_bar : n.commit_bar.0 < n.peer_accept_max.0 → Whole settled.Bar
-              settled_bar b = first ∙ answers true x
+              settled_bar b = (first ∙ answers true x, tt)
                 where
                   first : local.Bar ≡ barred
                   first = rw (lt-ltb n.commit_bar.0 n.peer_accept_max.0 b)
 
-              pub settled_latest : n.peer_accept_max.0 ≤ n.commit_bar.0 → (y : Settled) → settled_of y ≡ local.inspect_latest_write (view n m) key → Whole y
-              settled_latest b y z = z ∙ first ∙ answers true x
+              pub settled_latest : n.peer_accept_max.0 ≤ n.commit_bar.0 → (y : Settled) → Settles (view n m) (part m slots_at slot_words) (local.inspect_latest_write (view n m) key) y → Whole y
+              settled_latest b y z = (z.0 ∙ first ∙ answers true x, z.1)
                 where
                   first : local.inspect_latest_write (view n m) key ≡ barred
                   first = rw (le-ltb n.commit_bar.0 n.peer_accept_max.0 b)

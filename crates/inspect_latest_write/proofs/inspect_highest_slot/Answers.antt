@@ -19,8 +19,10 @@ returns-then-not-is_bound c = λ m d.
     let a = c.args in
     let s = a.insts.words.now in
     let p = place_of a.slot.0 in
+    let o = c.slot_at.ensures in
     law.inspect_unbound a.node m s d a.slot _ c.is_held.ensures (bytes_of a.key) c.if-not-is_held.false c.load-cell.result c.load-cell.ensures
-    _ c.is_below_accepting.ensures c.if-is_below_accepting.false _ (c.is_bound.ensures (batch_at s p) (reads_at s p)) c.if-not-is_bound.true
+    _ c.is_below_accepting.ensures c.if-is_below_accepting.false _ (c.is_bound.ensures (batch_at s p) (reads_at s p)) c.if-not-is_bound.true c.slot_at.result o.slot
+    (law.stands a.node m s d a.slot _ c.is_held.ensures c.if-not-is_held.false c.load-cell.result c.load-cell.ensures c.slot_at.result o.slot o.place o.waits)
 
 pub returns-in-Some : goal.returns-in-Some
 returns-in-Some c = λ m d.
@@ -35,5 +37,8 @@ returns-in-None c = λ m d.
     let a = c.args in
     let s = a.insts.words.now in
     let p = place_of a.slot.0 in
+    let o = c.slot_at-in-None.ensures in
     law.inspect_missing a.node m s d a.slot _ c.is_held.ensures (bytes_of a.key) c.if-not-is_held.false c.load-cell.result c.load-cell.ensures
     _ c.is_below_accepting.ensures c.if-is_below_accepting.false _ (c.is_bound.ensures (batch_at s p) (reads_at s p)) c.if-not-is_bound.false c.last_put.result c.last_put.ensures c.in-None.is
+    c.slot_at-in-None.result o.slot
+    (law.stands a.node m s d a.slot _ c.is_held.ensures c.if-not-is_held.false c.load-cell.result c.load-cell.ensures c.slot_at-in-None.result o.slot o.place o.waits)

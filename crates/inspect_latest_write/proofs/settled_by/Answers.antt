@@ -1,6 +1,7 @@
 use Rattle.inspect_latest_write.proofs.Laws as law
-use mathlib.Core.Path.{refl}
+use Rattle.layout.specs.Layout.{slots_at, slot_words}
 use Rattle.words.specs.Part.{part}
+use Rattle.node.specs.View.{view}
 use Rattle.std.proofs.Common.{rules, sym, arith}
 use Rattle.std.proofs.lemmas.Map.Keys.{ge_from_not_lt}
 use Rattle.inspect_latest_write.proofs.settled_by.Goals as goal
@@ -31,7 +32,7 @@ pub returns-then-not-is_responder : goal.returns-then-not-is_responder
 unfolding part
 returns-then-not-is_responder c =
     let a = c.args in
-    law.settled_roster a.node a.mem.now a.leases a.key.now _ (c.is_stable_leader.ensures a.mem.now) c.if-is_stable_leader.false (omega arith) c.key_to_inty.result c.key_to_inty.ensures _ c.in-Some.is c.at-stored.result c.at-stored.ensures _ c.is_responder.ensures c.if-not-is_responder.true c.not_responder.result c.not_responder.ensures
+    law.settled_roster a.node a.mem.now a.leases a.key.now _ (c.is_stable_leader.ensures a.mem.now) c.if-is_stable_leader.false (omega arith) c.key_to_inty.result c.key_to_inty.ensures _ c.in-Some.is c.at-stored.result c.at-stored.ensures _ c.is_responder.ensures c.if-not-is_responder.true c.not_responder.result (c.not_responder.ensures (view a.node a.mem.now) (part a.mem.now slots_at slot_words))
 
 pub returns-then-lt : goal.returns-then-lt
 unfolding part
@@ -49,4 +50,4 @@ pub returns : goal.returns
 unfolding part
 returns c =
     let a = c.args in
-    law.settled_latest a.node a.mem.now a.leases a.key.now _ (c.is_stable_leader.ensures a.mem.now) c.if-is_stable_leader.false (omega arith) c.key_to_inty.result c.key_to_inty.ensures _ c.in-Some.is c.at-stored.result c.at-stored.ensures _ c.is_responder.ensures c.if-not-is_responder.false (ge_from_not_lt a.node.commit_bar.0 a.node.peer_accept_max.0 (sym c.if-lt.ensures)) c.inspect_latest_write.result (rw c.requires.1 at (c.inspect_latest_write.ensures a.mem.now (sym c.insts.ensures) (sym c.new.ensures)))
+    law.settled_latest a.node a.mem.now a.leases a.key.now _ (c.is_stable_leader.ensures a.mem.now) c.if-is_stable_leader.false (omega arith) c.key_to_inty.result c.key_to_inty.ensures _ c.in-Some.is c.at-stored.result c.at-stored.ensures _ c.is_responder.ensures c.if-not-is_responder.false (ge_from_not_lt a.node.commit_bar.0 a.node.peer_accept_max.0 (sym c.if-lt.ensures)) c.inspect_latest_write.result (rw (c.requires.1, c.insts.ensures) at (c.inspect_latest_write.ensures a.mem.now (sym c.insts.ensures) (sym c.new.ensures)))
