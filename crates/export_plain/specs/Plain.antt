@@ -98,10 +98,18 @@ no_node =
 
 -- ---- what the functions give
 
+-- a number other than 0 is a refusal's: the node that was handed in; whatever it is, it goes through, and the count too
+abbrev pub answered_by : Plain → ℕ → ℕ → Node → PlainAnswered
+answered_by p number count n = record { number = number; count = count; node = if eqb number 0 then plain_of n else p }
+
 -- where a call is refused, the number, no items, and the node that was handed in
 abbrev pub answered_of : Plain → Result Taken Refusal → PlainAnswered
 answered_of p (Ok t) = record { number = 0; count = t.count; node = plain_of t.node }
 answered_of p (Err r) = record { number = number_of r; count = 0; node = p }
+
+unfoldable pub begun_by : Result Node ℕ → PlainAnswered
+begun_by (Ok n) = record { number = 0; count = 0; node = plain_of n }
+begun_by (Err number) = record { number = number; count = 0; node = no_node }
 
 unfoldable pub begun_of : Result Node Refusal → PlainAnswered
 begun_of (Ok n) = record { number = 0; count = 0; node = plain_of n }

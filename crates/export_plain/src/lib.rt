@@ -2,7 +2,7 @@
 #![tactic(auto)]
 
 ghost use Rattle.std.specs.Prelude.{◌≡◌};
-ghost use Rattle.export_plain.specs.Plain.{node_of, plain_of, answered_of, begun_of, conf_of};
+ghost use Rattle.export_plain.specs.Plain.{node_of, plain_of, answered_by, answered_of, begun_by, begun_of, conf_of};
 
 use ids::{Ballot, Refusal, Replica, Slot};
 use node::{Node, Taken};
@@ -112,16 +112,24 @@ fn plain_of(n: Node) -> Plain
     }
 }
 
-// What a call answered that was handed a plain node: where it is refused, that node comes back.
+// What a call answered that was handed a plain node, by the number of its refusal, or 0: where it is refused, by
+// whatever number, the handed node comes back.
+pub fn answered_by(handed: Plain, number: u64, count: usize, node: Node) -> PlainAnswered
+    ensures { result ≡ answered_by handed number count node }
+{
+    PlainAnswered {
+        number,
+        count,
+        node: if number == 0 { plain_of(node) } else { handed },
+    }
+}
+
+// The same from what the call gave: where it is refused, no items, and the handed node comes back.
 pub fn answered(handed: Plain, a: Result<Taken, Refusal>) -> PlainAnswered
     ensures { result ≡ answered_of handed a }
 {
     match a {
-        Ok(taken) => PlainAnswered {
-            number: 0,
-            count: taken.count,
-            node: plain_of(taken.node),
-        },
+        Ok(taken) => answered_by(handed, 0, taken.count, taken.node),
         Err(refusal) => PlainAnswered {
             number: refusal.number(),
             count: 0,
@@ -130,10 +138,25 @@ pub fn answered(handed: Plain, a: Result<Taken, Refusal>) -> PlainAnswered
     }
 }
 
-// A fresh node, or the refusal and no node: all its fields are 0.
-#[tactic(auto, unfolding(crate::specs::Plain::begun_of))]
+// A fresh node, or the number of a refusal and no node: all its fields are 0.
+#[tactic(auto, unfolding(crate::specs::Plain::begun_by))]
+pub fn begun_by(fresh: Result<Node, u64>) -> PlainAnswered
+    ensures { result ≡ begun_by fresh }
+{
+    match fresh {
+        Ok(node) => answered_by(Plain::default(), 0, 0, node),
+        Err(number) => PlainAnswered {
+            number,
+            count: 0,
+            node: Plain::default(),
+        },
+    }
+}
+
+// The same by the refusal.
+#[tactic(auto, unfolding(crate::specs::Plain::begun_by, crate::specs::Plain::begun_of))]
 pub fn begun(fresh: Result<Node, Refusal>) -> PlainAnswered
     ensures { result ≡ begun_of fresh }
 {
-    answered(Plain::default(), fresh.map(|node| Taken { node, count: 0 }))
+    begun_by(fresh.map_err(|refusal| refusal.number()))
 }

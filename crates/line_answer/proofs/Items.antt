@@ -22,7 +22,7 @@ use Rattle.ids.specs.Refusal.{number_of}
 use Rattle.text.specs.Wrote.{Wrote}
 use Rattle.text.specs.Puts.{Puts}
 use Rattle.text.specs.declared.TextMut.{TextMut}
-use Rattle.line_answer.specs.Wrote.{Holds, Listed, Answered}
+use Rattle.line_answer.specs.Wrote.{Holds, Listed, Numbered, Answered}
 use Rattle.text.proofs.Laws.{then, at_most, same_text}
 
 -- ---- an item
@@ -121,20 +121,35 @@ listed_more {t} {u} {v} {i} area ws room e f p = record { held = p.held ∙ f.he
 -- ---- an answer
 
 -- `out` is what the lent bytes are in the end
-module _ {t u : TextMut} {n : ℕ} {out : Bytes} (area : List ℕ) (start : t.at ≡ 0) (room : 65536 ≤ length t.out.now) where
-  pub answer_refused : (x : Refusal) {number : ℕ} → number ≡ number_of x → Puts t (line (decimal n ∷ bytes "refused" ∷ decimal number ∷ [])) 64 u → out ≡ u.out.now → Answered t.out.now n (Err x) area u.at out
+module _ {t u : TextMut} {n number count : ℕ} {out : Bytes} (area : List ℕ) (start : t.at ≡ 0) (room : 65536 ≤ length t.out.now) where
+  pub answer_refused : (number ≡ 0 → ⊥) → Puts t (line (decimal n ∷ bytes "refused" ∷ decimal number ∷ [])) 64 u → out ≡ u.out.now → Numbered t.out.now n number count area u.at out
   unfolding refused_text
-  answer_refused x z p e =
-      let w = rw (start, ← e, z) at p.wrote in
-      record { within = omega arith; text = w }
+  answer_refused z p e =
+      let w = rw (start, ← e) at p.wrote in
+      record { within = omega arith; refused = λ _. w; taken = λ l y _. absurd (z y) }
 
-  pub answer_taken : {count : ℕ} {v : TextMut} → count ≤ 546 → Puts t (line (decimal n ∷ bytes "taken" ∷ decimal count ∷ [])) 64 u → Listed u area count v → out ≡ v.out.now
-      → Answered t.out.now n (Ok count) area v.at out
+  pub answer_taken : {v : TextMut} → number ≡ 0 → count ≤ 546 → Puts t (line (decimal n ∷ bytes "taken" ∷ decimal count ∷ [])) 64 u → Listed u area count v → out ≡ v.out.now
+      → Numbered t.out.now n number count area v.at out
   unfolding taken_text
-  answer_taken m p f e =
+  answer_taken z m p f e =
       let w = p.wrote in
       let b = f.within in
-      record { within = omega arith; text = λ l k. rw (start, ← e) at ((then (rw k.0 at p) (f.items l k)).wrote) }
+      record {
+        within = omega arith;
+        refused = λ y. absurd (y z);
+        taken = λ l _ k. rw (start, ← e) at ((then (rw k.0 at p) (f.items l k)).wrote);
+      }
+
+-- what a line did, by its number
+module _ {out : Bytes} {n number count : ℕ} {area : List ℕ} {r : ℕ} {out' : Bytes} (a : Numbered out n number count area r out') where
+  pub answered_taken : number ≡ 0 → Answered out n (Ok count) area r out'
+  answered_taken z = record { within = a.within; text = λ l k. a.taken l z k }
+
+  not_none : (x : Refusal) → number_of x ≡ 0 → ⊥
+  not_none x e = grind arith
+
+  pub answered_refused : (x : Refusal) → number ≡ number_of x → Answered out n (Err x) area r out'
+  answered_refused x e = record { within = a.within; text = rw e at (a.refused (λ z. not_none x (sym e ∙ z))) }
 
 -- ---- for callers
 

@@ -21,6 +21,12 @@ pub record Listed (t : TextMut) (area : List ℕ) (count : ℕ) (t' : TextMut) :
   pub within : t'.at ≤ t.at + count * 106
   pub items : (l : List Item) → Holds area count l → Puts t (items_text l) (count * 106) t'
 
+-- a number other than 0 is a refusal's; else the line is taken, with the items that the area holds
+pub record Numbered (out : Bytes) (n number count : ℕ) (area : List ℕ) (r : ℕ) (out' : Bytes) : Type 0 where
+  pub within : r ≤ length out
+  pub refused : (number ≡ 0 → ⊥) → Wrote out 0 (refused_text n number) 64 r out'
+  pub taken : (l : List Item) → number ≡ 0 → Holds area count l → Wrote out 0 (taken_text n l) (64 + count * 106) r out'
+
 -- the text of a refusal, or of a line that is taken, with the items that the area holds
 abbrev pub Says : Bytes → ℕ → Result ℕ Refusal → List ℕ → ℕ → Bytes → Type 0
 Says out n (Err refusal) area r out' = Wrote out 0 (refused_text n (number_of refusal)) 64 r out'

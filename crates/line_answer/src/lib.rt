@@ -8,7 +8,7 @@ ghost use Rattle.inty.specs.Value.{value_of};
 ghost use Rattle.text.specs.Puts.{Puts};
 ghost use Rattle.line_answer.specs.Text.{line};
 ghost use Rattle.line_answer.specs.Six.{leader_field, six_text};
-ghost use Rattle.line_answer.specs.Wrote.{Listed, Answered};
+ghost use Rattle.line_answer.specs.Wrote.{Listed, Numbered, Answered};
 
 use ids::Refusal;
 use inty::Inty;
@@ -117,21 +117,30 @@ fn put_head(text: &mut TextMut, n: u64, word: &[u8], number: u64)
     text.put_byte(b'\n');
 }
 
-// The text for the n-th line, from what it did: its refusal, or how many items answer it, with their area.
+// The text for the n-th line, from the number of its refusal, or 0 and how many items answer it, with their area. Any
+// number but 0 is a refusal's.
+pub fn put_numbered(out: &mut [u8], n: u64, number: u64, count: usize, area: &[u64]) -> usize
+    requires { (65536 ≤ length out.old) × (count ≤ 546) × (count * 6 ≤ length area.now) }
+    ensures { Numbered out.old n number count area.now result out.new }
+{
+    let mut text = TextMut { out, at: 0 };
+    if number != 0 {
+        put_head(&mut text, n, b"refused", number);
+        text.at
+    } else {
+        put_head(&mut text, n, b"taken", count as u64);
+        put_items(&mut text, area, count);
+        text.at
+    }
+}
+
+// The same from what the line did: its refusal, or how many items answer it.
 pub fn put_answer(out: &mut [u8], n: u64, acted: Result<usize, Refusal>, area: &[u64]) -> usize
     requires { (65536 ≤ length out.old) × IfOk acted (λ count. (count ≤ 546) × (count * 6 ≤ length area.now)) }
     ensures { Answered out.old n acted area.now result out.new }
 {
-    let mut text = TextMut { out, at: 0 };
     match acted {
-        Ok(count) => {
-            put_head(&mut text, n, b"taken", count as u64);
-            put_items(&mut text, area, count);
-            text.at
-        }
-        Err(refusal) => {
-            put_head(&mut text, n, b"refused", refusal.number());
-            text.at
-        }
+        Ok(count) => put_numbered(out, n, 0, count, area),
+        Err(refusal) => put_numbered(out, n, refusal.number(), 0, area),
     }
 }
