@@ -400,6 +400,13 @@ mark_fits m r p l e = elim (dec_lt r 64) [
   | no h ↦ rw (mark_out m r (omega arith)) e
 ]
 
+-- 64 bits hold the result
+pub mark_lt : (m r : ℕ) → m < 2 ^ 64 → mark m r < 2 ^ 64
+mark_lt m r h = elim (dec_lt r 64) [
+  | yes l ↦ rw (mark_or m r l) (or_lt 64 m (2 ^ r) h (pow-lt l))
+  | no l ↦ rw (mark_out m r (omega arith)) h
+]
+
 pub unmark_lt : (m r : ℕ) → m < 2 ^ 64 → unmark m r < 2 ^ 64
 unmark_lt m r h = lt_of_le_of_lt (unmark_le m r) h
 
