@@ -91,14 +91,14 @@ fn place(slot: Slot) -> usize
 }
 
 // Where the batch and the held reads of place c stand. A number with its bound: `place` makes it for one use at once.
-fn batch_at(c: usize) -> usize
+pub fn batch_at(c: usize) -> usize
     requires { c < slot_places }
     ensures { result ≡ batch_start c }
 {
     layout::BATCHES_FROM + c * layout::BATCH_WORDS
 }
 
-fn reads_at(c: usize) -> usize
+pub fn reads_at(c: usize) -> usize
     requires { c < slot_places }
     ensures { result ≡ reads_start c }
 {
@@ -219,6 +219,14 @@ impl<'a> InstsMut<'a> {
         self.words[a..a + layout::BATCH_WORDS].copy_from_slice(&batch.words[..layout::BATCH_WORDS]);
     }
 
+    pub fn clear_batch(&mut self, slot: Slot)
+        ensures same_reference { self.new.words.ghost_name ≡ self.old.words.ghost_name }
+        ensures puts { PutsBatch self.old.words.now (place_of slot.0) [] self.new.words.now }
+    {
+        let a = batch_at(place(slot));
+        inst_reqs::clear(&mut self.words[a..a + layout::BATCH_WORDS]);
+    }
+
     pub fn clear_reads(&mut self, slot: Slot)
         ensures same_reference { self.new.words.ghost_name ≡ self.old.words.ghost_name }
         ensures puts { PutsReads self.old.words.now (place_of slot.0) [] self.new.words.now }
@@ -254,8 +262,7 @@ impl<'a> InstsMut<'a> {
         ensures puts { Puts self.old.words.now (place_of slot.0) null_short [] (reads_at self.old.words.now (place_of slot.0)) self.new.words.now }
     {
         self.store(slot, Cell::default());
-        let a = batch_at(place(slot));
-        inst_reqs::clear(&mut self.words[a..a + layout::BATCH_WORDS]);
+        self.clear_batch(slot);
     }
 
     // Null slots after those of the window, so that there are `to`.
