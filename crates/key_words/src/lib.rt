@@ -73,6 +73,7 @@ fn word_of(s: &[u8], at: usize) -> u64
     u64::from_le_bytes(array::from_fn(|i| byte_or_0(s, at + i)))
 }
 
+#[tactic(auto, using(crate::proofs::Laws::few_packed))]
 fn key_of(k: &[u8]) -> Key
     ensures { result ≡ pack_of k.now }
 {
