@@ -3,7 +3,7 @@
 // by side through the calls, with `ready`, which says of the first two that a call can have made them.
 #![tactic(auto)]
 
-ghost use Rattle.std.specs.Prelude.{◌≡◌, true, ◌&&◌, List, ℕ, ◌≤◌, leb, length, replicate};
+ghost use Rattle.std.specs.Prelude.{◌≡◌, ◌&&◌, List, ℕ, ◌≤◌, leb, length, replicate};
 ghost use Rattle.node.specs.View.{size, in_range, bars_in_range, sound, view, ready, leads_it};
 ghost use Rattle.ids.specs.Leader.{leader_of};
 ghost use Rattle.layout.specs.Layout.{node_words};
