@@ -91,6 +91,7 @@ pub fn highest(written: Written<'_>, key: Key) -> Option<Slot>
 // `TableMut::push`.
 pub fn note(written: &mut WrittenMut<'_>, key: Key, slot: Slot) -> bool
     ensures same_reference { written.new.words.ghost_name ≡ written.old.words.ghost_name }
+    ensures long { length written.new.words.now ≡ length written.old.words.now }
     ensures notes { Notes written.old.words.now (bytes_of key) slot.0 result written.new.words.now }
 {
     let Some(i) = find(written.as_ref(), key) else {

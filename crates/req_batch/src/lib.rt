@@ -70,6 +70,7 @@ pub fn load(rows: &[u64], text: &[u8], out: &mut BatchMut<'_>)
     requires few { length (given rows.now text.now) ≤ request_places }
     requires short { any_long (given rows.now text.now) ≡ false }
     ensures same_reference { out.new.words.ghost_name ≡ out.old.words.ghost_name }
+    ensures long { length out.new.words.now ≡ length out.old.words.now }
     ensures loads { Loads rows.now text.now out.old.words.now out.new.words.now }
 {
     out.clear();

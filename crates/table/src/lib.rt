@@ -149,6 +149,7 @@ impl<'a, R: Row, const PLACES: usize> TableMut<'a, R, PLACES> {
     // true, the row is put. No `Result`, here and in what hands it on: the callers count their rows first.
     pub fn push(&mut self, row: R) -> bool
         ensures same_reference { self.new.words.ghost_name ≡ self.old.words.ghost_name }
+        ensures long { length self.new.words.now ≡ length self.old.words.now }
         ensures pushes { Pushes R.at R.WORDS PLACES self.old.words.now (R.view row) result self.new.words.now }
     {
         let n = self.as_ref().count();

@@ -1,4 +1,4 @@
-use Rattle.std.proofs.Common.{◌∙◌, arith}
+use Rattle.std.proofs.Common.{◌∙◌, ap, arith, length, length-set}
 use Rattle.req_batch.proofs.Laws as law
 use Rattle.req_batch.proofs.load.Goals as goal
 
@@ -7,6 +7,7 @@ loop-i-init c =
     record {
       few = omega (arith, law.how_many c.args.rows.now c.args.text.now);
       same = c.clear.ensures.same_reference;
+      long = ap length c.clear.ensures.first ∙ length-set _ 0 0;
       loaded = law.loaded_start _ _ _ c.clear.ensures.empty;
     }
 
@@ -20,6 +21,7 @@ loop-i-preserved c =
     record {
       few = omega arith;
       same = c.push.ensures.same_reference ∙ l.invariant.same;
+      long = c.push.ensures.long ∙ l.invariant.long;
       loaded = law.loaded_next _ _ _ _ _ l.i _ _ l.invariant.loaded (omega arith) c.request_at.ensures c.push.ensures.pushes;
     }
 
