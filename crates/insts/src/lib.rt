@@ -219,6 +219,7 @@ impl<'a> InstsMut<'a> {
         self.words[a..a + layout::BATCH_WORDS].copy_from_slice(&batch.words[..layout::BATCH_WORDS]);
     }
 
+    // Its twin is `clear_reads`: each clears a part by the crate whose rows stand there.
     pub fn clear_batch(&mut self, slot: Slot)
         ensures same_reference { self.new.words.ghost_name ≡ self.old.words.ghost_name }
         ensures puts { PutsBatch self.old.words.now (place_of slot.0) [] self.new.words.now }
