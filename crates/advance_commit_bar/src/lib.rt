@@ -55,10 +55,11 @@ fn mark(insts: &mut InstsMut<'_>, slot: Slot, items: &mut Items<'_>)
 {
     // The status alone: `change_open` loads and stores the cell whole, twice the instructions of the walk, and writes
     // its foreign words anew.
-    if insts.as_ref().is_open(slot) {
-        insts.set_status(slot, Status::Committed);
-        items.push(Item::Commit(slot));
+    if !insts.as_ref().is_open(slot) {
+        return;
     }
+    insts.set_status(slot, Status::Committed);
+    items.push(Item::Commit(slot));
 }
 
 // How many slots of the window are below the bar.
