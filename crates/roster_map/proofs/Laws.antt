@@ -168,6 +168,13 @@ found l v o m e f = f ∙ masks o ∙ ap (option_map (λ (r : Range). r.mask)) e
     masks None = refl
     masks (Some r) = refl
 
+-- row i of those that are left holds v, or the others are looked at
+pub hit : (s : List ℕ) (i n v : ℕ) → i < n → inside (range_at s (i * roster_row)) v ≡ true → at (rows_left s i n) v ≡ Some (range_at s (i * roster_row)).mask
+hit s i n v h e = rw (first_left s i n (range_at s (i * roster_row)) h refl, e) refl
+
+pub miss : (s : List ℕ) (i n v : ℕ) → i < n → inside (range_at s (i * roster_row)) v ≡ false → at (rows_left s i n) v ≡ at (rows_left s (i + 1) n) v
+miss s i n v h e = rw (first_left s i n (range_at s (i * roster_row)) h refl, e) refl
+
 -- ---- a push
 
 extends_snoc : (l : List Range) (x r : Range) → extends_last (l ++ (x ∷ [])) r ≡ goes_on x r

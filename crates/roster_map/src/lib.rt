@@ -68,12 +68,6 @@ pub fn goes_on(x: Row, r: Row) -> bool
 }
 
 impl Row {
-    fn holds(self, n: Inty) -> bool
-        ensures { result ≡ inside (range_of self) (value_of n) }
-    {
-        self.start <= n && n <= self.end
-    }
-
     // What of it lies below a.
     fn below(self, a: Inty) -> Option<Row>
         ensures { range_list result ≡ below (value_of a) (range_of self) }
@@ -123,11 +117,49 @@ impl<'a> RangeMap<'a> {
         Rows { map: self, next: 0 }
     }
 
-    // The mask stored at n.
+    #[tactic(auto, unfolding(crate::specs::Rows::range_at))]
+    fn start(&self, i: usize) -> Inty
+        requires { i * roster_row + roster_row ≤ length self.now.rows.now }
+        ensures { value_of result ≡ (range_at self.now.rows.now (i * roster_row)).from }
+    {
+        let p = i * layout::ROSTER_ROW;
+        Inty {
+            hi: self.rows[p],
+            lo: self.rows[p + 1],
+        }
+    }
+
+    #[tactic(auto, unfolding(crate::specs::Rows::range_at))]
+    fn end(&self, i: usize) -> Inty
+        requires { i * roster_row + roster_row ≤ length self.now.rows.now }
+        ensures { value_of result ≡ (range_at self.now.rows.now (i * roster_row)).to }
+    {
+        let p = i * layout::ROSTER_ROW;
+        Inty {
+            hi: self.rows[p + 2],
+            lo: self.rows[p + 3],
+        }
+    }
+
+    // Whether the i-th row holds n. Its end is read and compared first: of a row that lies below n, as most do that a
+    // search passes, nothing else is read.
+    fn holds(&self, i: usize, n: Inty) -> bool
+        requires { i * roster_row + roster_row ≤ length self.now.rows.now }
+        ensures { result ≡ inside (range_at self.now.rows.now (i * roster_row)) (value_of n) }
+    {
+        n <= self.end(i) && self.start(i) <= n
+    }
+
+    // The mask stored at n. No search over `iter`, which reads each row whole.
     pub fn at(&self, n: Inty) -> Option<u64>
         ensures { result ≡ at (ranges_of self.now.rows.now self.now.count) (value_of n) }
     {
-        self.iter().find(|row| row.holds(n)).map(|row| row.mask)
+        for i in 0..self.count {
+            if self.holds(i, n) {
+                return Some(self.rows[i * layout::ROSTER_ROW + 4]);
+            }
+        }
+        None
     }
 
     // The mask at n, the default where none is stored.
