@@ -88,8 +88,35 @@ pub fn count_commits(
         .count()
 }
 
-// The walk, with its items. The words come whole: a struct made of a part of a buffer would lose what became of the
-// part.
+// The walk, with its items from a place of the area on; gives the next place. Area and place come by value: behind a
+// reference they would be loaded and stored again for each slot. The words come whole: a struct made of a part of a
+// buffer would lose what became of the part.
+fn walk(
+    words: &mut [u64],
+    window: Window,
+    commit: Slot,
+    ballot: Ballot,
+    bar: Slot,
+    area: &mut [u64],
+    place: usize,
+) -> usize
+    requires { (slot_words ≤ length words.old) × (window.start.0 ≤ commit.0) × (commit.0 ≤ window.start.0 + window.held) × (place + length (walked window.start.0 window.held commit.0 ballot.0 bar.0 words.old).items ≤ places area.old) }
+    ensures { Advances place window.start.0 window.held commit.0 ballot.0 bar.0 words.old area.old result words.new area.new }
+{
+    let from = window.number(commit);
+    let mut insts = InstsMut { words };
+    let mut items = Items { area, count: place };
+    for k in from..reach(window, bar) {
+        let slot = window.slot(k);
+        if stops(insts.as_ref(), slot, ballot) {
+            return items.count;
+        }
+        mark(&mut insts, slot, &mut items);
+    }
+    items.count
+}
+
+// The walk, with its items after those that are put.
 pub fn advance(
     words: &mut [u64],
     window: Window,
@@ -102,13 +129,5 @@ pub fn advance(
     ensures same_area { items.new.area.ghost_name ≡ items.old.area.ghost_name }
     ensures advances { Advances items.old.count window.start.0 window.held commit.0 ballot.0 bar.0 words.old items.old.area.now items.new.count words.new items.new.area.now }
 {
-    let from = window.number(commit);
-    let mut insts = InstsMut { words };
-    for k in from..reach(window, bar) {
-        let slot = window.slot(k);
-        if stops(insts.as_ref(), slot, ballot) {
-            return;
-        }
-        mark(&mut insts, slot, items);
-    }
+    items.count = walk(words, window, commit, ballot, bar, items.area, items.count);
 }

@@ -71,21 +71,37 @@ fn answer_to(bound: bool, leader: Option<Replica>, batch: Batch<'_>, read: ReadR
     }
 }
 
-// What the reads get that a slot holds, in order.
+// What the reads get that a slot holds, in order, from a place of the area on; gives the next place. Area and place
+// come by value: behind a reference they would be loaded and stored again for each read.
+fn put_from(
+    insts: Insts<'_>,
+    slot: Slot,
+    group: ReplicaGroup,
+    area: &mut [u64],
+    place: usize,
+) -> usize
+    requires { place + length (holding_of (inst_in insts.words.now (place_of slot.0))) ≤ places area.old }
+    ensures { Answered place area.old (answers_of group.quorum (leader_of group.leader) (inst_in insts.entry.words.now (place_of slot.0))) result area.new }
+{
+    let cell = insts.load(slot);
+    if cell.replica_bk.is_none() {
+        return place;
+    }
+    let bound = is_bound(cell, group.quorum);
+    let batch = insts.batch(slot);
+    let mut items = Items { area, count: place };
+    for read in insts.reads(slot).iter() {
+        items.push(answer_to(bound, group.leader, batch, read));
+    }
+    items.count
+}
+
 fn put_answers(insts: Insts<'_>, slot: Slot, group: ReplicaGroup, items: &mut Items<'_>)
     requires { items.old.count + length (holding_of (inst_in insts.words.now (place_of slot.0))) ≤ places items.old.area.now }
     ensures same_reference { items.new.area.ghost_name ≡ items.old.area.ghost_name }
     ensures put { Answered items.old.count items.old.area.now (answers_of group.quorum (leader_of group.leader) (inst_in insts.entry.words.now (place_of slot.0))) items.new.count items.new.area.now }
 {
-    let cell = insts.load(slot);
-    if cell.replica_bk.is_none() {
-        return;
-    }
-    let bound = is_bound(cell, group.quorum);
-    let batch = insts.batch(slot);
-    for read in insts.reads(slot).iter() {
-        items.push(answer_to(bound, group.leader, batch, read));
-    }
+    items.count = put_from(insts, slot, group, items.area, items.count);
 }
 
 // How many reads a slot holds: none where it has no notice book.

@@ -1,6 +1,6 @@
 use Rattle.std.proofs.Common.{◌≡◌, ◌≤◌}
 use Rattle.advance_commit_bar.proofs.Laws as law
-use Rattle.advance_commit_bar.proofs.advance.Given as goal
+use Rattle.advance_commit_bar.proofs.walk.Given as goal
 
 abbrev pub invariant-loop-k : goal.invariant-loop-k
 invariant-loop-k l = record {

@@ -2,10 +2,10 @@ use Rattle.std.proofs.Common.{◌∙◌, refl}
 use Rattle.ids.specs.Leader.{leader_of}
 use Rattle.insts.specs.Slots.{place_of}
 use Rattle.release_held_reads.proofs.Laws as law
-use Rattle.release_held_reads.proofs.put_answers.Goals as goal
+use Rattle.release_held_reads.proofs.put_from.Goals as goal
 
-pub returns-then-is_none-clause-put : goal.returns-then-is_none-clause-put
-returns-then-is_none-clause-put c =
+pub returns-then-is_none : goal.returns-then-is_none
+returns-then-is_none c =
     let a = c.args in
     rw (law.no_answers a.insts.words.now (place_of a.slot.0) c.load-cell.result c.load-cell.ensures a.group.quorum (leader_of a.group.leader) c.if-is_none.ensures) law.none_put
 

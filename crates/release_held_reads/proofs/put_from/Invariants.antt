@@ -5,7 +5,7 @@ use Rattle.inst_holding.specs.Held.{reads_of}
 use Rattle.insts.specs.Slots.{place_of, inst_in}
 use Rattle.release_held_reads.specs.Release.{answer_to, answers_of}
 use Rattle.release_held_reads.proofs.Laws as law
-use Rattle.release_held_reads.proofs.put_answers.Given as goal
+use Rattle.release_held_reads.proofs.put_from.Given as goal
 
 abbrev pub invariant-loop-read : goal.invariant-loop-read
 invariant-loop-read l = record {
