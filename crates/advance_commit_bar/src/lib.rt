@@ -53,8 +53,8 @@ fn mark(insts: &mut InstsMut<'_>, slot: Slot, items: &mut Items<'_>)
     ensures same_area { items.new.area.ghost_name ≡ items.old.area.ghost_name }
     ensures marks { Marks (place_of slot.0) items.old.count slot.0 insts.old.words.now items.old.area.now items.new.count insts.new.words.now items.new.area.now }
 {
-    // The status alone: `change_open` loads and stores the cell whole, twice the instructions of the walk, and writes
-    // its foreign words anew.
+    // The status alone: `change_open` loads and stores the cell whole, which doubles the walk, and writes words of it
+    // anew that no call made.
     if !insts.as_ref().is_open(slot) {
         return;
     }
