@@ -25,7 +25,7 @@ use Rattle.bodega.specs.Replica as machine
 use Rattle.bodega.specs.Localread as local
 use Rattle.bodega.specs.Request as request
 use Rattle.bodega.specs.Request.{answered}
-use Rattle.bodega.specs.Grounds.{full}
+use Rattle.bodega.specs.Grounds.{full, overfills}
 use Rattle.inst_cell.specs.Cell.{status_of, cell_of}
 use Rattle.inst_cell.specs.declared.Cell.{Cell}
 use Rattle.highest_slot.specs.Written.{written_of, slot_in}
@@ -273,6 +273,14 @@ module _ (n : Node) (m : List ℕ) (leases : ℕ) (key : List ℕ) where
 -- ---- an answer that holds nothing
 
 module _ (r : machine.Replica) where
+  pub fills_none : (a : ReadAnswer) → ((x : Slot) → a ≡ HeldBy x → ⊥) → false ≡ overfills r (answer_in a)
+  fills_none (Found v) o = refl
+  fills_none Missing o = refl
+  fills_none FromStore o = refl
+  fills_none Consensus o = refl
+  fills_none (HeldBy slot) o = absurd (o slot refl)
+  fills_none Again o = refl
+
   pub holds_none : (q : machine.ReadReq) (a : ReadAnswer) → ((x : Slot) → a ≡ HeldBy x → ⊥) → (answered r q (answer_in a)).replica ≡ r
   holds_none q (Found v) o = refl
   holds_none q Missing o = refl
